@@ -1,0 +1,68 @@
+-- `checksum::checksum` meets its contract. The loop's invariant: the sum so far, with the bytes left, is the whole sum modulo 256.
+-- Assumes nothing.
+use Prim.Native.Nat.{_+_, _-_, _%_, _<_}
+use mathlib.Core.Path.{_≡_}
+use native.Mathlib.Omega.{arith}
+use borrow.Author.Needs.{needs}
+use denote.Ref.{now}
+use lib.ListN.{length, getD, drop, drop-of-length-le}
+use Rattle.checksum.specs.Checksum
+use Rattle.checksum.specs.Checksum.{negated-sum}
+use Rattle.checksum.proofs.Laws.{sum-drop}
+use Rattle.checksum.proofs.checksum.Statement.{statement}
+use Rattle.checksum.proofs.checksum.Tie as tie
+
+abbrev Inv-loop : tie.InvT-loop
+Inv-loop bytes sum₀ i₀ sum i =
+    (sum < 256) × ((sum + Checksum.sum (drop i bytes)) % 256 ≡ Checksum.sum bytes % 256)
+
+abbrev μ-loop : tie.MeasureT-loop
+μ-loop bytes sum₀ i₀ sum i = length bytes - i
+
+loop-holds : tie.Need-loop-holds Inv-loop μ-loop
+loop-holds c = (omega arith, omega arith)
+
+shared-slice-read-wrapping-add-u8 : tie.Need-shared-slice-read-wrapping-add-u8 Inv-loop μ-loop
+shared-slice-read-wrapping-add-u8 c = search needs
+
+wrapping-add-u8-requires : tie.Need-wrapping-add-u8-requires Inv-loop μ-loop
+wrapping-add-u8-requires c κs = search needs
+
+add-i : tie.Need-add-i Inv-loop μ-loop
+add-i c = search needs
+
+loop-less : tie.Need-loop-less Inv-loop μ-loop
+loop-less c = search needs
+
+loop-again : tie.Need-loop-again Inv-loop μ-loop
+loop-again c =
+    let l = now (c .before .before .before .before .before .args .bytes) in
+    let s = c .before .before .before .loop in
+    let e = sum-drop l (s .i) (c .before .before .loop-test .taken) in
+    (search needs, omega (arith, c .wrapping-add-u8 .ensures))
+
+wrapping-sub-u8-requires : tie.Need-wrapping-sub-u8-requires Inv-loop μ-loop
+wrapping-sub-u8-requires c κs = search needs
+
+returns : tie.Need-returns Inv-loop μ-loop
+unfolding negated-sum Checksum.sum
+returns c =
+    let l = now (c .before .before .before .before .args .bytes) in
+    let s = c .before .before .loop in
+    let rest : Checksum.sum (drop (s .i) l) ≡ 0 = rw (drop-of-length-le l (c .before .loop-test .left)) in
+    record { answer = omega (arith, c .wrapping-sub-u8 .ensures) }
+
+pub checksum-spec : {M : Type 1} → statement M
+checksum-spec =
+    tie.close
+    (tie.spec
+    Inv-loop
+    μ-loop
+    loop-holds
+    shared-slice-read-wrapping-add-u8
+    wrapping-add-u8-requires
+    add-i
+    loop-less
+    loop-again
+    wrapping-sub-u8-requires
+    returns)
