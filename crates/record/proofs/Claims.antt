@@ -1,0 +1,17 @@
+-- The claims of `specs/Claims.antt`, proved.
+-- Assumes nothing.
+use Prim.Native.Nat.{ℕ}
+use mathlib.Core.Path.{_≡_, sym, _∙_, subst}
+use mathlib.Core.List.{List}
+use Rattle.record.specs.Line.{says, wrong, judge}
+use Rattle.record.specs.Claims.{Admits, Refuses, Record-type-unique}
+use Rattle.record.proofs.Standing.{Stands, stands, admitted, refused}
+
+pub admits : Admits
+admits line kind address payload = (λ e. subst (Stands line) e (stands line), admitted)
+
+pub refuses : Refuses
+refuses line r = (λ e. subst (Stands line) e (stands line), refused)
+
+pub record-type-unique : Record-type-unique
+record-type-unique x r r′ a b = a .answer ∙ sym (b .answer)

@@ -1,0 +1,7 @@
+pub mod Tests
+pub mod Spelling
+pub mod Judging
+pub mod Standing
+pub mod Writing
+pub mod Pasting
+pub mod Claims

@@ -1,0 +1,208 @@
+-- What is written is in the format, means the record again, and holds nothing but a colon and capital digits.
+-- Assumes nothing.
+use Prim.Native.Nat.{ℕ, _+_, _*_, _/_, _%_, _<_, _≤_}
+use mathlib.Core.Path.{_≡_, refl, sym, _∙_, ap, ap₂, subst}
+use mathlib.Core.Bool.{Bool, true, false}
+use mathlib.Core.List.{List, [], _∷_, _++_}
+use native.Mathlib.Omega.{arith}
+use lib.Dec.{ltb, eqb}
+use lib.ListN.{length, take, drop, length-append}
+use borrow.Author.Tests.{ltb-true, ltb-false}
+use Rattle.checksum.specs.Checksum.{negated-sum}
+use Rattle.checksum.proofs.Laws.{negated-small}
+use Rattle.record.specs.Common.{if_then_else_, Every, Byte}
+use Rattle.record.specs.Digits.{number, big-endian}
+use Rattle.record.specs.Line.{says, judge}
+use Rattle.record.specs.Format.{Hex, decimal, capital, Spells, none, more, Size, type-00, type-01, type-02, type-03, type-04, type-05, Format, layout}
+use Rattle.record.specs.Meaning.{Meaning, data-at, end-of-file, extended-segment, start-segment, extended-linear, start-linear, meaning}
+use Rattle.record.specs.Written.{capital-digit, spelt, body, written, kind-of, address-of, payload-of, line-of, two-bytes, four-bytes, Writable, Sayable}
+use Rattle.record.specs.Claims.{Written-in-format, Reads-back, Said-is-sayable}
+use Rattle.record.proofs.Tests.{branch}
+use Rattle.record.proofs.Spelling.{spells-small}
+use Rattle.record.proofs.Judging.{size-fits, check-sums, kinds}
+use Rattle.record.proofs.Standing.{Stands, stands, admitted}
+
+-- ---- digits
+
+capital-hex : (x : ℕ) → x < 16 → Hex (capital-digit x) x
+unfolding capital-digit
+capital-hex x h =
+    branch (λ (c : ℕ). Hex c x) (ltb x 10) (48 + x) (55 + x)
+    (λ e. decimal refl (ltb-true x 10 e))
+    (λ e. capital (omega arith) (ltb-false x 10 e) h)
+
+spelt-spells : (bs : List ℕ) → Every Byte bs → Spells (spelt bs) bs
+unfolding spelt
+spelt-spells [] h = none
+spelt-spells (b ∷ bs) (h, hs) =
+    let e : b ≡ b / 16 * 16 + b % 16 = omega arith in
+    more (capital-hex (b / 16) (omega arith)) (capital-hex (b % 16) (omega arith)) e (spelt-spells bs hs)
+
+pub spelt-length : (bs : List ℕ) → length (spelt bs) ≡ 2 * length bs
+unfolding spelt
+spelt-length [] = refl
+spelt-length (b ∷ bs) = let e = spelt-length bs in omega arith
+
+pub spelt-append : (xs ys : List ℕ) → spelt (xs ++ ys) ≡ spelt xs ++ spelt ys
+unfolding spelt
+spelt-append [] ys = refl
+spelt-append (x ∷ xs) ys = ap (λ (l : List ℕ). capital-digit (x / 16) ∷ capital-digit (x % 16) ∷ l) (spelt-append xs ys)
+
+-- every character is a digit or a letter
+plain-digit : (x : ℕ) → 48 ≤ capital-digit x
+unfolding capital-digit
+plain-digit x = branch (λ (c : ℕ). 48 ≤ c) (ltb x 10) (48 + x) (55 + x) (λ e. omega arith) (λ e. omega arith)
+
+spelt-plain : (bs : List ℕ) → Every (λ c. 48 ≤ c) (spelt bs)
+unfolding spelt
+spelt-plain [] = tt
+spelt-plain (b ∷ bs) = (plain-digit (b / 16), (plain-digit (b % 16), spelt-plain bs))
+
+-- ---- lines
+
+module _ (kind address : ℕ) (payload : List ℕ) where
+  -- so a written line has neither LF nor CR in it
+  pub written-plain : Every (λ c. 48 ≤ c) (written kind address payload)
+  unfolding written
+  written-plain = (omega arith, spelt-plain (body kind address payload ++ (negated-sum (body kind address payload) ∷ [])))
+
+  pub written-length : length (written kind address payload) ≡ 11 + 2 * length payload
+  unfolding written
+  written-length =
+      let b : List ℕ = body kind address payload in
+      let e = spelt-length (b ++ (negated-sum b ∷ [])) in
+      let n = length-append b (negated-sum b ∷ []) in
+      omega arith
+
+every-snoc : (bs : List ℕ) (c : ℕ) → Every Byte bs → Byte c → Every Byte (bs ++ (c ∷ []))
+every-snoc [] c h k = (k, tt)
+every-snoc (b ∷ bs) c (h, hs) k = (h, every-snoc bs c hs k)
+
+pub written-in-format : Written-in-format
+unfolding written
+written-in-format kind address payload w =
+    let k = size-fits (w .sized) in
+    let b : List ℕ = body kind address payload in
+    record {
+      digits = spelt (b ++ (negated-sum b ∷ []));
+      high = address / 256;
+      low = address % 256;
+      check = negated-sum b;
+      starts = refl;
+      spells = spelt-spells (b ++ (negated-sum b ∷ [])) (every-snoc b (negated-sum b) (omega (arith, w .most), (omega (arith, w .address-small), (omega arith, (omega arith, w .payload-bytes)))) (negated-small b));
+      addressed = omega arith;
+      sums = check-sums (length payload) (address / 256) (address % 256) kind payload (negated-sum b) refl;
+      sized = w .sized;
+    }
+
+-- ---- records
+
+pub writable : (m : Meaning) → Sayable m → Writable (kind-of m) (address-of m) (payload-of m)
+writable (data-at offset bytes) h = record { sized = type-00 refl; most = h .1; address-small = h .0; payload-bytes = h .2 }
+writable end-of-file h = record { sized = type-01 refl refl; most = omega arith; address-small = omega arith; payload-bytes = tt }
+writable (extended-segment n) h = record { sized = type-02 refl refl; most = omega arith; address-small = omega arith; payload-bytes = (omega arith, (omega arith, tt)) }
+writable (start-segment cs ip) h = record { sized = type-03 refl refl; most = omega arith; address-small = omega arith; payload-bytes = (omega arith, (omega arith, (omega arith, (omega arith, tt)))) }
+writable (extended-linear n) h = record { sized = type-04 refl refl; most = omega arith; address-small = omega arith; payload-bytes = (omega arith, (omega arith, tt)) }
+writable (start-linear n) h = record { sized = type-05 refl refl; most = omega arith; address-small = omega arith; payload-bytes = (omega arith, (omega arith, (omega arith, (omega arith, tt)))) }
+
+two-again : (n : ℕ) → big-endian (two-bytes n) ≡ n
+unfolding number
+two-again n = omega arith
+
+four-again : (n : ℕ) → big-endian (four-bytes n) ≡ n
+unfolding number
+four-again n = omega arith
+
+means-again : (m : Meaning) → meaning (kind-of m) (address-of m) (payload-of m) ≡ m
+unfolding meaning
+means-again (data-at offset bytes) = refl
+means-again end-of-file = refl
+means-again (extended-segment n) = ap extended-segment (two-again n)
+means-again (start-segment cs ip) = ap₂ start-segment (two-again cs) (two-again ip)
+means-again (extended-linear n) = ap extended-linear (two-again n)
+means-again (start-linear n) = ap start-linear (four-again n)
+
+pub reads-back : Reads-back
+reads-back m h = record { said = admitted (written-in-format (kind-of m) (address-of m) (payload-of m) (writable m h)); means = means-again m }
+
+-- type, address and payload of what is said: the address of any type but 00 is gone
+again-two : (p : List ℕ) → length p ≡ 2 → Every Byte p → two-bytes (big-endian p) ≡ p
+unfolding number
+again-two [] n h = absurd (omega arith)
+again-two (a ∷ []) n h = absurd (omega arith)
+again-two (a ∷ b ∷ []) n (h, (k, u)) = ap₂ (λ (x y : ℕ). x ∷ y ∷ []) (omega arith) (omega arith)
+again-two (a ∷ b ∷ c ∷ p) n h = absurd (omega arith)
+
+again-four : (p : List ℕ) → length p ≡ 4 → Every Byte p
+    → (two-bytes (big-endian (take 2 p)) ++ two-bytes (big-endian (drop 2 p)) ≡ p) × (four-bytes (big-endian p) ≡ p)
+unfolding number
+again-four [] n h = absurd (omega arith)
+again-four (a ∷ []) n h = absurd (omega arith)
+again-four (a ∷ b ∷ []) n h = absurd (omega arith)
+again-four (a ∷ b ∷ c ∷ []) n h = absurd (omega arith)
+again-four (a ∷ b ∷ c ∷ d ∷ []) n (h, (i, (j, (k, u)))) =
+    let two : two-bytes (big-endian (a ∷ b ∷ [])) ++ two-bytes (big-endian (c ∷ d ∷ [])) ≡ a ∷ b ∷ c ∷ d ∷ [] =
+    ap₂ (λ (l m : List ℕ). l ++ m) (again-two (a ∷ b ∷ []) refl (h, (i, tt))) (again-two (c ∷ d ∷ []) refl (j, (k, tt))) in
+    let high : big-endian (a ∷ b ∷ c ∷ d ∷ []) / 65536 ≡ big-endian (a ∷ b ∷ []) = omega arith in
+    let low : big-endian (a ∷ b ∷ c ∷ d ∷ []) % 65536 ≡ big-endian (c ∷ d ∷ []) = omega arith in
+    (two, ap₂ (λ (x y : ℕ). two-bytes x ++ two-bytes y) high low ∙ two)
+again-four (a ∷ b ∷ c ∷ d ∷ e ∷ p) n h = absurd (omega arith)
+
+pub fields-again : {kind : ℕ} (address : ℕ) (payload : List ℕ) → Size kind (length payload) → Every Byte payload
+    → let m = meaning kind address payload in
+    (kind-of m ≡ kind) × (address-of m ≡ (if eqb kind 0 then address else 0)) × (payload-of m ≡ payload)
+unfolding meaning
+fields-again address payload (type-00 e) h = rw e (refl, refl, refl)
+fields-again address payload (type-01 e z) h = rw e (refl, refl, sym (none-left payload z))
+  where
+    none-left : (p : List ℕ) → length p ≡ 0 → p ≡ []
+    none-left [] n = refl
+    none-left (a ∷ p) n = absurd (omega arith)
+fields-again address payload (type-02 e z) h = rw e (refl, refl, again-two payload z h)
+fields-again address payload (type-03 e z) h = rw e (refl, refl, again-four payload z h .0)
+fields-again address payload (type-04 e z) h = rw e (refl, refl, again-two payload z h)
+fields-again address payload (type-05 e z) h = rw e (refl, refl, again-four payload z h .1)
+
+-- ---- what is said is sayable
+
+pub every-front : (bs cs : List ℕ) → Every Byte (bs ++ cs) → Every Byte bs
+every-front [] cs h = tt
+every-front (b ∷ bs) cs (h, hs) = (h, every-front bs cs hs)
+
+two-small : (p : List ℕ) → length p ≡ 2 → Every Byte p → big-endian p < 65536
+unfolding number
+two-small [] n h = absurd (omega arith)
+two-small (a ∷ []) n h = absurd (omega arith)
+two-small (a ∷ b ∷ []) n (h, (k, u)) = omega arith
+two-small (a ∷ b ∷ c ∷ p) n h = absurd (omega arith)
+
+-- four bytes, as two numbers of two and as one
+four-small : (p : List ℕ) → length p ≡ 4 → Every Byte p → (big-endian (take 2 p) < 65536) × (big-endian (drop 2 p) < 65536) × (big-endian p < 4294967296)
+unfolding number
+four-small [] n h = absurd (omega arith)
+four-small (a ∷ []) n h = absurd (omega arith)
+four-small (a ∷ b ∷ []) n h = absurd (omega arith)
+four-small (a ∷ b ∷ c ∷ []) n h = absurd (omega arith)
+four-small (a ∷ b ∷ c ∷ d ∷ []) n (h, (i, (j, (k, u)))) = (omega arith, omega arith, omega arith)
+four-small (a ∷ b ∷ c ∷ d ∷ e ∷ p) n h = absurd (omega arith)
+
+sayable : {kind : ℕ} (address : ℕ) (payload : List ℕ) → Size kind (length payload) → length payload ≤ 255 → address < 65536 → Every Byte payload
+    → Sayable (meaning kind address payload)
+unfolding meaning
+sayable address payload (type-00 e) l a h = rw e (a, l, h)
+sayable address payload (type-01 e z) l a h = rw e tt
+sayable address payload (type-02 e z) l a h = rw e (two-small payload z h)
+sayable address payload (type-03 e z) l a h = let f = four-small payload z h in rw e (f .0, f .1)
+sayable address payload (type-04 e z) l a h = rw e (two-small payload z h)
+sayable address payload (type-05 e z) l a h = rw e (four-small payload z h .2)
+
+formal-sayable : {line : List ℕ} {kind address : ℕ} {payload : List ℕ} → Format line kind address payload → Sayable (meaning kind address payload)
+formal-sayable {line} {kind} {address} {payload} f =
+    let s = spells-small (f .spells) in
+    let high : f .high < 256 = s .1 .0 in
+    let low : f .low < 256 = s .1 .1 .0 in
+    let len : length payload < 256 = s .0 in
+    sayable address payload (f .sized) (omega arith) (omega (arith, f .addressed)) (every-front payload (f .check ∷ []) (s .1 .1 .1 .1))
+
+pub said-is-sayable : Said-is-sayable
+said-is-sayable line kind address payload e = formal-sayable (subst (Stands line) e (stands line))

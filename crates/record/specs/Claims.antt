@@ -1,0 +1,47 @@
+-- What is claimed of the definitions, and proved in `proofs/Claims.antt` and `proofs/Writing.antt`.
+-- Assumes nothing.
+use Prim.Native.Nat.{ℕ}
+use mathlib.Core.Path.{_≡_}
+use mathlib.Core.Logic.{_↔_}
+use mathlib.Core.List.{List}
+use Rattle.record.specs.Refusals.{Refusal}
+use Rattle.record.specs.Line.{says, wrong, judge}
+use Rattle.record.specs.Format.{Format}
+use Rattle.record.specs.Faults.{Fault}
+use Rattle.record.specs.Meaning.{Meaning, meaning}
+use Rattle.record.specs.Written.{written, Writable, Sayable, kind-of, address-of, payload-of, line-of}
+use Rattle.record.specs.declared.Record.{Record}
+use Rattle.record.specs.Record.{RecordType}
+
+-- the judge accepts exactly what the format admits, with the same type, address and payload
+abbrev pub Admits : Type 0
+Admits =
+    (line : List ℕ) (kind address : ℕ) (payload : List ℕ)
+    → (judge line ≡ says kind address payload) ↔ Format line kind address payload
+
+-- and refuses every other line, with the refusal that is first in the order
+abbrev pub Refuses : Type 0
+Refuses = (line : List ℕ) (r : Refusal) → (judge line ≡ wrong r) ↔ Fault line r
+
+-- what is written is in the format, for exactly that type, address and payload
+abbrev pub Written-in-format : Type 0
+Written-in-format =
+    (kind address : ℕ) (payload : List ℕ) → Writable kind address payload
+    → Format (written kind address payload) kind address payload
+
+-- the line that is written for a record means that record again
+pub record Read-again (m : Meaning) : Type 0 where
+  pub said : judge (line-of m) ≡ says (kind-of m) (address-of m) (payload-of m)
+  pub means : meaning (kind-of m) (address-of m) (payload-of m) ≡ m
+
+abbrev pub Reads-back : Type 0
+Reads-back = (m : Meaning) → Sayable m → Read-again m
+
+-- whatever a line says, a line can hold
+abbrev pub Said-is-sayable : Type 0
+Said-is-sayable =
+    (line : List ℕ) (kind address : ℕ) (payload : List ℕ)
+    → judge line ≡ says kind address payload → Sayable (meaning kind address payload)
+
+abbrev pub Record-type-unique : Type 0
+Record-type-unique = (x : Record) (r r′ : ℕ) → RecordType x r → RecordType x r′ → r ≡ r′

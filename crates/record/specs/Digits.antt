@@ -1,0 +1,42 @@
+-- Hexadecimal digits, the bytes that pairs of them spell, and the numbers that bytes say.
+-- Assumes nothing.
+use Prim.Native.Nat.{ℕ, _+_, _-_, _*_}
+use mathlib.Core.Bool.{Bool, true, false, _&&_}
+use mathlib.Core.List.{List, [], _∷_}
+use lib.Dec.{leb, ltb}
+use Rattle.record.specs.Common.{if_then_else_}
+
+unfoldable pub within : (low high c : ℕ) → Bool
+within low high c = leb low c && leb c high
+
+-- the value of a digit, 0 to 9, A to F or a to f; 16 for any other byte
+unfoldable pub digit : ℕ → ℕ
+unfolding within
+digit c =
+    if within 48 57 c then c - 48 else
+    if within 65 70 c then c - 55 else
+    if within 97 102 c then c - 87 else
+    16
+
+abbrev pub is-digit : ℕ → Bool
+is-digit c = ltb (digit c) 16
+
+unfoldable pub all-digits : List ℕ → Bool
+unfolding digit
+all-digits [] = true
+all-digits (c ∷ cs) = is-digit c && all-digits cs
+
+-- two digits to a byte, high digit first
+unfoldable pub bytes : List ℕ → List ℕ
+unfolding digit
+bytes (a ∷ b ∷ cs) = (digit a * 16 + digit b) ∷ bytes cs
+bytes (a ∷ []) = []
+bytes [] = []
+
+-- a number of several bytes, high byte first, behind `high` of it that is read already
+unfoldable pub number : (high : ℕ) → List ℕ → ℕ
+number high [] = high
+number high (b ∷ bs) = number (high * 256 + b) bs
+
+abbrev pub big-endian : List ℕ → ℕ
+big-endian bs = number 0 bs

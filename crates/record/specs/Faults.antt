@@ -1,0 +1,40 @@
+-- What can be wrong with a line, as a relation: each refusal from 1 to 9 with the facts that make it the first that applies.
+-- Assumes nothing.
+use Prim.Native.Nat.{ℕ, _+_, _%_, _<_, _≤_}
+use mathlib.Core.Path.{_≡_}
+use mathlib.Core.Logic.{_≢_}
+use mathlib.Core.List.{List, [], _∷_, _++_}
+use lib.ListN.{length}
+use Rattle.checksum.specs.Checksum.{sum, negated-sum}
+use Rattle.record.specs.Common.{Every}
+use Rattle.record.specs.Refusals.{Refusal, missing-start-code, contains-invalid-characters, record-too-short, record-too-long, record-not-even-length, checksum-mismatch, payload-length-mismatch, unsupported-record-type, invalid-length-for-type}
+use Rattle.record.specs.Format.{Hex, Spells, Size, layout}
+
+-- the character is a hexadecimal digit
+abbrev pub Is-hex : ℕ → Type 0
+Is-hex c = (x : ℕ) × Hex c x
+
+-- the line is a colon and digits that spell these bytes, which sum to zero: what stands before refusals 7 to 9
+pub record Sums-up (line bytes : List ℕ) : Type 0 where
+  pub digits : List ℕ
+  pub starts : line ≡ 58 ∷ digits
+  pub spells : Spells digits bytes
+  pub most : length bytes ≤ 260
+  pub sums : sum bytes % 256 ≡ 0
+
+pub data Fault (line : List ℕ) : Refusal → Type 0 where
+  no-colon : ((ds : List ℕ) → line ≢ 58 ∷ ds) → Fault line missing-start-code
+  no-digit : (before after : List ℕ) (c : ℕ) → line ≡ 58 ∷ (before ++ (c ∷ after)) → ¬ Is-hex c → Fault line contains-invalid-characters
+  short : (ds : List ℕ) → line ≡ 58 ∷ ds → Every Is-hex ds → length ds < 10 → Fault line record-too-short
+  long : (ds : List ℕ) → line ≡ 58 ∷ ds → Every Is-hex ds → 520 < length ds → Fault line record-too-long
+  odd : (ds : List ℕ) → line ≡ 58 ∷ ds → Every Is-hex ds → 10 ≤ length ds → length ds ≤ 520 → length ds % 2 ≡ 1 → Fault line record-not-even-length
+  sum-differs : (ds body : List ℕ) (stated : ℕ)
+      → line ≡ 58 ∷ ds → Spells ds (body ++ (stated ∷ [])) → 4 ≤ length body → length body ≤ 259
+      → stated ≢ negated-sum body → Fault line (checksum-mismatch (negated-sum body) stated)
+  length-differs : (len high low kind check : ℕ) (payload : List ℕ)
+      → Sums-up line (layout len high low kind payload check) → len ≢ length payload → Fault line payload-length-mismatch
+  type-unknown : (high low kind check : ℕ) (payload : List ℕ)
+      → Sums-up line (layout (length payload) high low kind payload check) → 5 < kind → Fault line (unsupported-record-type kind)
+  size-differs : (high low kind check : ℕ) (payload : List ℕ)
+      → Sums-up line (layout (length payload) high low kind payload check) → kind ≤ 5 → ¬ Size kind (length payload)
+      → Fault line invalid-length-for-type

@@ -1,0 +1,10 @@
+pub mod Common
+pub mod Refusals
+pub mod Digits
+pub mod Line
+pub mod Format
+pub mod Faults
+pub mod Meaning
+pub mod Record
+pub mod Written
+pub mod Claims

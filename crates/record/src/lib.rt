@@ -1,0 +1,52 @@
+// The six records of Intel's hexadecimal format, and their types.
+ghost use Rattle.record.specs.Record.{RecordType};
+
+pub enum Record {
+    // A 16-bit offset, and a payload of `len` bytes that lies in a lent pool from `at` on.
+    Data { offset: u16, at: usize, len: usize },
+    // The end of the object.
+    EndOfFile,
+    // Bits 4 to 19 of the segment base address.
+    ExtendedSegmentAddress(u16),
+    // The registers CS and IP.
+    StartSegmentAddress { cs: u16, ip: u16 },
+    // Bits 16 to 31 of the linear base address.
+    ExtendedLinearAddress(u16),
+    // The register EIP.
+    StartLinearAddress(u32),
+}
+
+// The number that says a record's type in its line.
+pub mod types {
+    pub const DATA: u8 = 0x00;
+
+    pub const END_OF_FILE: u8 = 0x01;
+
+    pub const EXTENDED_SEGMENT_ADDRESS: u8 = 0x02;
+
+    pub const START_SEGMENT_ADDRESS: u8 = 0x03;
+
+    pub const EXTENDED_LINEAR_ADDRESS: u8 = 0x04;
+
+    pub const START_LINEAR_ADDRESS: u8 = 0x05;
+}
+
+impl Record {
+    // The record's type.
+    pub fn record_type(self) -> u8
+        ensures { λ r. ⌜ RecordType self r ⌝ }
+    {
+        match self {
+            Record::Data {
+                offset: _,
+                at: _,
+                len: _,
+            } => types::DATA,
+            Record::EndOfFile => types::END_OF_FILE,
+            Record::ExtendedSegmentAddress(_) => types::EXTENDED_SEGMENT_ADDRESS,
+            Record::StartSegmentAddress { cs: _, ip: _ } => types::START_SEGMENT_ADDRESS,
+            Record::ExtendedLinearAddress(_) => types::EXTENDED_LINEAR_ADDRESS,
+            Record::StartLinearAddress(_) => types::START_LINEAR_ADDRESS,
+        }
+    }
+}
