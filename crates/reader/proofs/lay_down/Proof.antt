@@ -1,0 +1,65 @@
+-- `reader::lay_down` meets its contract: no room, or the payload poured.
+-- Assumes nothing.
+use mathlib.Core.Path.{refl}
+use native.Mathlib.Omega.{arith}
+use denote.Ref.{now}
+use lib.ListN.{take, drop}
+use Rattle.reader.specs.Answer.{word}
+use Rattle.reader.proofs.Payload.{payload-length}
+use Rattle.reader.proofs.Answers.{full, placed}
+use borrow.Author.Needs.{needs}
+use Rattle.reader.proofs.lay_down.Statement.{statement}
+use Rattle.reader.proofs.lay_down.Tie as tie
+
+returns : tie.Need-returns
+returns c =
+    let s = c .before .before .before in
+    let n = payload-length (now (s .args .buf)) (s .args .n) (omega arith) in
+    full (word (now (s .args .buf)) 1) (take (s .args .n) (drop 4 (now (s .args .buf)))) (now (s .args .pool)) (s .args .at) (omega arith)
+
+sub-if2 : tie.Need-sub-if2
+sub-if2 c = search needs
+
+returns-2 : tie.Need-returns-2
+returns-2 c =
+    let s = c .before .before .before .before in
+    let n = payload-length (now (s .args .buf)) (s .args .n) (omega arith) in
+    full (word (now (s .args .buf)) 1) (take (s .args .n) (drop 4 (now (s .args .buf)))) (now (s .args .pool)) (s .args .at) (omega arith)
+
+pour-requires : tie.Need-pour-requires
+pour-requires c κs = search needs
+
+shared-slice-read-word16 : tie.Need-shared-slice-read-word16
+shared-slice-read-word16 c = search needs
+
+shared-slice-read-word16-2 : tie.Need-shared-slice-read-word16-2
+shared-slice-read-word16-2 c = search needs
+
+word16-requires : tie.Need-word16-requires
+word16-requires c κs = search needs
+
+same-length : tie.Need-same-length
+same-length c = search needs
+
+returns-3 : tie.Need-returns-3
+returns-3 c =
+    let s = c .before .before .before .before .before .before .before .before .before .before .before in
+    let p = c .before .before .before .before .before .pour in
+    let n = payload-length (now (s .args .buf)) (s .args .n) (omega arith) in
+    placed (word (now (s .args .buf)) 1) (take (s .args .n) (drop 4 (now (s .args .buf)))) (now (s .args .pool)) (s .args .at)
+    (c .word16 .result) (s .args .n) (p .last .1 .1 .0) (drop 4 (now (s .args .buf))) (omega arith)
+    (c .word16 .ensures) n refl (p .ensures)
+
+pub lay-down-spec : {M : Type 1} → statement M
+lay-down-spec =
+    tie.close
+    (tie.spec
+    returns
+    sub-if2
+    returns-2
+    pour-requires
+    shared-slice-read-word16
+    shared-slice-read-word16-2
+    word16-requires
+    same-length
+    returns-3)

@@ -1,0 +1,49 @@
+-- `reader::settle` meets its contract: a record, a refusal that is PoolFull, and any other refusal.
+-- Assumes nothing.
+use mathlib.Core.Path.{refl, sym, _∙_, ap}
+use borrow.Author.Tests.{eq-eqb, ne-eqb}
+use Rattle.reader.specs.Told.{told}
+use Rattle.reader.specs.Text.{is-full, ends-row}
+use Rattle.reader.proofs.Reading.{settle-read, settle-full, settle-refused}
+use borrow.Author.Needs.{needs}
+use Rattle.reader.proofs.settle.Statement.{statement}
+use Rattle.reader.proofs.settle.Tie as tie
+
+enum-known-answer : tie.Need-enum-known-answer
+enum-known-answer c = search needs
+
+ends-requires : tie.Need-ends-requires
+ends-requires c κs = search needs
+
+enum-known-answer-2 : tie.Need-enum-known-answer-2
+enum-known-answer-2 c = search needs
+
+number-requires : tie.Need-number-requires
+number-requires c κs = search needs
+
+returns : tie.Need-returns
+returns c =
+    let a = c .before .before .before .before .before .before .args in
+    settle-full (a .s) (a .answer) (a .position) (a .line) _ (c .before .before .before .answer2 .given .1) (sym (c .before .number .ensures .answer) ∙ c .if1 .taken)
+
+returns-2 : tie.Need-returns-2
+returns-2 c =
+    let a = c .before .before .before .before .before .args in
+    settle-read (a .s) (a .answer) (a .position) (a .line) _ (c .ends .result) (c .before .before .answer .given .1) (c .ends .ensures)
+
+returns-3 : tie.Need-returns-3
+returns-3 c =
+    let a = c .before .before .before .before .before .before .args in
+    settle-refused (a .s) (a .answer) (a .position) (a .line) _ (c .before .before .before .answer2 .given .1) (λ e. c .if1 .left (c .before .number .ensures .answer ∙ e))
+
+pub settle-spec : {M : Type 1} → statement M
+settle-spec =
+    tie.close
+    (tie.spec
+    enum-known-answer
+    ends-requires
+    enum-known-answer-2
+    number-requires
+    returns
+    returns-2
+    returns-3)

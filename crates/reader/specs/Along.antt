@@ -1,0 +1,49 @@
+-- How a call of the text reader moves along what the lines of a text say.
+-- Assumes nothing.
+use Prim.Native.Nat.{ℕ, suc, _+_, _^_, _<_}
+use mathlib.Core.Path.{_≡_}
+use mathlib.Core.Bool.{Bool, true, false}
+use mathlib.Core.List.{List, [], _∷_}
+use lib.ListN.{length, drop}
+use Rattle.record.specs.Common.{if_then_else_}
+use Rattle.record.specs.Line.{Said}
+use Rattle.reader.specs.declared.State.{State}
+use Rattle.reader.specs.Lines.{lines}
+use Rattle.reader.specs.Row.{Numbered, on, sayings}
+use Rattle.reader.specs.Told.{done}
+use Rattle.reader.specs.Answer.{answered, poured}
+use Rattle.reader.specs.Text.{is-full, ends-row, Outcome, outcome}
+
+-- what a state has still to read of a text
+unfoldable pub unread : State → List ℕ → List Numbered
+unread s text = if s .finished then [] else sayings (suc (s .line)) (lines (drop (s .position) text))
+
+-- the line numbers of what is left are machine numbers
+abbrev pub Countable : State → List ℕ → Type 0
+Countable s text = s .line + length (lines (drop (s .position) text)) < 2 ^ 64
+
+-- what a call comes to that has this first to answer
+pub record Heard (s : State) (text pool : List ℕ) (at n : ℕ) (said : Said) (more : List Numbered) (o : Outcome) : Type 0 where
+  pub tells : o .told ≡ answered said (length pool) at
+  pub poured-in : o .pool ≡ poured said pool at
+  pub full : is-full (answered said (length pool) at) ≡ true → o .state ≡ s
+  pub line : is-full (answered said (length pool) at) ≡ false → o .state .line ≡ n
+  pub options : o .state .options ≡ s .options
+  pub left : is-full (answered said (length pool) at) ≡ false → unread (o .state) text ≡ (if ends-row (s .options) (answered said (length pool) at) then [] else more)
+  pub countable : Countable (o .state) text
+
+-- and one that has nothing
+pub record Ended (s : State) (text pool : List ℕ) (o : Outcome) : Type 0 where
+  pub tells : o .told ≡ done
+  pub untouched : o .pool ≡ pool
+  pub line : o .state .line ≡ s .line
+  pub options : o .state .options ≡ s .options
+  pub left : unread (o .state) text ≡ []
+  pub countable : Countable (o .state) text
+
+-- a call with something left answers the first of it, and one with nothing left is told "done"
+abbrev pub Goes-along : Type 0
+Goes-along =
+    (s : State) (text pool : List ℕ) (at : ℕ) → Countable s text
+    → ((n : ℕ) (said : Said) (more : List Numbered) → unread s text ≡ on n said ∷ more → Heard s text pool at n said more (outcome s text pool at))
+    × (unread s text ≡ [] → Ended s text pool (outcome s text pool at))

@@ -1,0 +1,88 @@
+-- What the helpers of the record reader ask of and promise each other.
+-- Assumes nothing.
+use Prim.Native.Nat.{ℕ, _+_, _*_, _%_, _<_, _≤_}
+use mathlib.Core.Path.{_≡_}
+use mathlib.Core.Logic.{_≢_}
+use mathlib.Core.List.{List}
+use mathlib.Core.Bool.{true}
+use lib.Dec.{ltb}
+use lib.ListN.{length, getD, take, drop}
+use Rattle.checksum.specs.Checksum.{sum}
+use Rattle.record.specs.declared.Record.{Record}
+use Rattle.record.specs.Digits.{digit, all-digits, bytes}
+use Rattle.record.specs.Meaning.{meaning}
+use Rattle.reader.specs.declared.Answer.the-variants.{Read}
+use Rattle.reader.specs.declared.Spot.{Spot}
+use Rattle.reader.specs.declared.Spot.the-variants.{At, Nothing}
+use Rattle.reader.specs.Lines.{LF, first-line, next-line, a-line, no-line}
+use Rattle.reader.specs.declared.State.{State}
+use Rattle.reader.specs.declared.Step.{Step}
+use Rattle.reader.specs.Told.{Told, told}
+use Rattle.reader.specs.Text.{told-reply, is-full, ends-row, behind}
+use Rattle.record.specs.Common.{if_then_else_}
+use Rattle.reader.specs.Answer.{given}
+
+-- a lent table gives each byte its digit
+pub record IsTable (t : List ℕ) : Type 0 where
+  pub rule : (c : ℕ) → c < 256 → getD t c 0 ≡ digit c
+
+-- the table, and a buffer for the bytes of the longest line
+pub record Lent (t buf : List ℕ) : Type 0 where
+  pub table : IsTable t
+  pub room : 260 ≤ length buf
+
+pub record Decodable (t line : List ℕ) (n : ℕ) (buf : List ℕ) : Type 0 where
+  pub table : IsTable t
+  pub sized : length line ≡ 1 + 2 * n
+  pub most : n ≤ 260
+  pub room : 260 ≤ length buf
+
+-- digits that were decoded into a buffer's first n places: whether each is one; if so, the buffer has the bytes that they spell, and the sum is theirs
+pub record Decoded (ds : List ℕ) (n seen total : ℕ) (buf : List ℕ) : Type 0 where
+  pub digits : ltb seen 16 ≡ all-digits ds
+  pub spelt : all-digits ds ≡ true → take n buf ≡ bytes ds
+  pub sums : all-digits ds ≡ true → total ≡ sum (bytes ds) % 256
+
+-- m bytes of a buffer and their sum
+pub record Summed (buf : List ℕ) (m total : ℕ) : Type 0 where
+  pub least : 5 ≤ m
+  pub most : m ≤ 260
+  pub room : 260 ≤ length buf
+  pub sums : total ≡ sum (take m buf) % 256
+
+-- a record that is told as its type and payload are, wherever the pool
+pub record Special (kind : ℕ) (payload : List ℕ) (r : Record) : Type 0 where
+  pub tells : (address n at : ℕ) → told (Read r) ≡ given (meaning kind address payload) n at
+
+-- ---- lines
+
+-- no LF stands from one place up to another
+abbrev pub NoFeed : (text : List ℕ) (from to : ℕ) → Type 0
+NoFeed text from to = (k : ℕ) → from ≤ k → k < to → getD text k 0 ≢ LF
+
+-- the place of the first LF, or the text's length
+pub record FirstFeed (text : List ℕ) (r : ℕ) : Type 0 where
+  pub inside : r ≤ length text
+  pub before : (k : ℕ) → k < r → getD text k 0 ≢ LF
+  pub found : r < length text → getD text r 0 ≡ LF
+
+-- the first line's length
+pub record LineEnd (text : List ℕ) (r : ℕ) : Type 0 where
+  pub inside : r ≤ length text
+  pub line : take r text ≡ first-line text
+
+-- where the next line that has a byte lies
+pub record Ahead (text : List ℕ) (position from len next empties : ℕ) : Type 0 where
+  pub found : next-line 0 (drop position text) ≡ a-line empties (take len (drop from text)) (drop next text)
+  pub inside : from + len ≤ length text
+  pub beyond : next ≤ length text
+  pub small : empties < length text
+
+abbrev pub Spotted : (text : List ℕ) (position : ℕ) → Spot → Type 0
+Spotted text position (At from len next empties) = Ahead text position from len next empties
+Spotted text position Nothing = (empties : ℕ) × (next-line 0 (drop position text) ≡ no-line empties)
+
+-- a line that was answered, with the state before it: PoolFull leaves the state as it was
+pub record Settled (s : State) (t : Told) (position line : ℕ) (r : Step) : Type 0 where
+  pub answer : told-reply (r .reply) ≡ t
+  pub state : r .state ≡ (if is-full t then s else behind s position line (ends-row (s .options) t))

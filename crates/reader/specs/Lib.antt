@@ -1,0 +1,10 @@
+pub mod Told
+pub mod Answer
+pub mod Lines
+pub mod Row
+pub mod Text
+pub mod Calls
+pub mod Along
+pub mod Helpers
+pub mod Held
+pub mod Claims

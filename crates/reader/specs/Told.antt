@@ -1,0 +1,31 @@
+-- What an answer tells: a record's type and numbers, a refusal, or "done".
+-- Assumes nothing.
+use Prim.Native.Nat.{ℕ}
+use mathlib.Core.List.{List}
+use Rattle.record.specs.Record.{type-of, numbers-of}
+use Rattle.record.specs.Refusals.{Refusal, missing-start-code, contains-invalid-characters, record-too-short, record-too-long, record-not-even-length, checksum-mismatch, payload-length-mismatch, unsupported-record-type, invalid-length-for-type, pool-full}
+use Rattle.reader.specs.declared.ReaderError.{ReaderError}
+use Rattle.reader.specs.declared.ReaderError.the-variants.{MissingStartCode, RecordTooShort, RecordTooLong, RecordNotEvenLength, ContainsInvalidCharacters, ChecksumMismatch, PayloadLengthMismatch, UnsupportedRecordType, InvalidLengthForType, PoolFull}
+use Rattle.reader.specs.declared.Answer.{Answer}
+use Rattle.reader.specs.declared.Answer.the-variants.{Read, Refused}
+
+pub data Told : Type 0 where
+  gives : (kind : ℕ) (numbers : List ℕ) → Told
+  refuses : Refusal → Told
+  done : Told
+
+abbrev pub refusal-of : ReaderError → Refusal
+refusal-of MissingStartCode = missing-start-code
+refusal-of RecordTooShort = record-too-short
+refusal-of RecordTooLong = record-too-long
+refusal-of RecordNotEvenLength = record-not-even-length
+refusal-of ContainsInvalidCharacters = contains-invalid-characters
+refusal-of (ChecksumMismatch computed stated) = checksum-mismatch computed stated
+refusal-of PayloadLengthMismatch = payload-length-mismatch
+refusal-of (UnsupportedRecordType kind) = unsupported-record-type kind
+refusal-of InvalidLengthForType = invalid-length-for-type
+refusal-of PoolFull = pool-full
+
+abbrev pub told : Answer → Told
+told (Read r) = gives (type-of r) (numbers-of r)
+told (Refused e) = refuses (refusal-of e)
