@@ -1,0 +1,61 @@
+-- Each answer, from the text that is to be written: what the code's `return` has to show.
+-- Assumes nothing.
+use Prim.Native.Nat.{ℕ, _+_, _<_, _≤_}
+use mathlib.Core.Path.{_≡_, refl, _∙_, ap}
+use mathlib.Core.Option.{Option, none, some}
+use mathlib.Core.List.{List}
+use native.Mathlib.Omega.{arith}
+use lib.ListN.{length, take, drop}
+use borrow.Author.Tests.{le-leb, lt-leb}
+use Rattle.record.specs.Common.{pasted}
+use Rattle.record.specs.Refusals.{Refusal, output-full}
+use Rattle.record.proofs.Tests.{split}
+use Rattle.writer.specs.declared.WriterError.{WriterError}
+use Rattle.writer.specs.declared.WriterError.the-variants.{OutputFull}
+use Rattle.writer.specs.declared.Written.{Written}
+use Rattle.writer.specs.declared.Written.the-variants.{Wrote, Refused}
+use Rattle.writer.specs.Told.{wrote, refuses, refusal-of, told}
+use Rattle.writer.specs.Text.{chars, refused, unless, behind, Writes}
+use Rattle.writer.specs.Claims.{Refusal-changes-nothing, Rest-untouched}
+use Rattle.record.proofs.Pasting.{pasted-before, pasted-behind}
+
+-- a text that was measured: it is there, and as long as the answer
+pub there : (f : Option Refusal) (cs : List ℕ) (n : ℕ) → wrote n ≡ behind (unless f cs) 0 → (f ≡ none) × (n ≡ length cs)
+there none cs n e = let z : n ≡ 0 + length cs = cc in (refl, omega arith)
+there (some r) cs n e = let z : _≡_ {A = ℕ} 0 1 = cc in absurd (omega arith)
+
+-- or it is refused, and so is the text that stands for it at any place
+pub not-there : (f : Option Refusal) (cs ds out : List ℕ) (at : ℕ) (e : WriterError) → refuses (refusal-of e) ≡ behind (unless f cs) 0
+    → Writes (unless f ds) out at (Refused e) out
+not-there none cs ds out at e q = let z : _≡_ {A = ℕ} 0 1 = cc in absurd (omega arith)
+not-there (some r) cs ds out at e q = record { answer = q; left = refl }
+
+module _ (f : Option Refusal) (cs out : List ℕ) (at : ℕ) (t : f ≡ none) where
+  pub full : length out < at + length cs → Writes (unless f cs) out at (Refused OutputFull) out
+  full h = rw t (record { answer = rw (lt-leb (at + length cs) (length out) h); left = rw (lt-leb (at + length cs) (length out) h) })
+
+  pub written-there : (n : ℕ) (out′ : List ℕ) → at + length cs ≤ length out → n ≡ at + length cs → out′ ≡ pasted out at cs → Writes (unless f cs) out at (Wrote n) out′
+  written-there n out′ h e p =
+      rw t (record { answer = rw (le-leb (at + length cs) (length out) h) (ap wrote e); left = rw (le-leb (at + length cs) (length out) h) p })
+
+-- ---- the output
+
+-- a text that may fit: if it does, it is pasted, and if not, all is as it was
+module _ (cs out : List ℕ) (at : ℕ) (r : Written) (out′ : List ℕ) (w : Writes (chars cs) out at r out′) where
+  either : {X : Type 0} → (at + length cs ≤ length out → told r ≡ wrote (at + length cs) → out′ ≡ pasted out at cs → X) → (told r ≡ refuses output-full → out′ ≡ out → X) → X
+  either f g =
+      split (at + length cs) (length out)
+      (λ h. let e = le-leb (at + length cs) (length out) h in f h (rw e at (w .answer)) (rw e at (w .left)))
+      (λ h. let e = lt-leb (at + length cs) (length out) h in g (rw e at (w .answer)) (rw e at (w .left)))
+
+pub refusal-changes-nothing : Refusal-changes-nothing
+refusal-changes-nothing (chars cs) out at e out′ w =
+    either cs out at (Refused e) out′ w (λ h a l. let z : _≡_ {A = ℕ} 0 1 = cc in absurd (omega arith)) (λ a l. l)
+refusal-changes-nothing (refused r) out at e out′ w = w .left
+
+pub rest-untouched : Rest-untouched
+rest-untouched (chars cs) out at n out′ w =
+    either cs out at (Wrote n) out′ w
+    (λ h a l. let e : n ≡ at + length cs = cc in (ap (take at) l ∙ pasted-before out at cs h, ap (drop n) l ∙ rw e (pasted-behind out at cs h)))
+    (λ a l. let z : _≡_ {A = ℕ} 0 1 = cc in absurd (omega arith))
+rest-untouched (refused r) out at n out′ w = let a = w .answer in let z : _≡_ {A = ℕ} 0 1 = cc in absurd (omega arith)

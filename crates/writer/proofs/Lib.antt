@@ -1,0 +1,11 @@
+pub mod Lines
+pub mod Answers
+pub mod Measuring
+pub mod Records
+pub mod Unique
+pub mod Objects
+pub mod Surveying
+pub mod Stepping
+pub mod Claims
+pub mod Taking
+pub mod Again

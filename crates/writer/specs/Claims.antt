@@ -1,0 +1,172 @@
+-- What is claimed of the writer beyond its contracts. Each is proved in `proofs/`: the same name, in small letters.
+-- Assumes nothing.
+use Prim.Native.Nat.{ℕ, _+_, _*_, _<_, _≤_}
+use mathlib.Core.Path.{_≡_}
+use mathlib.Core.Bool.{true}
+use mathlib.Core.Option.{none}
+use mathlib.Core.List.{List, [], _∷_, _++_, map}
+use lib.Dec.{eqb}
+use lib.ListN.{length, take, drop}
+use Rattle.record.specs.Common.{if_then_else_, Every, Byte, text}
+use Rattle.record.specs.Refusals.{missing-end-of-file-record, multiple-end-of-file-records}
+use Rattle.record.specs.declared.Record.{Record}
+use Rattle.record.specs.declared.Record.the-variants.{Data, EndOfFile, ExtendedSegmentAddress, StartSegmentAddress, ExtendedLinearAddress, StartLinearAddress}
+use Rattle.record.specs.Record.{meant}
+use Rattle.record.specs.Meaning.{meaning}
+use Rattle.record.specs.Line.{says, judge}
+use Rattle.record.specs.Format.{Format}
+use Rattle.record.specs.Written.{written, kind-of, address-of, payload-of}
+use Rattle.writer.specs.declared.WriterError.{WriterError}
+use Rattle.writer.specs.declared.Written.{Written}
+use Rattle.writer.specs.declared.Written.the-variants.{Wrote, Refused}
+use Rattle.writer.specs.declared.Survey.{Survey}
+use Rattle.writer.specs.Told.{told}
+use Rattle.writer.specs.Text.{Text, chars, refused, behind, within, Writes}
+use Rattle.writer.specs.Line.{fault, line, line-text, ToRecordString, WriteStep, WriteNext}
+use Rattle.writer.specs.Object.{ends, ends-in-end, lines, object, WriteObject}
+use Rattle.writer.specs.Survey.{New, Add, Answer, Begin, most}
+
+-- ---- one record
+
+-- the numbers of a record are those of its types
+abbrev pub In-range : Record → Type 0
+In-range (Data offset at len) = offset < 65536
+In-range EndOfFile = Unit
+In-range (ExtendedSegmentAddress a) = a < 65536
+In-range (StartSegmentAddress cs ip) = (cs < 65536) × (ip < 65536)
+In-range (ExtendedLinearAddress a) = a < 65536
+In-range (StartLinearAddress a) = a < 4294967296
+
+-- the payload lies in a pool of n bytes
+abbrev pub Inside : Record → (n : ℕ) → Type 0
+Inside (Data offset at len) n = at + len ≤ n
+Inside EndOfFile n = Unit
+Inside (ExtendedSegmentAddress a) n = Unit
+Inside (StartSegmentAddress cs ip) n = Unit
+Inside (ExtendedLinearAddress a) n = Unit
+Inside (StartLinearAddress a) n = Unit
+
+-- a line is eleven characters, and two for each payload byte
+abbrev pub Line-length : Type 0
+Line-length = (r : Record) (pool : List ℕ) → length (line r pool) ≡ 11 + 2 * length (payload-of (meant r pool))
+
+-- a written line is in the format, for exactly that record
+abbrev pub Line-in-format : Type 0
+Line-in-format =
+    (r : Record) (pool cs : List ℕ) → In-range r → Every Byte pool → line-text r pool ≡ chars cs
+    → Format cs (kind-of (meant r pool)) (address-of (meant r pool)) (payload-of (meant r pool))
+
+-- a line that says a record, written again: the same type, address and payload, in capitals, with 0000 for all but data
+abbrev pub Canonical : Type 0
+Canonical =
+    (l : List ℕ) (kind address : ℕ) (payload : List ℕ) (r : Record) (pool : List ℕ)
+    → judge l ≡ says kind address payload → meant r pool ≡ meaning kind address payload → Inside r (length pool)
+    → line-text r pool ≡ chars (written kind (if eqb kind 0 then address else 0) payload)
+
+-- two records with the same line are the same, payloads and all
+abbrev pub Line-injective : Type 0
+Line-injective =
+    (r r′ : Record) (pool pool′ cs : List ℕ) → In-range r → In-range r′ → Every Byte pool → Every Byte pool′
+    → line-text r pool ≡ chars cs → line-text r′ pool′ ≡ chars cs → meant r pool ≡ meant r′ pool′
+
+-- a line has no byte below 48, so neither LF nor CR
+abbrev pub Line-plain : Type 0
+Line-plain = (r : Record) (pool : List ℕ) → Every (λ c. 48 ≤ c) (line r pool)
+
+-- ---- the output
+
+-- a refusal changes nothing
+abbrev pub Refusal-changes-nothing : Type 0
+Refusal-changes-nothing = (t : Text) (out : List ℕ) (at : ℕ) (e : WriterError) (out′ : List ℕ) → Writes t out at (Refused e) out′ → out′ ≡ out
+
+-- what lies before the place, and from the returned one on, is as it was
+abbrev pub Rest-untouched : Type 0
+Rest-untouched =
+    (t : Text) (out : List ℕ) (at n : ℕ) (out′ : List ℕ) → Writes t out at (Wrote n) out′
+    → (take at out′ ≡ take at out) × (drop n out′ ≡ drop n out)
+
+-- ---- an object
+
+-- an object that has a text: each record has its line, the text is the lines, each with its LF, and the one end is the last
+pub record Whole (rs : List Record) (pool cs : List ℕ) : Type 0 where
+  pub fine : Every (λ r. fault r (length pool) ≡ none) rs
+  pub lined : cs ≡ lines rs pool
+  pub ended : ends-in-end rs ≡ true
+  pub one : ends rs ≡ 1
+
+abbrev pub Object-whole : Type 0
+Object-whole = (rs : List Record) (pool cs : List ℕ) → object rs pool ≡ chars cs → Whole rs pool cs
+
+-- two lists with the same text are the same, payloads and all
+abbrev pub Object-injective : Type 0
+Object-injective =
+    (rs rs′ : List Record) (pool pool′ cs : List ℕ) → Every In-range rs → Every In-range rs′ → Every Byte pool → Every Byte pool′
+    → object rs pool ≡ chars cs → object rs′ pool′ ≡ chars cs → map (λ r. meant r pool) rs ≡ map (λ r. meant r pool′) rs′
+
+-- the survey that calls of `add` make of a list of records, in order
+pub data Surveys (pool : List ℕ) : List Record → Survey → Type 0 where
+  at-first : {s : Survey} → New s → Surveys pool [] s
+  then-add : {rs whole : List Record} {r : Record} {s t : Survey} → Surveys pool rs s → Add s r pool t → whole ≡ rs ++ (r ∷ []) → Surveys pool whole t
+
+-- it answers what the definition of an object says
+abbrev pub Survey-answers : Type 0
+Survey-answers =
+    (rs : List Record) (pool : List ℕ) (s : Survey) (room : ℕ) (a : Written) → length rs ≤ most → room < most
+    → Surveys pool rs s → Answer s room a → told a ≡ within (behind (object rs pool) 0) room
+
+-- what calls of `write_next` leave of an output, and their last answer
+pub data Steps (pool out : List ℕ) (start : Written) : List Record → Written → (out′ : List ℕ) → Type 0 where
+  no-step : Steps pool out start [] start out
+  then-step : {rs whole : List Record} (r : Record) {w w′ : Written} {out₁ : List ℕ} (out₂ : List ℕ)
+      → Steps pool out start rs w out₁ → WriteNext w r pool out₁ w′ out₂ → whole ≡ rs ++ (r ∷ []) → Steps pool out start whole w′ out₂
+
+-- survey, then steps: the object's text and its length, or the refusal and the output as it was
+abbrev pub Object-written : Type 0
+Object-written =
+    (rs : List Record) (pool out : List ℕ) (s : Survey) (start w : Written) (out′ : List ℕ) → length rs ≤ most → length out < most
+    → Surveys pool rs s → Begin s (length out) start → Steps pool out start rs w out′ → WriteObject rs pool out w out′
+
+-- ---- examples
+
+pub record Examples : Type 0 where
+  pub end-line : (pool : List ℕ) → line-text EndOfFile pool ≡ chars (text ":00000001FF")
+  pub segment-line : (pool : List ℕ) → line-text (ExtendedSegmentAddress 0x1200) pool ≡ chars (text ":020000021200EA")
+  pub start-line : (pool : List ℕ) → line-text (StartLinearAddress 0xCD) pool ≡ chars (text ":04000005000000CD2A")
+  -- list end, end, one empty data record: 13, not 14
+  pub thirteen-first : (pool : List ℕ) → object (EndOfFile ∷ EndOfFile ∷ Data 0 0 0 ∷ []) pool ≡ refused missing-end-of-file-record
+  -- the true count
+  pub three-ends : (pool : List ℕ) → object (EndOfFile ∷ EndOfFile ∷ EndOfFile ∷ []) pool ≡ refused (multiple-end-of-file-records 3)
+
+-- ---- no second answer meets a contract
+
+abbrev pub To-record-string-unique : Type 0
+To-record-string-unique =
+    (x : Record) (pool out : List ℕ) (r r′ : Written) (o o′ : List ℕ)
+    → ToRecordString x pool out r o → ToRecordString x pool out r′ o′ → (r ≡ r′) × (o ≡ o′)
+
+abbrev pub Write-step-unique : Type 0
+Write-step-unique =
+    (x : Record) (pool out : List ℕ) (at : ℕ) (r r′ : Written) (o o′ : List ℕ)
+    → WriteStep x pool out at r o → WriteStep x pool out at r′ o′ → (r ≡ r′) × (o ≡ o′)
+
+abbrev pub Write-next-unique : Type 0
+Write-next-unique =
+    (done : Written) (x : Record) (pool out : List ℕ) (r r′ : Written) (o o′ : List ℕ)
+    → WriteNext done x pool out r o → WriteNext done x pool out r′ o′ → (r ≡ r′) × (o ≡ o′)
+
+abbrev pub New-unique : Type 0
+New-unique = (r r′ : Survey) → New r → New r′ → r ≡ r′
+
+abbrev pub Add-unique : Type 0
+Add-unique = (s : Survey) (x : Record) (pool : List ℕ) (r r′ : Survey) → Add s x pool r → Add s x pool r′ → r ≡ r′
+
+abbrev pub Answer-unique : Type 0
+Answer-unique = (s : Survey) (room : ℕ) (r r′ : Written) → Answer s room r → Answer s room r′ → r ≡ r′
+
+abbrev pub Begin-unique : Type 0
+Begin-unique = (s : Survey) (room : ℕ) (r r′ : Written) → Begin s room r → Begin s room r′ → r ≡ r′
+
+abbrev pub Create-object-file-representation-unique : Type 0
+Create-object-file-representation-unique =
+    (rs : List Record) (pool out : List ℕ) (r r′ : Written) (o o′ : List ℕ)
+    → WriteObject rs pool out r o → WriteObject rs pool out r′ o′ → (r ≡ r′) × (o ≡ o′)

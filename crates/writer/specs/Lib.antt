@@ -1,0 +1,7 @@
+pub mod Told
+pub mod Text
+pub mod Line
+pub mod Object
+pub mod Survey
+pub mod Helpers
+pub mod Claims

@@ -1,0 +1,41 @@
+-- A text that is to be written at a place of the output: the answer, and the output behind it.
+-- Assumes nothing.
+use Prim.Native.Nat.{ℕ, _+_}
+use mathlib.Core.Path.{_≡_}
+use mathlib.Core.Option.{Option, none, some}
+use mathlib.Core.List.{List}
+use lib.Dec.{leb}
+use lib.ListN.{length}
+use Rattle.record.specs.Common.{if_then_else_, pasted}
+use Rattle.record.specs.Refusals.{Refusal, output-full}
+use Rattle.writer.specs.declared.Written.{Written}
+use Rattle.writer.specs.Told.{Told, wrote, refuses, told}
+
+-- a text, or the refusal that stands in its place
+pub data Text : Type 0 where
+  chars : List ℕ → Text
+  refused : Refusal → Text
+
+abbrev pub unless : Option Refusal → List ℕ → Text
+unless none cs = chars cs
+unless (some r) cs = refused r
+
+-- the place behind the text, if it starts at a place
+abbrev pub behind : Text → (at : ℕ) → Told
+behind (chars cs) at = wrote (at + length cs)
+behind (refused r) at = refuses r
+
+-- the same, where an output has this much room
+abbrev pub within : Told → (room : ℕ) → Told
+within (wrote place) room = if leb place room then wrote place else refuses output-full
+within (refuses r) room = refuses r
+
+-- the output with the text at the place, if it has the room
+abbrev pub placed : Text → (out : List ℕ) (at : ℕ) → List ℕ
+placed (chars cs) out at = if leb (at + length cs) (length out) then pasted out at cs else out
+placed (refused r) out at = out
+
+-- what a writer of a text answers, and leaves in the output
+pub record Writes (text : Text) (out : List ℕ) (at : ℕ) (r : Written) (out′ : List ℕ) : Type 0 where
+  pub answer : told r ≡ within (behind text at) (length out)
+  pub left : out′ ≡ placed text out at
