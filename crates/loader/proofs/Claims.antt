@@ -1,0 +1,141 @@
+-- The claims of `specs/Claims.antt` beyond demand 3, proved: the walk of `Reasons` gives each answer its reason, and a reason its number.
+-- Assumes nothing.
+use mathlib.Core.Path.{_≡_, refl, sym, ap, _∙_, subst}
+use Prim.Native.Nat.{ℕ, _+_, _^_}
+use native.Mathlib.Omega.{arith}
+use mathlib.Core.Bool.{Bool, true, false, true≢false}
+use mathlib.Core.Option.{Option, none, some}
+use mathlib.Core.List.{List, []}
+use lib.Dec.{eqb}
+use lib.ListN.{length, getD}
+use borrow.Author.Tests.{eq-eqb, le-ltb}
+use Rattle.record.specs.Common.{if_then_else_}
+use Rattle.record.specs.Refusals.{Refusal, refusal, bad-window}
+use Rattle.record.specs.Digits.{number}
+use Rattle.record.specs.Line.{judge}
+use Rattle.record.specs.Meaning.{meaning}
+use Rattle.record.specs.Faults.{Fault, no-colon, no-digit, short, long, odd, sum-differs, length-differs, type-unknown, size-differs}
+use Rattle.record.proofs.Standing.{Stands, stands}
+use Rattle.reader.specs.Lines.{lines}
+use Rattle.reader.specs.Row.{row}
+use Rattle.reader.specs.declared.Answer.{Answer}
+use Rattle.reader.specs.declared.Answer.the-variants.{Read, Refused as AnswerRefused}
+use Rattle.reader.specs.declared.ReaderError.{ReaderError}
+use Rattle.reader.specs.declared.ReaderError.the-variants.{MissingStartCode, RecordTooShort, RecordTooLong, RecordNotEvenLength, ContainsInvalidCharacters, ChecksumMismatch, PayloadLengthMismatch, UnsupportedRecordType, InvalidLengthForType, PoolFull}
+use Rattle.reader.specs.Told.{refuses, refusal-of}
+use Rattle.reader.proofs.Claims.{untold, untold-told}
+use Rattle.loader.specs.declared.LoaderError.{LoaderError}
+use Rattle.loader.specs.declared.LoaderError.the-variants.{Line, MissingEndOfFileRecord, BadWindow, OutsideWindow}
+use Rattle.loader.specs.declared.Loading.{Loading}
+use Rattle.loader.specs.declared.Loading.the-variants.{Accepted, Refused}
+use Rattle.loader.specs.Load.{no-records, Verdict, accepted, refused, Decision, by, within, decision, verdict, unfit, placements, steps-of, outcome, load}
+use Rattle.loader.specs.Told.{refusal-by, told}
+use Rattle.loader.specs.Claims.{Window, in-force, data-records, Stops, the-end, no-record, first-outside, Why, bad-one, no-end, at-line, Reasons, Among, Total, Told-apart, Load-unique, Examples}
+use Rattle.loader.proofs.Demand3.{good-window, load-answer}
+use Rattle.loader.proofs.Reasons.{Walked, walked}
+
+pub examples : Examples
+unfolding load judge meaning number
+examples = record { sixth-place = refl; below-it = refl; no-wrap = refl }
+
+-- ---- reasons
+
+no-window : (first : ℕ) (page marks : List ℕ) → unfit first (length page) (length marks) ≡ true → ¬ Window first page marks
+unfolding unfit
+no-window first page marks e w =
+    true≢false (sym e ∙ rw (eq-eqb (length page) (length marks) (w .even), le-ltb 65536 (length page) (w .small), le-ltb (2 ^ 32) (first + length page) (w .below)))
+
+pub reasons : Reasons
+unfolding outcome placements row in-force data-records verdict
+reasons text first page marks =
+    rw (load-answer text first page marks) (go (unfit first (length page) (length marks)) refl)
+  where
+    inside : ℕ → Bool
+    inside = within first (length page)
+
+    by-its-line : Window first page marks → (d : Option Decision) → Walked inside [] (steps-of text) 1 (lines text) d → Why text first page marks (verdict d)
+    by-its-line w none all = no-end w all
+    by-its-line w (some (by m v)) f =
+        at-line m v w (record { ahead = f .mid; line = f .line; later = f .later; whole = f .whole; number = omega (arith, f .number); pass = f .pass; stops = f .stops; stated = f .states })
+
+    go : (b : Bool) → unfit first (length page) (length marks) ≡ b
+        → Why text first page marks (verdict (if b then some (by 0 (refused bad-window 0)) else decision inside no-records (steps-of text)))
+    go true e = bad-one (no-window first page marks e)
+    go false e = by-its-line (good-window first page marks e) (decision inside no-records (steps-of text)) (walked inside (lines text) 1 [] no-records refl)
+
+-- ---- totality
+
+refused-line : {line : List ℕ} {r : Refusal} (n : ℕ) → Fault line r → Among (refused r n)
+refused-line n (no-colon a) = refl
+refused-line n (no-digit a b c d e) = refl
+refused-line n (short a b c d) = refl
+refused-line n (long a b c d) = refl
+refused-line n (odd a b c d e f) = refl
+refused-line n (sum-differs a b c d e f g h) = refl
+refused-line n (length-differs a b c d e f g h) = refl
+refused-line n (type-unknown a b c d e f g) = refl
+refused-line n (size-differs a b c d e f g h) = refl
+
+stops-among : {inside : ℕ → Bool} {ahead : List (List ℕ)} {line : List ℕ} {n : ℕ} {v : Verdict} → Stops inside ahead line n v → Among v
+stops-among (the-end tally e c) = tt
+stops-among {line} {n} (no-record r b e) = refused-line n (subst (Stands line) e (stands line))
+stops-among (first-outside before after p e i o) = refl
+
+why-among : {text : List ℕ} {first : ℕ} {page marks : List ℕ} {v : Verdict} → Why text first page marks v → Among v
+why-among (bad-one w) = refl
+why-among (no-end w all) = refl
+why-among (at-line n v w d) = stops-among (d .stops)
+
+pub total : Total
+total text first page marks = why-among (reasons text first page marks)
+
+-- ---- the contract
+
+reader-error : Answer → ReaderError
+reader-error (AnswerRefused e) = e
+reader-error (Read r) = PoolFull
+
+-- a refusal's error: the loader's own by their numbers, a line's as the reader finds it again
+error : Refusal → LoaderError
+unfolding reader-error
+error (refusal n vs) =
+    if eqb n 13 then MissingEndOfFileRecord else
+    if eqb n 16 then BadWindow else
+    if eqb n 17 then OutsideWindow (getD vs 0 0) else
+    Line (reader-error (untold (refuses (refusal n vs))))
+
+of-line : (e : ReaderError) → Line (reader-error (untold (refuses (refusal-of e)))) ≡ Line e
+unfolding reader-error
+of-line e = ap (λ (a : Answer). Line (reader-error a)) (untold-told (AnswerRefused e))
+
+again : (e : LoaderError) → error (refusal-by e) ≡ e
+unfolding error
+again (Line MissingStartCode) = of-line MissingStartCode
+again (Line RecordTooShort) = of-line RecordTooShort
+again (Line RecordTooLong) = of-line RecordTooLong
+again (Line RecordNotEvenLength) = of-line RecordNotEvenLength
+again (Line ContainsInvalidCharacters) = of-line ContainsInvalidCharacters
+again (Line (ChecksumMismatch a b)) = of-line (ChecksumMismatch a b)
+again (Line PayloadLengthMismatch) = of-line PayloadLengthMismatch
+again (Line (UnsupportedRecordType a)) = of-line (UnsupportedRecordType a)
+again (Line InvalidLengthForType) = of-line InvalidLengthForType
+again (Line PoolFull) = of-line PoolFull
+again MissingEndOfFileRecord = refl
+again BadWindow = refl
+again (OutsideWindow a) = refl
+
+untold-load : Verdict → Loading
+untold-load (accepted t) = Accepted (t .records)
+untold-load (refused r n) = Refused (error r) n
+
+told-again : (l : Loading) → untold-load (told l) ≡ l
+unfolding untold-load
+told-again (Accepted n) = refl
+told-again (Refused e n) = ap (λ (x : LoaderError). Refused x n) (again e)
+
+pub told-apart : Told-apart
+told-apart a b e = sym (told-again a) ∙ ap untold-load e ∙ told-again b
+
+pub load-unique : Load-unique
+load-unique text first page marks r r′ p p′ m m′ x y =
+    (told-apart r r′ (x .answer ∙ sym (y .answer)), x .page ∙ sym (y .page), x .marks ∙ sym (y .marks))

@@ -1,0 +1,10 @@
+pub mod Pages
+pub mod Rows
+pub mod Demand3
+pub mod Reasons
+pub mod Claims
+pub mod Stores
+pub mod Calls
+pub mod Meeting
+pub mod Passes
+pub mod Loads

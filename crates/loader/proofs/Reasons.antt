@@ -1,0 +1,185 @@
+-- Why a load answers as it does: the lines are walked once, and each either passes or is the one that the decision names.
+-- Assumes nothing.
+use mathlib.Core.Path.{_≡_, refl, sym, ap, _∙_}
+use mathlib.Core.Logic.{_≢_}
+use Prim.Native.Nat.{ℕ, suc, _+_}
+use native.Mathlib.Omega.{arith}
+use mathlib.Core.Bool.{Bool, true, false}
+use mathlib.Core.Option.{Option, none, some, Option·getD}
+use mathlib.Core.List.{List, [], _∷_, _++_, append-assoc, append-nil, nil≢cons}
+use lib.ListN.{length}
+use Rattle.record.specs.Common.{if_then_else_, Every}
+use Rattle.record.specs.Line.{Said, says, wrong, judge}
+use Rattle.record.specs.Meaning.{Meaning, data-at, end-of-file, extended-segment, start-segment, extended-linear, start-linear, meaning}
+use Rattle.reader.specs.Row.{Numbered, on, sayings, is-end, through-stop}
+use Rattle.loader.specs.Placing.{Placement, Base, segment, linear, base-behind, placed, Step, step-at, steps, stated}
+use Rattle.loader.specs.Load.{Tally, one-more, Verdict, accepted, refused, Decision, by, outside, or-later, decision, or-else}
+use Rattle.loader.specs.Helpers.{left}
+use Rattle.loader.specs.Claims.{said-record, record-on, sets, latest, in-force, states, all-states, counts, data-records, Passes, is-empty, goes-on, All-pass, Stops, the-end, no-record, first-outside}
+use Rattle.loader.proofs.Pages.{or-else-none, or-else-assoc, getD-or-else}
+use Rattle.loader.proofs.Rows.{from-record, decided}
+
+-- ---- one line more behind lines
+
+latest-snoc : (ahead : List (List ℕ)) (l : List ℕ) → latest (ahead ++ (l ∷ [])) ≡ or-else (sets (record-on l)) (latest ahead)
+unfolding latest
+latest-snoc [] l = sym (or-else-none (sets (record-on l)))
+latest-snoc (x ∷ ahead) l =
+    ap (λ (o : Option Base). or-else o (sets (record-on x))) (latest-snoc ahead l) ∙ or-else-assoc (sets (record-on l)) (latest ahead) (sets (record-on x))
+
+in-force-snoc : (ahead : List (List ℕ)) (l : List ℕ) (o : Option Meaning) → record-on l ≡ o → in-force (ahead ++ (l ∷ [])) ≡ Option·getD (sets o) (in-force ahead)
+unfolding in-force
+in-force-snoc ahead l o e = rw (← e, latest-snoc ahead l) (getD-or-else (sets (record-on l)) (latest ahead) _)
+
+in-force-behind : (ahead : List (List ℕ)) (l : List ℕ) (a : Meaning) → record-on l ≡ some a → in-force (ahead ++ (l ∷ [])) ≡ base-behind (in-force ahead) a
+unfolding sets base-behind
+in-force-behind ahead l a e = in-force-snoc ahead l (some a) e ∙ go a
+  where
+    go : (a : Meaning) → Option·getD (sets (some a)) (in-force ahead) ≡ base-behind (in-force ahead) a
+    go (data-at offset bytes) = refl
+    go end-of-file = refl
+    go (extended-segment x) = refl
+    go (start-segment cs ip) = refl
+    go (extended-linear x) = refl
+    go (start-linear x) = refl
+
+records-snoc : (ahead : List (List ℕ)) (l : List ℕ) (o : Option Meaning) → record-on l ≡ o → data-records (ahead ++ (l ∷ [])) ≡ counts o + data-records ahead
+unfolding data-records
+records-snoc [] l o e = rw e
+records-snoc (x ∷ ahead) l o e = let h = records-snoc ahead l o e in omega arith
+
+-- ---- the first placement outside
+
+module _ (inside : ℕ → Bool) where
+  abbrev All-inside : List Placement → Type 0
+  All-inside ps = Every (λ (p : Placement). inside (p .address) ≡ true) ps
+
+  pub record First (ps : List Placement) (address : ℕ) : Type 0 where
+    pub before : List Placement
+    pub after : List Placement
+    pub p : Placement
+    pub whole : ps ≡ before ++ (p ∷ after)
+    pub insides : All-inside before
+    pub out : inside (p .address) ≡ false
+    pub there : p .address ≡ address
+
+  abbrev Seen : List Placement → Option ℕ → Type 0
+  Seen ps none = All-inside ps
+  Seen ps (some address) = First ps address
+
+  seen : (ps : List Placement) → Seen ps (outside inside ps)
+  unfolding outside
+  seen [] = tt
+  seen (p ∷ ps) = go (inside (p .address)) refl (outside inside ps) (seen ps)
+    where
+      go : (b : Bool) → inside (p .address) ≡ b → (o : Option ℕ) → Seen ps o → Seen (p ∷ ps) (if b then o else some (p .address))
+      go true e none s = (e, s)
+      go true e (some a) s =
+          record { before = p ∷ s .before; after = s .after; p = s .p; whole = ap (λ (l : List Placement). p ∷ l) (s .whole); insides = (e, s .insides); out = s .out; there = s .there }
+      go false e o s = record { before = []; after = ps; p = p; whole = refl; insides = tt; out = e; there = refl }
+
+  -- ---- the line that decides
+
+  -- of lines numbered from n on, behind others, whose steps are s: line m decides, and those ahead of it pass
+  pub record Found (ahead : List (List ℕ)) (s : List Step) (n : ℕ) (ls : List (List ℕ)) (m : ℕ) (v : Verdict) : Type 0 where
+    pub mid : List (List ℕ)
+    pub line : List ℕ
+    pub later : List (List ℕ)
+    pub whole : ls ≡ mid ++ (line ∷ later)
+    pub number : m ≡ n + length mid
+    pub pass : All-pass inside ahead mid
+    pub stops : Stops inside (ahead ++ mid) line m v
+    pub states : (t : Tally) → v ≡ accepted t → stated s ≡ all-states ahead mid
+
+  abbrev pub Walked : (ahead : List (List ℕ)) → List Step → ℕ → List (List ℕ) → Option Decision → Type 0
+  Walked ahead s n ls none = All-pass inside ahead ls
+  Walked ahead s n ls (some (by m v)) = Found ahead s n ls m v
+
+  -- a line that passes
+  past : (ahead : List (List ℕ)) (l : List ℕ) (s s′ : List Step) (n : ℕ) (ls : List (List ℕ)) → Passes inside ahead l
+      → stated s ≡ states ahead (record-on l) ++ stated s′
+      → (d : Option Decision) → Walked (ahead ++ (l ∷ [])) s′ (suc n) ls d → Walked ahead s n (l ∷ ls) d
+  unfolding all-states
+  past ahead l s s′ n ls p e none w = (p, w)
+  past ahead l s s′ n ls p e (some (by m v)) w =
+      record {
+        mid = l ∷ w .mid;
+        line = w .line;
+        later = w .later;
+        whole = ap (λ (x : List (List ℕ)). l ∷ x) (w .whole);
+        number = omega (arith, w .number);
+        pass = (p, w .pass);
+        stops = rw append-assoc at (w .stops);
+        states = λ t h. e ∙ ap (λ (x : List Placement). states ahead (record-on l) ++ x) (w .states t h);
+      }
+
+  -- a line that decides
+  here : (ahead : List (List ℕ)) (l : List ℕ) (s : List Step) (n : ℕ) (ls : List (List ℕ)) (v : Verdict) → Stops inside ahead l n v
+      → ((t : Tally) → v ≡ accepted t → stated s ≡ []) → Found ahead s n (l ∷ ls) n v
+  unfolding all-states
+  here ahead l s n ls v w e =
+      record { mid = []; line = l; later = ls; whole = refl; number = omega arith; pass = tt; stops = rw append-nil w; states = e }
+
+  module _ (n : ℕ) (ahead : List (List ℕ)) (tally : Tally) (counted : tally .records ≡ data-records ahead) (l : List ℕ) (some-byte : l ≢ []) (ls : List (List ℕ)) (row : List Numbered) where
+    -- the lines behind, from a base and a tally on
+    abbrev Behind : Base → Tally → Type 0
+    Behind base t = Walked (ahead ++ (l ∷ [])) (left base row) (suc n) ls (decided inside base t row)
+
+    abbrev Later : Meaning → Type 0
+    Later a = (t : Tally) → t .records ≡ data-records (ahead ++ (l ∷ [])) → Behind (base-behind (in-force ahead) a) t
+
+    at-data : (offset : ℕ) (bytes : List ℕ) → record-on l ≡ some (data-at offset bytes)
+        → Behind (in-force ahead) (one-more tally)
+        → (o : Option ℕ) → Seen (placed (in-force ahead) offset 0 bytes) o
+        → Walked ahead (from-record n (in-force ahead) (data-at offset bytes) row) n (l ∷ ls) (or-later n o (decided inside (in-force ahead) (one-more tally) row))
+    unfolding or-later step-at steps stated states is-end
+    at-data offset bytes e ih none s =
+        past ahead l _ (left (in-force ahead) row) n ls (goes-on (data-at offset bytes) some-byte e (λ q. let z : _≡_ {A = ℕ} 0 1 = cc in omega arith) s)
+        (rw e) (decided inside (in-force ahead) (one-more tally) row) ih
+    at-data offset bytes e ih (some a) s =
+        here ahead l _ n ls _
+        (rw (← (s .there)) (first-outside (s .before) (s .after) (s .p) (rw e (s .whole)) (s .insides) (s .out)))
+        (λ t h. cc)
+
+    -- a record that places nothing, and the base behind it
+    silent : (a : Meaning) (base : Base) → record-on l ≡ some a → a ≢ end-of-file → states ahead (some a) ≡ [] → counts (some a) ≡ 0
+        → ((t : Tally) → t .records ≡ data-records (ahead ++ (l ∷ [])) → Behind base t)
+        → Walked ahead (left base row) n (l ∷ ls) (decided inside base tally row)
+    silent a base e ne st ct ih =
+        past ahead l (left base row) (left base row) n ls (goes-on a some-byte e ne (rw st tt)) (rw (e, st)) (decided inside base tally row)
+        (ih tally (omega (arith, records-snoc ahead l (some a) e)))
+
+    at-record : (a : Meaning) → record-on l ≡ some a → Later a
+        → Walked ahead (from-record n (in-force ahead) a row) n (l ∷ ls) (decision inside tally (from-record n (in-force ahead) a row))
+    unfolding decision step-at steps stated states is-end counts
+    at-record (data-at offset bytes) e ih =
+        at-data offset bytes e (ih (one-more tally) (omega (arith, records-snoc ahead l _ e))) (outside inside (placed (in-force ahead) offset 0 bytes)) (seen (placed (in-force ahead) offset 0 bytes))
+    at-record end-of-file e ih = here ahead l _ n ls _ (the-end tally e counted) (λ t h. refl)
+    at-record (extended-segment x) e ih = silent (extended-segment x) (segment x) e (λ q. let z : _≡_ {A = ℕ} 0 1 = cc in omega arith) refl refl ih
+    at-record (start-segment cs ip) e ih = silent (start-segment cs ip) (in-force ahead) e (λ q. let z : _≡_ {A = ℕ} 0 1 = cc in omega arith) refl refl ih
+    at-record (extended-linear x) e ih = silent (extended-linear x) (linear x) e (λ q. let z : _≡_ {A = ℕ} 0 1 = cc in omega arith) refl refl ih
+    at-record (start-linear x) e ih = silent (start-linear x) (in-force ahead) e (λ q. let z : _≡_ {A = ℕ} 0 1 = cc in omega arith) refl refl ih
+
+  pub walked : (ls : List (List ℕ)) (n : ℕ) (ahead : List (List ℕ)) (tally : Tally) → tally .records ≡ data-records ahead
+      → Walked ahead (left (in-force ahead) (sayings n ls)) n ls (decided inside (in-force ahead) tally (sayings n ls))
+  unfolding sayings steps through-stop decision said-record states counts sets
+  walked [] n ahead tally e = tt
+  walked ([] ∷ ls) n ahead tally e =
+      let s = left (in-force ahead) (sayings (suc n) ls) in
+      past ahead [] s s n ls (is-empty refl) refl (decided inside (in-force ahead) tally (sayings (suc n) ls))
+      (rw (in-force-snoc ahead [] none refl) at (walked ls (suc n) (ahead ++ ([] ∷ [])) tally (omega (arith, records-snoc ahead [] none refl))))
+  walked ((c ∷ l) ∷ ls) n ahead tally e = go (judge (c ∷ l)) refl (walked ls (suc n) (ahead ++ ((c ∷ l) ∷ [])))
+    where
+      ahead′ : List (List ℕ)
+      ahead′ = ahead ++ ((c ∷ l) ∷ [])
+
+      row : List Numbered
+      row = sayings (suc n) ls
+
+      go : (s : Said) → judge (c ∷ l) ≡ s
+          → ((t : Tally) → t .records ≡ data-records ahead′ → Walked ahead′ (left (in-force ahead′) row) (suc n) ls (decided inside (in-force ahead′) t row))
+          → Walked ahead (left (in-force ahead) (on n s ∷ row)) n ((c ∷ l) ∷ ls) (decided inside (in-force ahead) tally (on n s ∷ row))
+      go (says kind address payload) q ih =
+          let h : record-on (c ∷ l) ≡ some (meaning kind address payload) = ap said-record q in
+          at-record n ahead tally e (c ∷ l) (λ z. nil≢cons (sym z)) ls row (meaning kind address payload) h (rw (in-force-behind ahead (c ∷ l) (meaning kind address payload) h) at ih)
+      go (wrong r) q ih = here ahead (c ∷ l) (left (in-force ahead) (on n (wrong r) ∷ row)) n ls (refused r n) (no-record r (λ z. nil≢cons (sym z)) q) (λ t h. cc)

@@ -1,0 +1,89 @@
+-- `loader::judge_next` meets its contract: the call of `next` tells the first of what is left, and each answer settles it.
+-- Assumes nothing.
+use mathlib.Core.Path.{_≡_, _∙_}
+use native.Mathlib.Omega.{arith}
+use denote.Ref.{now}
+use lib.ListN.{length}
+use Rattle.loader.specs.Load.{within}
+use Rattle.loader.proofs.Calls.{One, came-read, came-refused, came-done}
+use Rattle.loader.proofs.Passes.{countable-records, judged-record, judged-refused, judged-done}
+use borrow.Author.Needs.{needs}
+use Rattle.loader.proofs.judge_next.Statement.{statement}
+use Rattle.loader.proofs.judge_next.Tie as tie
+
+-- the record that was read
+one : (c : tie.After-reply)
+    → let s = c .before .before .before .before .before .before .before .before .before .before in
+    let n = c .before .before .before .before .before .next in
+    One (s .args .w .state) (now (s .args .text)) (now (s .args .pool)) (n .result) (n .last .1 .1 .0) (s .pre .0 .options) (s .pre .0 .countable) (s .pre .2) (n .ensures) (c .reply .given .0 .0)
+one c =
+    let s = c .before .before .before .before .before .before .before .before .before .before in
+    let n = c .before .before .before .before .before .next in
+    came-read (s .args .w .state) (now (s .args .text)) (now (s .args .pool)) (n .result) (n .last .1 .1 .0) (s .pre .0 .options) (s .pre .0 .countable) (s .pre .2) (n .ensures) (c .reply .given .0 .0) (c .reply .given .1)
+
+next-requires : tie.Need-next-requires
+next-requires c κs = search needs
+
+enum-known-reply : tie.Need-enum-known-reply
+enum-known-reply c = search needs
+
+judge-record-requires : tie.Need-judge-record-requires
+judge-record-requires c κs =
+    let s = c .before .before .before .before .before .before .before .before .before .before .before .before in
+    let n = c .before .before .before .before .before .before .before .next in
+    let l : length (n .last .1 .1 .0) ≡ 255 = n .kept .1 .1 .0 ∙ s .pre .2 in
+    (one (c .before .before) .lies l, countable-records (now (s .args .text)) (s .args .w) (now (s .args .pool)) (n .result) (n .last .1 .1 .0) (s .pre .0) (s .pre .2) (n .ensures) (s .args .records) _ (one (c .before .before)) (s .pre .1) (omega arith), s .pre .3)
+
+enum-known-reply-2 : tie.Need-enum-known-reply-2
+enum-known-reply-2 c = search needs
+
+enum-told : tie.Need-enum-told
+enum-told c = search needs
+
+same-length : tie.Need-same-length
+same-length c = search needs
+
+returns : tie.Need-returns
+returns c =
+    let s = c .before .before .before .before .before .before .before .before .before .before .before .before .before in
+    let n = c .before .before .before .before .before .before .before .before .next in
+    judged-record (now (s .args .text)) (s .args .w) (now (s .args .pool)) (n .result) (n .last .1 .1 .0) (s .pre .0) (s .pre .2) (n .ensures)
+    (within (s .args .first) (s .args .size)) (s .args .records) _ (one (c .before .before .before)) (s .pre .1) (c .judge-record .result) (c .judge-record .ensures)
+
+same-length-2 : tie.Need-same-length-2
+same-length-2 c = search needs
+
+returns-2 : tie.Need-returns-2
+returns-2 c =
+    let s = c .before .before .before .before .before .before .before .before .before .before .before in
+    let n = c .before .before .before .before .before .before .next in
+    let u = came-refused (s .args .w .state) (now (s .args .text)) (now (s .args .pool)) (n .result) (n .last .1 .1 .0) (s .pre .0 .options) (s .pre .0 .countable) (s .pre .2) (n .ensures) (c .before .reply2 .given .0 .0) (c .before .reply2 .given .1) in
+    judged-refused (now (s .args .text)) (s .args .w) (now (s .args .pool)) (n .result) (n .last .1 .1 .0) (s .pre .0) (s .pre .2) (n .ensures)
+    (within (s .args .first) (s .args .size)) (s .args .records) (c .before .reply2 .given .0 .0) (u .0) (u .1)
+
+same-length-3 : tie.Need-same-length-3
+same-length-3 c = search needs
+
+returns-3 : tie.Need-returns-3
+returns-3 c =
+    let s = c .before .before .before .before .before .before .before .before .before .before in
+    let n = c .before .before .before .before .before .next in
+    judged-done (now (s .args .text)) (s .args .w) (now (s .args .pool)) (n .result) (n .last .1 .1 .0) (s .pre .0) (s .pre .2) (n .ensures)
+    (within (s .args .first) (s .args .size)) (s .args .records)
+    (came-done (s .args .w .state) (now (s .args .text)) (now (s .args .pool)) (n .result) (n .last .1 .1 .0) (s .pre .0 .options) (s .pre .0 .countable) (s .pre .2) (n .ensures) (c .enum-told .given .1))
+
+pub judge-next-spec : {M : Type 1} → statement M
+judge-next-spec =
+    tie.close
+    (tie.spec
+    next-requires
+    enum-known-reply
+    judge-record-requires
+    enum-known-reply-2
+    enum-told
+    same-length
+    returns
+    same-length-2
+    returns-2
+    same-length-3
+    returns-3)

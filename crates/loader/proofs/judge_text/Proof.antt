@@ -1,0 +1,78 @@
+-- `loader::judge_text` meets its contract: the decision on what is left is the whole decision. The measure is what is left to be said.
+-- Assumes nothing.
+use mathlib.Core.Path.{sym}
+use native.Mathlib.Omega.{arith}
+use denote.Ref.{now}
+use borrow.Author.Needs.{needs}
+use lib.ListN.{length}
+use Rattle.reader.specs.Along.{unread}
+use Rattle.loader.specs.Load.{within}
+use Rattle.loader.proofs.Loads.{Judging, judging-start, judging-less, judging-again, judging-end}
+use Rattle.loader.proofs.judge_text.Statement.{statement}
+use Rattle.loader.proofs.judge_text.Tie as tie
+
+abbrev Inv-loop : tie.InvT-loop
+Inv-loop text first size pool₀ w₀ records₀ pool w records = Judging (within first size) text pool w records
+
+abbrev μ-loop : tie.MeasureT-loop
+μ-loop text first size pool₀ w₀ records₀ pool w records = length (unread (w .state) text)
+
+begin-requires : tie.Need-begin-requires Inv-loop μ-loop
+begin-requires c κs = search needs
+
+loop-holds : tie.Need-loop-holds Inv-loop μ-loop
+loop-holds c =
+    let s = c .before .before in
+    judging-start (within (s .args .first) (s .args .size)) (now (s .args .text)) _ (omega arith) (search needs) (c .begin .result) (c .begin .ensures)
+
+slice-aggregate-judge-next : tie.Need-slice-aggregate-judge-next Inv-loop μ-loop
+slice-aggregate-judge-next c = sym (c .before .loop .inv .room)
+
+judge-next-requires : tie.Need-judge-next-requires Inv-loop μ-loop
+judge-next-requires c κs = let j = c .before .loop .inv in (j .under-way, j .few, j .room, c .before .before .before .before .pre)
+
+enum-known-next : tie.Need-enum-known-next Inv-loop μ-loop
+enum-known-next c = search needs
+
+loop-less : tie.Need-loop-less Inv-loop μ-loop
+loop-less c =
+    let s = c .before .before .before .before .before .before .before .before .before .args in
+    let l = c .before .before .before .before .before .before .loop in
+    let t = c .before .before .before .before .judge-next in
+    let n = c .before .next .given in
+    judging-less (within (s .first) (s .size)) (now (s .text)) (l .pool) (l .w) (l .records) (l .inv) (t .result) (t .ensures) (n .0 .0) (n .0 .1 .0) (n .1)
+
+loop-again : tie.Need-loop-again Inv-loop μ-loop
+loop-again c =
+    let s = c .before .before .before .before .before .before .before .before .before .args in
+    let l = c .before .before .before .before .before .before .loop in
+    let t = c .before .before .before .before .judge-next in
+    let n = c .before .next .given in
+    judging-again (within (s .first) (s .size)) (now (s .text)) (l .pool) (l .w) (l .records) (l .inv) (t .result) (t .ensures) (n .0 .0) (n .0 .1 .0) (n .1) (t .last .1 .0) (t .kept .1 .0)
+
+enum-known-answer : tie.Need-enum-known-answer Inv-loop μ-loop
+enum-known-answer c = search needs
+
+returns : tie.Need-returns Inv-loop μ-loop
+returns c =
+    let s = c .before .before .before .before .before .before .before .before .before .args in
+    let l = c .before .before .before .before .before .before .loop in
+    let t = c .before .before .before .before .judge-next in
+    let n = c .before .answer .given in
+    judging-end (within (s .first) (s .size)) (now (s .text)) (l .pool) (l .w) (l .records) (l .inv) (t .result) (t .ensures) (n .0 .0) (n .1)
+
+pub judge-text-spec : {M : Type 1} → statement M
+judge-text-spec =
+    tie.close
+    (tie.spec
+    Inv-loop
+    μ-loop
+    begin-requires
+    loop-holds
+    slice-aggregate-judge-next
+    judge-next-requires
+    enum-known-next
+    loop-less
+    loop-again
+    enum-known-answer
+    returns)

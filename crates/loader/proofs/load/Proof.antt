@@ -1,0 +1,81 @@
+-- `loader::load` meets its contract: a bad window and a refused text change nothing; an accepted text is written over cleared marks.
+-- Assumes nothing.
+use mathlib.Core.Path.{_≡_, sym, _∙_}
+use mathlib.Core.Bool.{false}
+use denote.Ref.{now}
+use lib.ListN.{length}
+use Rattle.loader.specs.Load.{unfit}
+use Rattle.loader.proofs.Demand3.{good-window}
+use Rattle.loader.proofs.Loads.{load-unfit, load-refused, load-accepts, load-accepted}
+use borrow.Author.Needs.{needs}
+use Rattle.loader.proofs.load.Statement.{statement}
+use Rattle.loader.proofs.load.Tie as tie
+
+-- the window is not refused
+fit : (c : tie.Else1) → let s = c .before .before .before .before .before .args in unfit (s .first) (length (now (s .page))) (length (now (s .marks))) ≡ false
+fit c = sym (c .before .is-unfit .ensures) ∙ c .if1 .left
+
+is-unfit-requires : tie.Need-is-unfit-requires
+is-unfit-requires c κs = search needs
+
+returns : tie.Need-returns
+returns c =
+    let s = c .before .before .before .before .before .args in
+    load-unfit (now (s .text)) (s .first) (now (s .page)) (now (s .marks)) (sym (c .before .is-unfit .ensures) ∙ c .if1 .taken)
+
+judge-text-requires : tie.Need-judge-text-requires
+judge-text-requires c κs = let s = c .before .before .before .before .before .args in good-window (s .first) (now (s .page)) (now (s .marks)) (fit c) .below
+
+enum-told : tie.Need-enum-told
+enum-told c = search needs
+
+clear-requires : tie.Need-clear-requires
+clear-requires c κs = search needs
+
+write-text-requires : tie.Need-write-text-requires
+write-text-requires c κs =
+    let s = c .before .before .before .before .before .before .before .before .before .before .before .before .before .before .args in
+    let t = c .before .before .before .before .before .before .before .before .judge-text in
+    let f = fit (c .before .before .before .before .before .before .before .before .before) in (
+      good-window (s .first) (now (s .page)) (now (s .marks)) f .even ∙ sym (c .before .before .before .before .clear .kept .0),
+      load-accepts (now (s .text)) (s .first) (now (s .page)) (now (s .marks)) f (t .result) (t .ensures) _ (c .before .before .before .before .before .before .enum-told .given .1),
+    )
+
+enum-told-2 : tie.Need-enum-told-2
+enum-told-2 c = search needs
+
+same-length : tie.Need-same-length
+same-length c = search needs
+
+same-length-2 : tie.Need-same-length-2
+same-length-2 c = search needs
+
+returns-2 : tie.Need-returns-2
+returns-2 c =
+    let s = c .before .before .before .before .before .before .before .before .before .before .before .before .before .before .before .before .before .before .before .args in
+    let t = c .before .before .before .before .before .before .before .before .before .before .before .before .before .judge-text in
+    let w = c .before .before .before .before .write-text in
+    load-accepted (now (s .text)) (s .first) (now (s .page)) (now (s .marks)) (fit (c .before .before .before .before .before .before .before .before .before .before .before .before .before .before)) (t .result) (t .ensures) _ (c .before .before .before .before .before .before .before .before .before .before .before .enum-told .given .1)
+    (c .before .before .before .before .before .before .before .before .before .clear .last .0) (w .last .1 .1 .0) (w .last .1 .1 .1 .0) (c .before .before .before .before .before .before .before .before .before .clear .ensures) (w .ensures)
+
+returns-3 : tie.Need-returns-3
+returns-3 c =
+    let s = c .before .before .before .before .before .before .before .before .args in
+    let t = c .before .before .judge-text in
+    load-refused (now (s .text)) (s .first) (now (s .page)) (now (s .marks)) (fit (c .before .before .before)) (t .result) (t .ensures) _ _ (c .enum-told2 .given .1)
+
+pub load-spec : {M : Type 1} → statement M
+load-spec =
+    tie.close
+    (tie.spec
+    is-unfit-requires
+    returns
+    judge-text-requires
+    enum-told
+    clear-requires
+    write-text-requires
+    enum-told-2
+    same-length
+    same-length-2
+    returns-2
+    returns-3)

@@ -1,0 +1,119 @@
+-- `loader::write_next` meets its contract: the record that the call of `next` gives is written; an accepted text gives nothing else.
+-- Assumes nothing.
+use mathlib.Core.Path.{_≡_, _∙_}
+use denote.Ref.{now}
+use lib.ListN.{length}
+use Rattle.loader.specs.Load.{within}
+use Rattle.loader.proofs.Calls.{One, came-read, came-refused, came-done}
+use Rattle.loader.proofs.Passes.{record-fits, wrote, no-refused, no-done}
+use borrow.Author.Needs.{needs}
+use Rattle.loader.proofs.write_next.Statement.{statement}
+use Rattle.loader.proofs.write_next.Tie as tie
+
+-- src/rt:249:9
+-- the record that was read
+one : (c : tie.After-reply)
+    → let s = c .before .before .before .before .before .before .before .before .before .before .before .before in
+    let n = c .before .before .before .before .before .next in
+    One (s .args .w .state) (now (s .args .text)) (now (s .args .pool)) (n .result) (n .last .1 .1 .0) (s .pre .under-way .options) (s .pre .under-way .countable) (s .pre .pool-room) (n .ensures) (c .reply .given .0 .0)
+one c =
+    let s = c .before .before .before .before .before .before .before .before .before .before .before .before in
+    let n = c .before .before .before .before .before .next in
+    came-read (s .args .w .state) (now (s .args .text)) (now (s .args .pool)) (n .result) (n .last .1 .1 .0) (s .pre .under-way .options) (s .pre .under-way .countable) (s .pre .pool-room) (n .ensures) (c .reply .given .0 .0) (c .reply .given .1)
+
+next-requires : tie.Need-next-requires
+next-requires c κs = search needs
+
+-- src/rt:253:21
+enum-known-reply : tie.Need-enum-known-reply
+enum-known-reply c = search needs
+
+-- src/rt:254:13
+write-record-requires : tie.Need-write-record-requires
+write-record-requires c κs =
+    let s = c .before .before .before .before .before .before .before .before .before .before .before .before .before .before .before .before in
+    let n = c .before .before .before .before .before .before .before .before .before .next in
+    let l : length (n .last .1 .1 .0) ≡ 255 = n .kept .1 .1 .0 ∙ s .pre .pool-room in (
+      one (c .before .before .before .before) .lies l,
+      record {
+        even = s .pre .even;
+        inside = record-fits (now (s .args .text)) (s .args .w) (now (s .args .pool)) (n .result) (n .last .1 .1 .0) (s .pre .under-way) (s .pre .pool-room) (n .ensures) _ (one (c .before .before .before .before))
+            (within (s .args .first) (length (now (s .args .page)))) (s .pre .accepts);
+      },
+    )
+
+-- src/rt:257:23
+base-behind-requires : tie.Need-base-behind-requires
+base-behind-requires c κs = search needs
+
+-- src/rt:260:30
+enum-told : tie.Need-enum-told
+enum-told c = search needs
+
+-- src/rt:261:24
+enum-told-2 : tie.Need-enum-told-2
+enum-told-2 c = search needs
+
+-- src/rt:243:1
+same-length : tie.Need-same-length
+same-length c = search needs
+
+-- src/rt:243:1
+same-length-2 : tie.Need-same-length-2
+same-length-2 c = search needs
+
+-- src/rt:243:1
+same-length-3 : tie.Need-same-length-3
+same-length-3 c = search needs
+
+-- src/rt:243:1
+returns : tie.Need-returns
+returns c =
+    let s = c .before .before .before .before .before .before .before .before .before .before .before .before .before .before .before .before .before .before .before .before .before .before in
+    let n = c .before .before .before .before .before .before .before .before .before .before .before .before .before .before .before .next in
+    let t = c .before .before .before .before .before .write-record in
+    wrote (now (s .args .text)) (s .args .w) (now (s .args .pool)) (n .result) (n .last .1 .1 .0) (s .pre .under-way) (s .pre .pool-room) (n .ensures)
+    (s .args .first) (now (s .args .page)) (now (s .args .marks)) _ _ _ (one (c .before .before .before .before .before .before .before .before .before .before)) (c .base-behind .result) (s .pre .accepts) (t .ensures) (c .base-behind .ensures)
+
+-- src/rt:243:1
+same-length-4 : tie.Need-same-length-4
+same-length-4 c = search needs
+
+-- src/rt:243:1
+returns-2 : tie.Need-returns-2
+returns-2 c =
+    let s = c .before .before .before .before .before .before .before .before .before .before .before .before in
+    let n = c .before .before .before .before .before .next in
+    let u = came-refused (s .args .w .state) (now (s .args .text)) (now (s .args .pool)) (n .result) (n .last .1 .1 .0) (s .pre .under-way .options) (s .pre .under-way .countable) (s .pre .pool-room) (n .ensures) (c .enum-told .given .0 .0) (c .enum-told .given .1) in
+    absurd (no-refused (now (s .args .text)) (s .args .w) (now (s .args .pool)) (n .result) (n .last .1 .1 .0) (s .pre .under-way) (s .pre .pool-room) (n .ensures) (within (s .args .first) (length (now (s .args .page)))) (n .result .state .line) (c .enum-told .given .0 .0) (u .0) (u .1) (s .pre .accepts))
+
+-- src/rt:243:1
+same-length-5 : tie.Need-same-length-5
+same-length-5 c = search needs
+
+-- src/rt:243:1
+returns-3 : tie.Need-returns-3
+returns-3 c =
+    let s = c .before .before .before .before .before .before .before .before .before .before .before .before in
+    let n = c .before .before .before .before .before .next in
+    absurd (no-done (now (s .args .text)) (s .args .w) (now (s .args .pool)) (n .result) (n .last .1 .1 .0) (s .pre .under-way) (s .pre .pool-room) (n .ensures) (within (s .args .first) (length (now (s .args .page))))
+    (came-done (s .args .w .state) (now (s .args .text)) (now (s .args .pool)) (n .result) (n .last .1 .1 .0) (s .pre .under-way .options) (s .pre .under-way .countable) (s .pre .pool-room) (n .ensures) (c .enum-told2 .given .1)) (s .pre .accepts))
+
+pub write-next-spec : {M : Type 1} → statement M
+write-next-spec =
+    tie.close
+    (tie.spec
+    next-requires
+    enum-known-reply
+    write-record-requires
+    base-behind-requires
+    enum-told
+    enum-told-2
+    same-length
+    same-length-2
+    same-length-3
+    returns
+    same-length-4
+    returns-2
+    same-length-5
+    returns-3)

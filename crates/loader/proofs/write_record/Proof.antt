@@ -1,0 +1,141 @@
+-- `loader::write_record` meets its contract: a data record is put, any other leaves page and marks as they are.
+-- Assumes nothing.
+use Prim.Native.Nat.{_+_, _≤_}
+use mathlib.Core.Path.{subst}
+use native.Mathlib.Omega.{arith}
+use denote.Ref.{now}
+use lib.ListN.{length}
+use Rattle.record.specs.declared.Record.{Record}
+use Rattle.loader.specs.Helpers.{based, stated-by, Lies-in}
+use Rattle.loader.proofs.Meeting.{part-small, idle, fits-data, painted-data}
+use borrow.Author.Needs.{needs}
+use Rattle.loader.proofs.write_record.Statement.{statement}
+use Rattle.loader.proofs.write_record.Tie as tie
+
+-- src/rt:230:24
+enum-known-given : tie.Need-enum-known-given
+enum-known-given c = search needs
+
+-- src/rt:231:23
+-- where the payload lies
+lies : (c : tie.After-known-told)
+    → let g = c .before .given .given .0 in
+    let p = now (c .before .before .before .before .before .before .args .pool) in
+    (g .1 .0 + g .1 .1 .0 ≤ length p) × (g .1 .1 .0 ≤ 255)
+lies c =
+    let s = c .before .before .before .before .before .before in
+    subst (λ (x : Record). Lies-in x (now (s .args .pool))) (c .before .given .given .1) (s .pre .0)
+
+add-end : tie.Need-add-end
+add-end c = omega (arith, lies c)
+
+-- src/rt:232:31
+sub-put : tie.Need-sub-put
+sub-put c = search needs
+
+-- src/rt:232:31
+part-put-start : tie.Need-part-put-start
+part-put-start c = search needs
+
+-- src/rt:232:31
+part-put-end : tie.Need-part-put-end
+part-put-end c = lies c .0
+
+-- src/rt:232:13
+put-requires : tie.Need-put-requires
+put-requires c κs =
+    let s = c .before .before .before .before .before .before .before .before .before in
+    let g = c .before .before .before .before .given .given in (
+      part-small (g .0 .1 .0) (g .0 .1 .1 .0) (now (s .args .pool)) (lies (c .before .before .before) .1),
+      fits-data (s .args .first) (based (s .args .base)) (s .args .given) (now (s .args .pool)) (now (s .args .page)) (now (s .args .marks)) (g .0 .0) (g .0 .1 .0) (g .0 .1 .1 .0) (g .1) (s .pre .1),
+    )
+
+enum-told : tie.Need-enum-told
+enum-told c = search needs
+
+enum-told-2 : tie.Need-enum-told-2
+enum-told-2 c = search needs
+
+enum-told-3 : tie.Need-enum-told-3
+enum-told-3 c = search needs
+
+enum-told-4 : tie.Need-enum-told-4
+enum-told-4 c = search needs
+
+enum-told-5 : tie.Need-enum-told-5
+enum-told-5 c = search needs
+
+-- src/rt:225:1
+same-length : tie.Need-same-length
+same-length c = search needs
+
+-- src/rt:225:1
+same-length-2 : tie.Need-same-length-2
+same-length-2 c = search needs
+
+-- src/rt:225:1
+returns : tie.Need-returns
+returns c =
+    let s = c .before .before .before .before .before .before .before .before .before .before .before .before .before .before in
+    let g = c .before .before .before .before .before .before .before .before .before .given .given in
+    let p = c .before .before .before .before .put in
+    painted-data (s .args .first) (based (s .args .base)) (s .args .given) (now (s .args .pool)) (now (s .args .page)) (now (s .args .marks)) (g .0 .0) (g .0 .1 .0) (g .0 .1 .1 .0) _ _ (g .1) (p .ensures)
+
+-- src/rt:225:1
+returns-2 : tie.Need-returns-2
+unfolding stated-by
+returns-2 c =
+    let a = c .before .before .before .before .before .args in
+    idle (a .first) (based (a .base)) (a .given) (now (a .pool)) (now (a .page)) (now (a .marks)) (rw (c .enum-told .given .1))
+
+-- src/rt:225:1
+returns-3 : tie.Need-returns-3
+unfolding stated-by
+returns-3 c =
+    let a = c .before .before .before .before .before .args in
+    idle (a .first) (based (a .base)) (a .given) (now (a .pool)) (now (a .page)) (now (a .marks)) (rw (c .enum-told2 .given .1))
+
+-- src/rt:225:1
+returns-4 : tie.Need-returns-4
+unfolding stated-by
+returns-4 c =
+    let a = c .before .before .before .before .before .args in
+    idle (a .first) (based (a .base)) (a .given) (now (a .pool)) (now (a .page)) (now (a .marks)) (rw (c .enum-told3 .given .1))
+
+-- src/rt:225:1
+returns-5 : tie.Need-returns-5
+unfolding stated-by
+returns-5 c =
+    let a = c .before .before .before .before .before .args in
+    idle (a .first) (based (a .base)) (a .given) (now (a .pool)) (now (a .page)) (now (a .marks)) (rw (c .enum-told4 .given .1))
+
+-- src/rt:225:1
+returns-6 : tie.Need-returns-6
+unfolding stated-by
+returns-6 c =
+    let a = c .before .before .before .before .before .args in
+    idle (a .first) (based (a .base)) (a .given) (now (a .pool)) (now (a .page)) (now (a .marks)) (rw (c .enum-told5 .given .1))
+
+pub write-record-spec : {M : Type 1} → statement M
+write-record-spec =
+    tie.close
+    (tie.spec
+    enum-known-given
+    add-end
+    sub-put
+    part-put-start
+    part-put-end
+    put-requires
+    enum-told
+    enum-told-2
+    enum-told-3
+    enum-told-4
+    enum-told-5
+    same-length
+    same-length-2
+    returns
+    returns-2
+    returns-3
+    returns-4
+    returns-5
+    returns-6)

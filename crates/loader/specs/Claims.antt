@@ -1,0 +1,241 @@
+-- What is claimed of a load. Demand 3: what stands behind the line at which a load stops, and what the buffers held before, can change no
+-- answer and no mark; a place is marked exactly when a data record ahead of the end record states it, and holds what the last such record
+-- states; every other place keeps its byte. Then why a load answers as it does, and that nothing else meets the contract.
+-- Each is proved in `proofs/Demand3.antt` or `proofs/Claims.antt`.
+-- Assumes nothing.
+use mathlib.Core.Path.{_≡_}
+use mathlib.Core.Logic.{_≢_, _↔_, _⊎_}
+use Prim.Native.Nat.{ℕ, suc, _+_, _^_, _≤_, _<_}
+use mathlib.Core.Bool.{Bool, true, false, _||_}
+use mathlib.Core.Option.{Option, none, some, Option·getD}
+use mathlib.Core.List.{List, [], _∷_, _++_, List·Memᴰ}
+use lib.Dec.{eqb}
+use lib.ListN.{length, getD, replicate}
+use Rattle.record.specs.Common.{Every, text}
+use Rattle.record.specs.Refusals.{Refusal, number-of, missing-end-of-file-record, bad-window, outside-window}
+use Rattle.record.specs.Line.{Said, says, wrong, judge}
+use Rattle.record.specs.Meaning.{Meaning, data-at, end-of-file, extended-segment, start-segment, extended-linear, start-linear, meaning}
+use Rattle.reader.specs.Lines.{LF, lines, through}
+use Rattle.loader.specs.declared.Loading.{Loading}
+use Rattle.loader.specs.Placing.{Placement, Base, from-start, segment, linear, placed}
+use Rattle.loader.specs.Load.{Tally, Verdict, accepted, refused, by, within, or-else, outcome, Loaded, placements, load}
+use Rattle.loader.specs.Told.{told, Load}
+
+-- ---- two loads
+
+-- two loads agree: in their answers and, if those accept, in their marks and in the bytes at marked places
+pub record Alike (l₁ l₂ : Loaded) : Type 0 where
+  pub answers : l₁ .answer ≡ l₂ .answer
+  pub marks : (tally : Tally) → l₁ .answer ≡ accepted tally → l₁ .marks ≡ l₂ .marks
+  pub bytes : (tally : Tally) → l₁ .answer ≡ accepted tally → (i : ℕ) → getD (l₁ .marks) i 0 ≡ 1 → getD (l₁ .page) i 0 ≡ getD (l₂ .page) i 0
+
+-- demand 3, first half: two texts that are the same through the LF of the line at which the first load stops;
+-- text behind it and old contents of page and marks may differ
+abbrev pub Non-interference : Type 0
+Non-interference =
+    (text₁ text₂ : List ℕ) (first : ℕ) (page₁ marks₁ page₂ marks₂ : List ℕ)
+    → length page₁ ≡ length page₂ → length marks₁ ≡ length marks₂
+    → (line : ℕ) (v : Verdict) → outcome text₁ first page₁ marks₁ ≡ some (by line v)
+    → (head : List ℕ) → through line text₁ ≡ some head → through line text₂ ≡ some head
+    → Alike (load text₁ first page₁ marks₁) (load text₂ first page₂ marks₂)
+
+-- ---- one load
+
+-- some placement of the list is at the address
+abbrev pub Stated : (address : ℕ) → List Placement → Type 0
+Stated address ps = (p : Placement) × List·Memᴰ p ps × (p .address ≡ address)
+
+-- the last placement of the list that is at the address states the byte
+pub record Last-stated (address byte : ℕ) (ps : List Placement) : Type 0 where
+  pub before : List Placement
+  pub after : List Placement
+  pub whole : ps ≡ before ++ (record { address = address; byte = byte } ∷ after)
+  pub none-later : (p : Placement) → List·Memᴰ p after → p .address ≢ address
+
+-- what an accepted load owes a place: its address, its byte before, its mark and its byte after
+pub record Place (ps : List Placement) (address old mark byte : ℕ) : Type 0 where
+  pub one-or-zero : (mark ≡ 1) ⊎ (mark ≡ 0)
+  pub marked-iff-stated : (mark ≡ 1) ↔ Stated address ps
+  pub marked-holds : mark ≡ 1 → Last-stated address byte ps
+  pub unmarked-keeps : mark ≡ 0 → byte ≡ old
+
+-- demand 3, second half: of one accepted load, at each place of the window
+abbrev pub What-is-stored : Type 0
+What-is-stored =
+    (text : List ℕ) (first : ℕ) (page marks : List ℕ) (tally : Tally)
+    → let l = load text first page marks in
+    l .answer ≡ accepted tally → (i : ℕ) → i < length page
+    → Place (placements text) (first + i) (getD page i 0) (getD (l .marks) i 0) (getD (l .page) i 0)
+
+-- which leaves nothing open
+abbrev pub Place-unique : Type 0
+Place-unique =
+    (ps : List Placement) (address old mark mark′ byte byte′ : ℕ)
+    → Place ps address old mark byte → Place ps address old mark′ byte′ → (mark ≡ mark′) × (byte ≡ byte′)
+
+abbrev pub Refusal-changes-nothing : Type 0
+Refusal-changes-nothing =
+    (text : List ℕ) (first : ℕ) (page marks : List ℕ) (r : Refusal) (line : ℕ)
+    → let l = load text first page marks in
+    l .answer ≡ refused r line → (l .page ≡ page) × (l .marks ≡ marks)
+
+abbrev pub Sizes-kept : Type 0
+Sizes-kept =
+    (text : List ℕ) (first : ℕ) (page marks : List ℕ)
+    → let l = load text first page marks in (length (l .page) ≡ length page) × (length (l .marks) ≡ length marks)
+
+-- ---- why a load answers as it does, said of the text's lines
+
+-- the record that is said, if one is
+unfoldable pub said-record : Said → Option Meaning
+unfolding meaning
+said-record (says kind address payload) = some (meaning kind address payload)
+said-record (wrong r) = none
+
+abbrev pub record-on : (line : List ℕ) → Option Meaning
+record-on line = said-record (judge line)
+
+-- the base that a type 02 or 04 sets
+unfoldable pub sets : Option Meaning → Option Base
+sets none = none
+sets (some (data-at offset bytes)) = none
+sets (some end-of-file) = none
+sets (some (extended-segment number)) = some (segment number)
+sets (some (start-segment cs ip)) = none
+sets (some (extended-linear number)) = some (linear number)
+sets (some (start-linear number)) = none
+
+-- the latest base that lines set: a later one, if there is one, and else the first line's
+unfoldable pub latest : List (List ℕ) → Option Base
+unfolding or-else sets said-record judge
+latest [] = none
+latest (line ∷ ls) = or-else (latest ls) (sets (record-on line))
+
+-- the base in force behind lines
+unfoldable pub in-force : List (List ℕ) → Base
+unfolding latest
+in-force ahead = Option·getD (latest ahead) from-start
+
+-- what a record states behind these lines: a data record its bytes, by the base in force there
+unfoldable pub states : (ahead : List (List ℕ)) → Option Meaning → List Placement
+unfolding placed in-force
+states ahead none = []
+states ahead (some (data-at offset bytes)) = placed (in-force ahead) offset 0 bytes
+states ahead (some end-of-file) = []
+states ahead (some (extended-segment number)) = []
+states ahead (some (start-segment cs ip)) = []
+states ahead (some (extended-linear number)) = []
+states ahead (some (start-linear number)) = []
+
+-- what lines state, one after the other, behind these
+unfoldable pub all-states : (ahead ls : List (List ℕ)) → List Placement
+unfolding states said-record judge
+all-states ahead [] = []
+all-states ahead (line ∷ ls) = states ahead (record-on line) ++ all-states (ahead ++ (line ∷ [])) ls
+
+-- how many of the lines are data records
+unfoldable pub counts : Option Meaning → ℕ
+counts none = 0
+counts (some (data-at offset bytes)) = 1
+counts (some end-of-file) = 0
+counts (some (extended-segment number)) = 0
+counts (some (start-segment cs ip)) = 0
+counts (some (extended-linear number)) = 0
+counts (some (start-linear number)) = 0
+
+unfoldable pub data-records : List (List ℕ) → ℕ
+unfolding counts said-record judge
+data-records [] = 0
+data-records (line ∷ ls) = counts (record-on line) + data-records ls
+
+-- a line behind these does not stop a load: it is empty, or a record other than the end with no byte outside
+pub data Passes (inside : ℕ → Bool) (ahead : List (List ℕ)) (line : List ℕ) : Type 0 where
+  is-empty : line ≡ [] → Passes inside ahead line
+  goes-on : (m : Meaning) → line ≢ [] → record-on line ≡ some m → m ≢ end-of-file
+      → Every (λ (p : Placement). inside (p .address) ≡ true) (states ahead (some m)) → Passes inside ahead line
+
+abbrev pub All-pass : (inside : ℕ → Bool) (ahead ls : List (List ℕ)) → Type 0
+All-pass inside ahead [] = Unit
+All-pass inside ahead (line ∷ ls) = Passes inside ahead line × All-pass inside (ahead ++ (line ∷ [])) ls
+
+-- what line n, behind these, gives a load that stops at it: it is the end record, or it is refused, or it has a first byte outside
+pub data Stops (inside : ℕ → Bool) (ahead : List (List ℕ)) (line : List ℕ) (n : ℕ) : Verdict → Type 0 where
+  the-end : (tally : Tally) → record-on line ≡ some end-of-file → tally .records ≡ data-records ahead → Stops inside ahead line n (accepted tally)
+  no-record : (r : Refusal) → line ≢ [] → judge line ≡ wrong r → Stops inside ahead line n (refused r n)
+  first-outside : (before after : List Placement) (p : Placement)
+      → states ahead (record-on line) ≡ before ++ (p ∷ after) → Every (λ (q : Placement). inside (q .address) ≡ true) before
+      → inside (p .address) ≡ false → Stops inside ahead line n (refused (outside-window (p .address)) n)
+
+-- line n of the text stops the load: each line ahead of it passes; if it accepts, what the text states is what those lines state
+pub record Decided (text : List ℕ) (inside : ℕ → Bool) (n : ℕ) (v : Verdict) : Type 0 where
+  pub ahead : List (List ℕ)
+  pub line : List ℕ
+  pub later : List (List ℕ)
+  pub whole : lines text ≡ ahead ++ (line ∷ later)
+  pub number : n ≡ suc (length ahead)
+  pub pass : All-pass inside [] ahead
+  pub stops : Stops inside ahead line n v
+  pub stated : (tally : Tally) → v ≡ accepted tally → placements text ≡ all-states [] ahead
+
+-- a window that is not refused
+pub record Window (first : ℕ) (page marks : List ℕ) : Type 0 where
+  pub even : length page ≡ length marks
+  pub small : length page ≤ 65536
+  pub below : first + length page ≤ 2 ^ 32
+
+-- the one reason for each answer
+pub data Why (text : List ℕ) (first : ℕ) (page marks : List ℕ) : Verdict → Type 0 where
+  bad-one : ¬ Window first page marks → Why text first page marks (refused bad-window 0)
+  no-end : Window first page marks → All-pass (within first (length page)) [] (lines text)
+      → Why text first page marks (refused missing-end-of-file-record 0)
+  at-line : (n : ℕ) (v : Verdict) → Window first page marks → Decided text (within first (length page)) n v → Why text first page marks v
+
+abbrev pub Reasons : Type 0
+Reasons = (text : List ℕ) (first : ℕ) (page marks : List ℕ) → Why text first page marks ((load text first page marks) .answer)
+
+-- the numbers of refusals that a load can give
+abbrev pub given : List ℕ
+given = 1 ∷ 2 ∷ 3 ∷ 4 ∷ 5 ∷ 6 ∷ 7 ∷ 8 ∷ 9 ∷ 13 ∷ 16 ∷ 17 ∷ []
+
+abbrev pub one-of : List ℕ → ℕ → Bool
+one-of [] n = false
+one-of (x ∷ xs) n = eqb n x || one-of xs n
+
+abbrev pub Among : Verdict → Type 0
+Among (accepted tally) = Unit
+Among (refused r line) = one-of given (number-of r) ≡ true
+
+abbrev pub Total : Type 0
+Total = (text : List ℕ) (first : ℕ) (page marks : List ℕ) → Among ((load text first page marks) .answer)
+
+-- ---- the contract
+
+-- what is told says which answer it was
+abbrev pub Told-apart : Type 0
+Told-apart = (a b : Loading) → told a ≡ told b → a ≡ b
+
+-- no second answer, and no second page or marks, meets the contract
+abbrev pub Load-unique : Type 0
+Load-unique =
+    (text : List ℕ) (first : ℕ) (page marks : List ℕ) (r r′ : Loading) (p p′ m m′ : List ℕ)
+    → Load text first page marks r p m → Load text first page marks r′ p′ m′ → (r ≡ r′) × (p ≡ p′) × (m ≡ m′)
+
+-- ---- examples
+
+-- document 01's load, each line with its LF
+abbrev pub example : List ℕ
+example = text ":020000021200EA" ++ (LF ∷ text ":010005007783") ++ (LF ∷ text ":00000001FF") ++ (LF ∷ [])
+
+-- a record that goes on beyond the offset FFFF, with no extension ahead of it
+abbrev pub beyond : List ℕ
+beyond = text ":02FFFF00AABB9B" ++ (LF ∷ text ":00000001FF")
+
+pub record Examples : Type 0 where
+  pub sixth-place : load example 0x12000 (replicate 8 9) (replicate 8 7)
+      ≡ record {
+        answer = accepted (record { records = 1 });
+        page = 9 ∷ 9 ∷ 9 ∷ 9 ∷ 9 ∷ 0x77 ∷ 9 ∷ 9 ∷ [];
+        marks = 0 ∷ 0 ∷ 0 ∷ 0 ∷ 0 ∷ 1 ∷ 0 ∷ 0 ∷ [];
+      }
+  pub below-it : outcome example 0x12006 (replicate 2 9) (replicate 2 7) ≡ some (by 2 (refused (outside-window 0x12005) 2))
+  pub no-wrap : placements beyond ≡ record { address = 0xFFFF; byte = 0xAA } ∷ record { address = 0x10000; byte = 0xBB } ∷ []

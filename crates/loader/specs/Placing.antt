@@ -1,0 +1,79 @@
+-- What a row of things said states: bytes at addresses, in order.
+-- Assumes nothing.
+use Prim.Native.Nat.{ℕ, suc, _+_, _*_, _%_, _^_}
+use mathlib.Core.List.{List, [], _∷_, _++_}
+use Rattle.record.specs.Refusals.{Refusal}
+use Rattle.record.specs.Line.{says, wrong}
+use Rattle.record.specs.Meaning.{Meaning, data-at, end-of-file, extended-segment, start-segment, extended-linear, start-linear, meaning}
+use Rattle.reader.specs.Row.{Numbered, on}
+
+-- a byte at an address
+pub record Placement : Type 0 where
+  pub address : ℕ
+  pub byte : ℕ
+
+-- ---- bases
+
+-- what the latest type 02 or 04 record set, if there was one
+pub data Base : Type 0 where
+  from-start : Base
+  segment : (number : ℕ) → Base
+  linear : (number : ℕ) → Base
+
+unfoldable pub base-of : Base → ℕ
+base-of from-start = 0
+base-of (segment number) = 16 * number
+base-of (linear number) = 65536 * number
+
+-- byte i of a data record lies at (base + offset + i) modulo 2^32
+unfoldable pub address-of : Base → (offset i : ℕ) → ℕ
+unfolding base-of
+address-of base offset i = (base-of base + offset + i) % 2 ^ 32
+
+-- the bytes of a data record from byte i on, each at its address
+unfoldable pub placed : Base → (offset i : ℕ) → List ℕ → List Placement
+unfolding address-of
+placed base offset i [] = []
+placed base offset i (b ∷ bytes) = record { address = address-of base offset i; byte = b } ∷ placed base offset (suc i) bytes
+
+-- the base behind a record: the latest of types 02 and 04 holds
+unfoldable pub base-behind : Base → Meaning → Base
+base-behind base (data-at offset bytes) = base
+base-behind base end-of-file = base
+base-behind base (extended-segment number) = segment number
+base-behind base (start-segment cs ip) = base
+base-behind base (extended-linear number) = linear number
+base-behind base (start-linear number) = base
+
+-- ---- steps
+
+-- what a load does at a line: data at addresses, the end, a refusal
+pub data Step : Type 0 where
+  places : (line : ℕ) (what : List Placement) → Step
+  finishes : (line : ℕ) → Step
+  fails : (line : ℕ) (r : Refusal) → Step
+
+-- the step at a record: extension and start records place nothing
+unfoldable pub step-at : (line : ℕ) → Base → Meaning → List Step
+unfolding placed
+step-at n base (data-at offset bytes) = places n (placed base offset 0 bytes) ∷ []
+step-at n base end-of-file = finishes n ∷ []
+step-at n base (extended-segment number) = []
+step-at n base (start-segment cs ip) = []
+step-at n base (extended-linear number) = []
+step-at n base (start-linear number) = []
+
+-- the steps of a row, from a base on
+unfoldable pub steps : Base → List Numbered → List Step
+unfolding step-at base-behind meaning
+steps base [] = []
+steps base (on n (says kind address payload) ∷ row) =
+    step-at n base (meaning kind address payload) ++ steps (base-behind base (meaning kind address payload)) row
+steps base (on n (wrong r) ∷ row) = fails n r ∷ steps base row
+
+-- the placements ahead of the end record (and ahead of a refusal), in order
+unfoldable pub stated : List Step → List Placement
+stated [] = []
+stated (places n what ∷ steps) = what ++ stated steps
+stated (finishes n ∷ steps) = []
+stated (fails n r ∷ steps) = []

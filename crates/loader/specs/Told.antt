@@ -1,0 +1,28 @@
+-- What the code's answer tells, in document 01's numbers, and the contract of `load`.
+-- Assumes nothing.
+use Prim.Native.Nat.{ℕ}
+use mathlib.Core.Path.{_≡_}
+use mathlib.Core.List.{List}
+use Rattle.record.specs.Refusals.{Refusal, missing-end-of-file-record, bad-window, outside-window}
+use Rattle.reader.specs.Told.{refusal-of}
+use Rattle.loader.specs.declared.LoaderError.{LoaderError}
+use Rattle.loader.specs.declared.LoaderError.the-variants.{Line, MissingEndOfFileRecord, BadWindow, OutsideWindow}
+use Rattle.loader.specs.declared.Loading.{Loading}
+use Rattle.loader.specs.declared.Loading.the-variants.{Accepted, Refused}
+use Rattle.loader.specs.Load.{Verdict, accepted, refused, load}
+
+abbrev pub refusal-by : LoaderError → Refusal
+refusal-by (Line e) = refusal-of e
+refusal-by MissingEndOfFileRecord = missing-end-of-file-record
+refusal-by BadWindow = bad-window
+refusal-by (OutsideWindow address) = outside-window address
+
+abbrev pub told : Loading → Verdict
+told (Accepted records) = accepted (record { records = records })
+told (Refused e line) = refused (refusal-by e) line
+
+-- the contract of `load`
+pub record Load (text : List ℕ) (first : ℕ) (page₀ marks₀ : List ℕ) (r : Loading) (page′ marks′ : List ℕ) : Type 0 where
+  pub answer : told r ≡ (load text first page₀ marks₀) .answer
+  pub page : page′ ≡ (load text first page₀ marks₀) .page
+  pub marks : marks′ ≡ (load text first page₀ marks₀) .marks
