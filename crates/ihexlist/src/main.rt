@@ -1,0 +1,30 @@
+// Lists the Intel HEX text on standard input, a line for each record or refusal.
+use listing::Listed;
+ghost use mathlib.Core.Path.{_≡_};
+ghost use lib.ListN.{length};
+
+// Space for an input of 65,536 bytes, and one more that tells a longer one.
+fn input() -> [u8; 65537]
+    ensures { λ r. ⌜ 65537 ≡ length r ⌝ }
+{
+    [0; 65537]
+}
+
+// Space for its listing: twice as much, and 32.
+fn output() -> [u8; 131106]
+    ensures { λ r. ⌜ 131106 ≡ length r ⌝ }
+{
+    [0; 131106]
+}
+
+fn main() {
+    let mut text = input();
+    let n = io::read_full(libc::STDIN_FILENO, &mut text);
+    let mut out = output();
+    match listing::list(&text[..n], &mut out) {
+        Listed::Wrote(m) => {
+            io::write_all(libc::STDOUT_FILENO, &out[..m]);
+        }
+        Listed::NoRoom => {}
+    }
+}

@@ -1,0 +1,7 @@
+pub mod Putting
+pub mod Decimal
+pub mod Entry
+pub mod Sizes
+pub mod Turning
+pub mod Whole
+pub mod Claims

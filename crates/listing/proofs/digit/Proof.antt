@@ -1,0 +1,24 @@
+-- `listing::digit` meets its contract, on either side of ten.
+-- Assumes nothing.
+use borrow.Author.Needs.{needs}
+use borrow.Author.Tests.{lt-ltb, le-ltb}
+use Rattle.record.specs.Written.{capital-digit}
+use Rattle.listing.proofs.digit.Statement.{statement}
+use Rattle.listing.proofs.digit.Tie as tie
+
+add-result : tie.Need-add-result
+add-result c = search needs
+
+returns : tie.Need-returns
+unfolding capital-digit
+returns c = rw (lt-ltb (c .before .args .x) 10 (c .if1 .taken))
+
+add-result-2 : tie.Need-add-result-2
+add-result-2 c = search needs
+
+returns-2 : tie.Need-returns-2
+unfolding capital-digit
+returns-2 c = rw (le-ltb (c .before .args .x) 10 (c .if1 .left))
+
+pub digit-spec : {M : Type 1} → statement M
+digit-spec = tie.close (tie.spec add-result returns add-result-2 returns-2)

@@ -1,0 +1,45 @@
+-- `listing::put_byte` meets its contract: the high digit, and the low one behind it.
+-- Assumes nothing.
+use Prim.Native.Nat.{ℕ}
+use mathlib.Core.Path.{ap₂}
+use mathlib.Core.List.{[], _∷_}
+use native.Mathlib.Omega.{arith}
+use denote.Ref.{now}
+use Rattle.record.specs.Written.{spelt}
+use Rattle.listing.proofs.Putting.{put-then, put-as}
+use borrow.Author.Needs.{needs}
+use Rattle.listing.proofs.put_byte.Statement.{statement}
+use Rattle.listing.proofs.put_byte.Tie as tie
+
+digit-requires : tie.Need-digit-requires
+digit-requires c κs = search needs
+
+put-char-requires : tie.Need-put-char-requires
+put-char-requires c κs = search needs
+
+digit-requires-2 : tie.Need-digit-requires-2
+digit-requires-2 c κs = search needs
+
+put-char-requires-2 : tie.Need-put-char-requires-2
+put-char-requires-2 c κs = search needs
+
+same-length : tie.Need-same-length
+same-length c = search needs
+
+returns : tie.Need-returns
+unfolding spelt
+returns c =
+    let a = c .before .before .before .before .before .before .before .before .before .before .before .args in
+    put-as (now (a .out)) (a .at) (ap₂ (λ (x y : ℕ). x ∷ y ∷ []) (c .before .before .before .before .before .before .before .before .before .digit .ensures) (c .before .before .before .before .digit2 .ensures))
+    (put-then (now (a .out)) (a .at) (omega (arith, c .before .before .before .before .before .before .before .before .before .before .before .pre)) (c .before .before .before .before .before .before .before .put-char .ensures) (c .before .before .put-char2 .ensures))
+
+pub put-byte-spec : {M : Type 1} → statement M
+put-byte-spec =
+    tie.close
+    (tie.spec
+    digit-requires
+    put-char-requires
+    digit-requires-2
+    put-char-requires-2
+    same-length
+    returns)

@@ -1,0 +1,72 @@
+-- What the helpers of `list` ask of and promise each other.
+-- Assumes nothing.
+use Prim.Native.Nat.{ℕ, _+_, _≤_}
+use mathlib.Core.Path.{_≡_}
+use mathlib.Core.Bool.{Bool, true, false}
+use mathlib.Core.List.{List, [], _∷_, _++_}
+use lib.ListN.{length}
+use Rattle.record.specs.Common.{text, pasted}
+use Rattle.record.specs.Refusals.{Refusal, refusal}
+use Rattle.record.specs.Written.{spelt}
+use Rattle.record.specs.Record.{meant}
+use Rattle.record.specs.declared.Record.{Record}
+use Rattle.record.specs.declared.Record.the-variants.{Data, EndOfFile, ExtendedSegmentAddress, StartSegmentAddress, ExtendedLinearAddress, StartLinearAddress}
+use Rattle.reader.specs.declared.Reply.{Reply}
+use Rattle.reader.specs.declared.Reply.the-variants.{Read, Refused, Done}
+use Rattle.reader.specs.Told.{refusal-of}
+use Rattle.listing.specs.Listing.{record-entry, refusal-entry, ended, entries, answers}
+
+-- these characters stand in the output from a place on, and the place behind them is answered
+pub record Puts (out : List ℕ) (at : ℕ) (characters : List ℕ) (r : ℕ) (out′ : List ℕ) : Type 0 where
+  pub place : r ≡ at + length characters
+  pub left : out′ ≡ pasted out at characters
+
+-- what is printed of a record of a type from 02 to 05, by the character of its type
+unfoldable pub numbered : (character : ℕ) (bytes : List ℕ) → List ℕ
+unfolding spelt
+numbered character bytes = text "X" ++ (character ∷ []) ++ text " " ++ spelt bytes
+
+abbrev pub values-of : Refusal → List ℕ
+values-of (refusal number values) = values
+
+-- a data record's payload lies in the pool
+abbrev pub In-pool : Record → (pool : List ℕ) → Type 0
+In-pool (Data offset at len) pool = at + len ≤ length pool
+In-pool EndOfFile pool = Unit
+In-pool (ExtendedSegmentAddress x) pool = Unit
+In-pool (StartSegmentAddress cs ip) pool = Unit
+In-pool (ExtendedLinearAddress x) pool = Unit
+In-pool (StartLinearAddress x) pool = Unit
+
+pub record Printable (given : Record) (pool out : List ℕ) (at : ℕ) : Type 0 where
+  pub lies : In-pool given pool
+  pub room : at + length (record-entry (meant given pool)) ≤ length out
+
+abbrev pub is-done : Reply → Bool
+is-done (Read r) = false
+is-done (Refused e) = false
+is-done Done = true
+
+-- the line of a reply
+abbrev pub shown : Reply → (pool : List ℕ) → List ℕ
+shown (Read r) pool = ended (record-entry (meant r pool))
+shown (Refused e) pool = ended (refusal-entry (refusal-of e))
+shown Done pool = []
+
+abbrev pub Lies : Reply → (pool : List ℕ) → Type 0
+Lies (Read r) pool = In-pool r pool
+Lies (Refused e) pool = Unit
+Lies Done pool = Unit
+
+pub record Fits-in (reply : Reply) (pool out : List ℕ) (at : ℕ) : Type 0 where
+  pub lies : Lies reply pool
+  pub room : at + length (shown reply pool) ≤ length out
+
+pub record HasRoom (input out : List ℕ) (at : ℕ) : Type 0 where
+  pub small : length input ≤ 65536
+  pub room : at + length (entries (answers input)) ≤ length out
+
+-- the entries of a text stand in the output from a place on
+pub record EntriesPut (input out : List ℕ) (at behind count : ℕ) (out′ : List ℕ) : Type 0 where
+  pub puts : Puts out at (entries (answers input)) behind out′
+  pub counts : count ≡ length (answers input)

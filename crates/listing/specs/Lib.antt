@@ -1,0 +1,4 @@
+pub mod Listing
+pub mod Listed
+pub mod Helpers
+pub mod Claims

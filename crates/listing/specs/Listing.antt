@@ -1,0 +1,78 @@
+-- The listing of an input: `records`, a line for each answer of the reader, and how many answers there are.
+-- Assumes nothing.
+use Prim.Native.Nat.{ℕ, zero, suc, _/_, _%_}
+use mathlib.Core.Bool.{true, false}
+use mathlib.Core.List.{List, [], _∷_, _++_}
+use lib.Dec.{ltb}
+use lib.ListN.{length}
+use Rattle.record.specs.Common.{if_then_else_, text}
+use Rattle.record.specs.Refusals.{Refusal, refusal}
+use Rattle.record.specs.Line.{Said, says, wrong}
+use Rattle.record.specs.Meaning.{Meaning, data-at, end-of-file, extended-segment, start-segment, extended-linear, start-linear, meaning}
+use Rattle.record.specs.Written.{capital-digit, spelt, two-bytes, four-bytes}
+use Rattle.reader.specs.declared.ReaderOptions.{ReaderOptions}
+use Rattle.reader.specs.Lines.{LF}
+use Rattle.reader.specs.Row.{Numbered, on, row}
+
+-- a number in decimal, of at most so many digits: the last digit stands behind those of a tenth of the number
+unfoldable pub digits : (most n : ℕ) → List ℕ
+unfolding capital-digit
+digits zero n = []
+digits (suc most) n = if ltb n 10 then capital-digit n ∷ [] else digits most (n / 10) ++ (capital-digit (n % 10) ∷ [])
+
+unfoldable pub decimal : ℕ → List ℕ
+unfolding digits
+decimal n = digits (suc n) n
+
+-- bytes in hexadecimal, each behind a space
+unfoldable pub spaced : List ℕ → List ℕ
+unfolding spelt
+spaced [] = []
+spaced (b ∷ bs) = text " " ++ spelt (b ∷ []) ++ spaced bs
+
+-- a payload behind a space; nothing where there is none
+unfoldable pub payload : List ℕ → List ℕ
+unfolding spelt
+payload [] = []
+payload (b ∷ bs) = text " " ++ spelt (b ∷ bs)
+
+-- types 02 to 05 are marked X and their type's last digit
+unfoldable pub record-entry : Meaning → List ℕ
+unfolding spelt payload
+record-entry (data-at offset bytes) = text "D " ++ spelt (two-bytes offset) ++ payload bytes
+record-entry end-of-file = text "E"
+record-entry (extended-segment number) = text "X2 " ++ spelt (two-bytes number)
+record-entry (start-segment cs ip) = text "X3 " ++ spelt (two-bytes cs ++ two-bytes ip)
+record-entry (extended-linear number) = text "X4 " ++ spelt (two-bytes number)
+record-entry (start-linear number) = text "X5 " ++ spelt (four-bytes number)
+
+unfoldable pub refusal-entry : Refusal → List ℕ
+unfolding decimal spaced
+refusal-entry (refusal number values) = text "! " ++ decimal number ++ spaced values
+
+unfoldable pub entry : Said → List ℕ
+unfolding record-entry refusal-entry meaning
+entry (says kind address payload) = record-entry (meaning kind address payload)
+entry (wrong r) = refusal-entry r
+
+-- every line ends in LF
+abbrev pub ended : List ℕ → List ℕ
+ended line = line ++ (LF ∷ [])
+
+unfoldable pub entries : List Numbered → List ℕ
+unfolding entry
+entries [] = []
+entries (on n said ∷ answers) = ended (entry said) ++ entries answers
+
+-- a refused line stops the reader no more than a record; an end record does
+abbrev pub options : ReaderOptions
+options = record { «stop_after_first_error» = false; «stop_after_eof» = true }
+
+abbrev pub answers : (input : List ℕ) → List Numbered
+answers input = row options input
+
+unfoldable pub listing : (input : List ℕ) → List ℕ
+unfolding entries decimal row
+listing input =
+    if ltb 65536 (length input) then ended (text "input too long") else
+    ended (text "records") ++ entries (answers input) ++ ended (decimal (length (answers input)) ++ text " answers")

@@ -1,0 +1,278 @@
+// The listing of a text: a line for each answer of the reader, and how many there are.
+use reader::ReaderError;
+use reader::ReaderOptions;
+use reader::Reply;
+use reader::State;
+use record::Record;
+ghost use mathlib.Core.Path.{_≡_};
+ghost use mathlib.Core.List.{[], _∷_, _++_};
+ghost use Prim.Native.Nat.{_+_, _*_, _≤_, _<_};
+ghost use lib.ListN.{length};
+ghost use Rattle.record.specs.Record.{meant};
+ghost use Rattle.record.specs.Written.{capital-digit, spelt, two-bytes};
+ghost use Rattle.record.specs.Meaning.{data-at};
+ghost use Rattle.reader.specs.Told.{refusal-of};
+ghost use Rattle.listing.specs.Listing.{decimal, spaced, record-entry, refusal-entry};
+ghost use Rattle.listing.specs.Listed.{Lists};
+ghost use Rattle.listing.specs.Helpers.{Puts, Printable, Fits-in, is-done, shown, values-of, numbered, EntriesPut, HasRoom};
+
+// What `list` answers: how many characters it wrote, or that the output may be too small.
+pub enum Listed {
+    Wrote(usize),
+    NoRoom,
+}
+
+// The place behind the entries, and how many there are.
+struct Entries {
+    at: usize,
+    count: usize,
+}
+
+// The capital digit of a value.
+fn digit(x: u8) -> u8
+    requires { ⌜ x < 16 ⌝ }
+    ensures { λ r. ⌜ r ≡ capital-digit x ⌝ }
+{
+    if x < 10 {
+        return 48 + x;
+    }
+    55 + x
+}
+
+// One character, at a place; the place behind it is answered, as by all that follow.
+fn put_char(c: u8, out: &mut [u8], at: usize) -> usize
+    requires { ⌜ at + 1 ≤ length (now out) ⌝ }
+    ensures { λ r. ⌜ Puts (now (out .entry)) at (c ∷ []) r (now (out .exit)) ⌝ }
+{
+    out[at] = c;
+    at + 1
+}
+
+// A byte as two capital digits.
+fn put_byte(b: u8, out: &mut [u8], at: usize) -> usize
+    requires { ⌜ at + 2 ≤ length (now out) ⌝ }
+    ensures { λ r. ⌜ Puts (now (out .entry)) at (spelt (b ∷ [])) r (now (out .exit)) ⌝ }
+{
+    let low = put_char(digit(b / 16), out, at);
+    put_char(digit(b % 16), out, low)
+}
+
+// Two bytes, high byte first.
+fn put_word(x: u16, out: &mut [u8], at: usize) -> usize
+    requires { ⌜ at + 4 ≤ length (now out) ⌝ }
+    ensures { λ r. ⌜ Puts (now (out .entry)) at (spelt (two-bytes x)) r (now (out .exit)) ⌝ }
+{
+    let low = put_byte((x / 256) as u8, out, at);
+    put_byte((x % 256) as u8, out, low)
+}
+
+// Characters as they are.
+fn put_text(s: &[u8], out: &mut [u8], at: usize) -> usize
+    requires { ⌜ at + length (now s) ≤ length (now out) ⌝ }
+    ensures { λ r. ⌜ Puts (now (out .entry)) at (now (s .entry)) r (now (out .exit)) ⌝ }
+{
+    let mut i = 0;
+    while i < s.len() {
+        out[at + i] = s[i];
+        i += 1;
+    }
+    at + i
+}
+
+// Bytes as capital digits.
+fn put_bytes(s: &[u8], out: &mut [u8], at: usize) -> usize
+    requires { ⌜ at + 2 * length (now s) ≤ length (now out) ⌝ }
+    ensures { λ r. ⌜ Puts (now (out .entry)) at (spelt (now (s .entry))) r (now (out .exit)) ⌝ }
+{
+    let mut place = at;
+    let mut i = 0;
+    while i < s.len() {
+        place = put_byte(s[i], out, place);
+        i += 1;
+    }
+    place
+}
+
+// A number in decimal.
+fn put_decimal(n: usize, out: &mut [u8], at: usize) -> usize
+    requires { ⌜ at + length (decimal n) ≤ length (now out) ⌝ }
+    ensures { λ r. ⌜ Puts (now (out .entry)) at (decimal n) r (now (out .exit)) ⌝ }
+{
+    if n < 10 {
+        return put_char(digit(n as u8), out, at);
+    }
+    let last = put_decimal(n / 10, out, at);
+    put_char(digit((n % 10) as u8), out, last)
+}
+
+// A data record: no space behind its address where it has no payload.
+fn put_data(offset: u16, payload: &[u8], out: &mut [u8], at: usize) -> usize
+    requires { ⌜ at + length (record-entry (data-at offset (now payload))) ≤ length (now out) ⌝ }
+    ensures { λ r. ⌜ Puts (now (out .entry)) at (record-entry (data-at offset (now (payload .entry)))) r (now (out .exit)) ⌝ }
+{
+    let address = put_text(b"D ", out, at);
+    let behind = put_word(offset, out, address);
+    if payload.len() == 0 {
+        return behind;
+    }
+    let bytes = put_char(b' ', out, behind);
+    put_bytes(payload, out, bytes)
+}
+
+// A record of a type from 02 to 05, by its type's digit: two bytes of its payload.
+fn put_numbered(kind: u8, x: u16, out: &mut [u8], at: usize) -> usize
+    requires { ⌜ at + 7 ≤ length (now out) ⌝ }
+    ensures { λ r. ⌜ Puts (now (out .entry)) at (numbered kind (two-bytes x)) r (now (out .exit)) ⌝ }
+{
+    let digit = put_char(b'X', out, at);
+    let space = put_char(kind, out, digit);
+    let number = put_char(b' ', out, space);
+    put_word(x, out, number)
+}
+
+// The same with four bytes.
+fn put_long(kind: u8, high: u16, low: u16, out: &mut [u8], at: usize) -> usize
+    requires { ⌜ at + 11 ≤ length (now out) ⌝ }
+    ensures { λ r. ⌜ Puts (now (out .entry)) at (numbered kind (two-bytes high ++ two-bytes low)) r (now (out .exit)) ⌝ }
+{
+    let rest = put_numbered(kind, high, out, at);
+    put_word(low, out, rest)
+}
+
+// A record, whose payload lies in the pool.
+fn put_record(given: Record, pool: &[u8], out: &mut [u8], at: usize) -> usize
+    requires { ⌜ Printable given (now pool) (now out) at ⌝ }
+    ensures { λ r. ⌜ Puts (now (out .entry)) at (record-entry (meant given (now (pool .entry)))) r (now (out .exit)) ⌝ }
+{
+    match given {
+        Record::Data {
+            offset,
+            at: from,
+            len,
+        } => {
+            let end = from + len;
+            put_data(offset, &pool[from..end], out, at)
+        }
+        Record::EndOfFile => put_char(b'E', out, at),
+        Record::ExtendedSegmentAddress(x) => put_numbered(b'2', x, out, at),
+        Record::StartSegmentAddress { cs, ip } => put_long(b'3', cs, ip, out, at),
+        Record::ExtendedLinearAddress(x) => put_numbered(b'4', x, out, at),
+        Record::StartLinearAddress(x) => {
+            put_long(b'5', (x / 65536) as u16, (x % 65536) as u16, out, at)
+        }
+    }
+}
+
+// A space and a byte.
+fn put_value(v: u8, out: &mut [u8], at: usize) -> usize
+    requires { ⌜ at + 3 ≤ length (now out) ⌝ }
+    ensures { λ r. ⌜ Puts (now (out .entry)) at (spaced (v ∷ [])) r (now (out .exit)) ⌝ }
+{
+    let digits = put_char(b' ', out, at);
+    put_byte(v, out, digits)
+}
+
+// The numbers of a refusal that has any.
+fn put_values(e: ReaderError, out: &mut [u8], at: usize) -> usize
+    requires { ⌜ at + length (spaced (values-of (refusal-of e))) ≤ length (now out) ⌝ }
+    ensures { λ r. ⌜ Puts (now (out .entry)) at (spaced (values-of (refusal-of e))) r (now (out .exit)) ⌝ }
+{
+    match e {
+        ReaderError::ChecksumMismatch(computed, stated) => {
+            let second = put_value(computed, out, at);
+            put_value(stated, out, second)
+        }
+        ReaderError::UnsupportedRecordType(kind) => put_value(kind, out, at),
+        ReaderError::MissingStartCode => at,
+        ReaderError::RecordTooShort => at,
+        ReaderError::RecordTooLong => at,
+        ReaderError::RecordNotEvenLength => at,
+        ReaderError::ContainsInvalidCharacters => at,
+        ReaderError::PayloadLengthMismatch => at,
+        ReaderError::InvalidLengthForType => at,
+        ReaderError::PoolFull => at,
+    }
+}
+
+// A refusal: its number, then its numbers.
+fn put_refusal(e: ReaderError, out: &mut [u8], at: usize) -> usize
+    requires { ⌜ at + length (refusal-entry (refusal-of e)) ≤ length (now out) ⌝ }
+    ensures { λ r. ⌜ Puts (now (out .entry)) at (refusal-entry (refusal-of e)) r (now (out .exit)) ⌝ }
+{
+    let number = put_text(b"! ", out, at);
+    let values = put_decimal(e.number() as usize, out, number);
+    put_values(e, out, values)
+}
+
+// Whether a reply says that nothing is left.
+fn done(reply: Reply) -> bool
+    ensures { λ r. ⌜ r ≡ is-done reply ⌝ }
+{
+    match reply {
+        Reply::Done => true,
+        Reply::Read(_) => false,
+        Reply::Refused(_) => false,
+    }
+}
+
+// The line of a reply; none of "done".
+fn put_reply(reply: Reply, pool: &[u8], out: &mut [u8], at: usize) -> usize
+    requires { ⌜ Fits-in reply (now pool) (now out) at ⌝ }
+    ensures { λ r. ⌜ Puts (now (out .entry)) at (shown reply (now (pool .entry))) r (now (out .exit)) ⌝ }
+{
+    match reply {
+        Reply::Read(given) => {
+            let end = put_record(given, pool, out, at);
+            put_char(b'\n', out, end)
+        }
+        Reply::Refused(e) => {
+            let end = put_refusal(e, out, at);
+            put_char(b'\n', out, end)
+        }
+        Reply::Done => at,
+    }
+}
+
+// A line for each answer of a reader that stops at an end record and not at a refusal. No payload is longer than the pool.
+fn put_entries(text: &[u8], out: &mut [u8], at: usize) -> Entries
+    requires { ⌜ HasRoom (now text) (now out) at ⌝ }
+    ensures { λ r. ⌜ EntriesPut (now (text .entry)) (now (out .entry)) at (r .at) (r .count) (now (out .exit)) ⌝ }
+{
+    let mut pool = [0u8; 256];
+    let mut state = State::new_with_options(ReaderOptions {
+        stop_after_first_error: false,
+        stop_after_eof: true,
+    });
+    let mut place = at;
+    let mut count = 0;
+    loop {
+        let step = state.next(text, &mut pool, 0);
+        let reply = step.reply;
+        if done(reply) {
+            return Entries { at: place, count };
+        }
+        place = put_reply(reply, &pool, out, place);
+        state = step.state;
+        count += 1;
+    }
+}
+
+// The listing of a text, at the output's beginning. A line of n bytes with its LF is listed in at most 2n characters, and the
+// first and the last line of the listing, with what a last line without LF may take, in less than 32.
+pub fn list(text: &[u8], out: &mut [u8]) -> Listed
+    ensures { λ r. ⌜ Lists (now (text .entry)) (now (out .entry)) r (now (out .exit)) ⌝ }
+{
+    if out.len() < 32 {
+        return Listed::NoRoom;
+    }
+    if (out.len() - 32) / 2 < text.len() {
+        return Listed::NoRoom;
+    }
+    if text.len() > 65536 {
+        return Listed::Wrote(put_text(b"input too long\n", out, 0));
+    }
+    let first = put_text(b"records\n", out, 0);
+    let entries = put_entries(text, out, first);
+    let last = put_decimal(entries.count, out, entries.at);
+    Listed::Wrote(put_text(b" answers\n", out, last))
+}

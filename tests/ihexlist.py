@@ -1,0 +1,260 @@
+#!/usr/bin/env python3
+"""Runs the built program ihexlist and compares what it prints to the byte. `rt check ihexlist` builds it.
+
+The expected listings are written out by hand, or made by the few lines of `listing` below, which know no code of the program.
+The last line is 'N passed, M failed'; the exit status is 1 if any failed.
+"""
+import os
+import re
+import subprocess
+import sys
+
+ROOT = os.path.dirname(os.path.dirname(os.path.abspath(__file__)))
+LIMIT = 65536
+SECONDS = 60
+
+passed = failed = 0
+
+
+def command():
+    run = os.path.join(ROOT, 'tools', 'run')
+    words = subprocess.run([run, '--command', 'ihexlist'], stdout=subprocess.PIPE, check=True, cwd=ROOT).stdout
+    return words.decode().splitlines()
+
+
+COMMAND = command()
+
+
+def told(name, ok, why=''):
+    global passed, failed
+    if ok:
+        passed += 1
+    else:
+        failed += 1
+        print('FAILED %s%s' % (name, ': ' + why if why else ''))
+
+
+def listed(name, text, expected):
+    """The program on `text`, whole on its standard input, prints `expected` and ends well."""
+    try:
+        run = subprocess.run(COMMAND, input=text, stdout=subprocess.PIPE, stderr=subprocess.PIPE, timeout=SECONDS)
+    except subprocess.TimeoutExpired:
+        return told(name, False, 'no end within %d s' % SECONDS)
+    got = run.stdout
+    if got == expected and run.returncode == 0 and run.stderr == b'':
+        return told(name, True)
+    at = next((i for i in range(min(len(got), len(expected))) if got[i] != expected[i]), min(len(got), len(expected)))
+    told(name, False, 'status %d, %d bytes for %d, they differ from byte %d on: %r for %r'
+         % (run.returncode, len(got), len(expected), at, got[at:at + 60], expected[at:at + 60]))
+
+
+def record(kind, address, payload):
+    """The line of a record, with its checksum."""
+    body = bytes([len(payload), address >> 8, address & 255, kind]) + payload
+    return b':' + (body + bytes([-sum(body) & 255])).hex().upper().encode()
+
+
+def entry(line):
+    """What document 01 has printed for a line: the rules of its table, in their order."""
+    if line[:1] != b':':
+        return b'! 1'
+    digits = line[1:]
+    if not re.fullmatch(b'[0-9A-Fa-f]*', digits):
+        return b'! 2'
+    if len(digits) < 10:
+        return b'! 3'
+    if len(digits) > 520:
+        return b'! 4'
+    if len(digits) % 2:
+        return b'! 5'
+    row = bytes.fromhex(digits.decode())
+    if sum(row) & 255:
+        return b'! 6 %02X %02X' % (-sum(row[:-1]) & 255, row[-1])
+    payload, kind = row[4:-1], row[3]
+    if row[0] != len(payload):
+        return b'! 7'
+    if kind > 5:
+        return b'! 8 %02X' % kind
+    if kind and len(payload) != (0, 0, 2, 4, 2, 4)[kind]:
+        return b'! 9'
+    shown = payload.hex().upper().encode()
+    if kind == 0:
+        return b'D ' + row[1:3].hex().upper().encode() + (b' ' + shown if shown else b'')
+    return b'E' if kind == 1 else b'X%d %s' % (kind, shown)
+
+
+def lines(text):
+    """A text cut at each LF, with one CR directly before it dropped; a last line without LF counts if it has a byte."""
+    cut = text.split(b'\n')
+    ended = [line[:-1] if line.endswith(b'\r') else line for line in cut[:-1]]
+    return ended + ([cut[-1]] if cut[-1] else [])
+
+
+def listing(text):
+    if len(text) > LIMIT:
+        return b'input too long\n'
+    out = []
+    for line in lines(text):
+        if line:
+            out.append(entry(line))
+            if out[-1] == b'E':
+                break
+    return b''.join(line + b'\n' for line in [b'records'] + out + [b'%d answers' % len(out)])
+
+
+def of(*entries):
+    """A listing of these entries."""
+    return b''.join(line + b'\n' for line in (b'records',) + entries + (b'%d answers' % len(entries),))
+
+
+END = b':00000001FF'
+
+# ---- document 01's example
+
+with open(os.path.join(ROOT, 'crates', 'ihexlist', 'stdin'), 'rb') as f:
+    EXAMPLE = f.read()
+told('the example is document 01\'s', EXAMPLE == b':04012000102030403B\n\n:00000001FE\n:00000001FF\n')
+listed('document 01\'s example', EXAMPLE, b'records\nD 0120 10203040\n! 6 FF FE\nE\n3 answers\n')
+
+# ---- line ends and sizes
+
+listed('empty input', b'', b'records\n0 answers\n')
+listed('one LF', b'\n', b'records\n0 answers\n')
+listed('empty lines only', b'\n\r\n\n\r\n', b'records\n0 answers\n')
+listed('one answer', END + b'\n', b'records\nE\n1 answers\n')
+listed('no LF at the end', b':0100000041BE\n' + END, of(b'D 0000 41', b'E'))
+listed('CR LF', b':0100000041BE\r\n\r\n' + END + b'\r\n', of(b'D 0000 41', b'E'))
+listed('CR CR LF', b'\r\r\n' + END + b'\r\r\n' + END + b'\n', of(b'! 1', b'! 2', b'E'))
+listed('CR at the end of the text', END + b'\r', of(b'! 2'))
+listed('CR inside a line', b':00000\r001FF\n', of(b'! 2'))
+listed('space before a colon, and behind a line', b' ' + END + b'\n' + END + b' \n', of(b'! 1', b'! 2'))
+
+full = record(0, 0x1234, bytes(range(256))[:255])
+many = (full + b'\n') * (LIMIT // (len(full) + 1))
+exact = many + b'\n' * (LIMIT - len(many))
+told('a text of 65,536 bytes', len(exact) == LIMIT)
+listed('exactly 65,536 bytes', exact, listing(exact))
+listed('65,537 bytes', exact + b'\n', b'input too long\n')
+listed('65,537 bytes with an end record in front', (END + b'\n' + exact)[:LIMIT + 1], b'input too long\n')
+listed('200,000 bytes', b'\n' * 200000, b'input too long\n')
+listed('65,536 bytes in one line without LF', b':' + b'0' * (LIMIT - 1), of(b'! 4'))
+listed('65,536 LF', b'\n' * LIMIT, b'records\n0 answers\n')
+
+# the lines that expand most: one byte and an LF, four characters
+listed('the longest listing', b'x\n' * (LIMIT // 2), b'records\n' + b'! 1\n' * (LIMIT // 2) + b'32768 answers\n')
+listed('the longest listing without the last LF', b'x\n' * (LIMIT // 2 - 1) + b'x', b'records\n' + b'! 1\n' * (LIMIT // 2) + b'32768 answers\n')
+
+# ---- bytes
+
+listed('NUL', b':0000000\x001FF\n\x00\n' + END + b'\n', of(b'! 2', b'! 1', b'E'))
+listed('FF and bytes that are no UTF-8', b'\xff\n:\xff\xfe\n:\xc3\x28000001FF\n:\xf0\x9f\x98\x80\n', of(b'! 1', b'! 2', b'! 2', b'! 2'))
+each = b''.join(b':' + bytes([c]) * 10 + b'\n' for c in range(256) if c != 10)
+listed('each byte as a digit', each, listing(each))
+listed('lower-case digits', b':04012000aabbccddcd\n:020000041aBc24\n:00000001fe\n', of(b'D 0120 AABBCCDD', b'X4 1ABC', b'! 6 FF FE'))
+listed('lower-case is printed in capitals', record(0, 0xabcd, b'\xef').lower() + b'\n', of(b'D ABCD EF'))
+
+# ---- types
+
+listed('all types',
+       b'\n'.join([record(0, 0x0120, b'\x10\x20\x30\x40'), record(0, 0xffff, b''), record(2, 0, b'\x12\x00'),
+                   record(3, 0, b'\x00\x00\x38\x00'), record(4, 0, b'\xff\xff'), record(5, 0, b'\x00\x00\x00\xcd'), END]) + b'\n',
+       of(b'D 0120 10203040', b'D FFFF', b'X2 1200', b'X3 00003800', b'X4 FFFF', b'X5 000000CD', b'E'))
+listed('an address where it is ignored', record(4, 0x1234, b'\x08\x00') + b'\n:00123401B9\n', of(b'X4 0800', b'E'))
+listed('a payload of 255 bytes', full + b'\n', of(b'D 1234 ' + bytes(range(255)).hex().upper().encode()))
+
+# ---- refusals 1 to 9, each alone
+
+for number, line, values in [
+        (1, b'00000001FF', b''), (2, b':0000000GFF', b''), (3, b':00000001F', b''), (3, b':', b''), (3, b':0100000', b''),
+        (4, b':' + b'0' * 521, b''), (4, b':' + b'0' * 522, b''), (5, b':00000001FF0', b''), (6, b':00000001FE', b' FF FE'),
+        (7, b':01000000FF', b''), (7, b':01000006F9', b''), (8, b':00000006FA', b' 06'), (9, b':0100000100FE', b'')]:
+    listed('refusal %d of %r' % (number, line[:14]), line + b'\n', of(b'! %d' % number + values))
+    listed('refusal %d of %r, no LF' % (number, line[:14]), line, of(b'! %d' % number + values))
+listed('a refused line does not stop', b'x\n:\n' + END + b'\n', of(b'! 1', b'! 3', b'E'))
+
+# ---- the incident: a new dump, and behind its end record the tail of an old one
+
+new = b''.join(record(0, 16 * i, bytes([i] * 16)) + b'\n' for i in range(40)) + END + b'\n'
+old = b''.join(record(0, 16 * i, b'\xdd' * 16) + b'\n' for i in range(30, 90)) + END + b'\n'
+listed('the tail of an old dump', new + old, listing(new))
+listed('a tail that begins in the middle of a line', new + old[17:], listing(new))
+told('nothing of the old dump is printed', b'DDDD' not in listing(new + old) and listing(new + old) == listing(new))
+listed('a second end record', END + b'\n' + END + b'\n', of(b'E'))
+listed('rubbish behind the end record', END + b'\nx\n\xff\n:00000001FE\n', of(b'E'))
+
+# ---- the sample
+
+with open(os.path.join(ROOT, 'samples', 'tank.hex'), 'rb') as f:
+    TANK = f.read()
+listed('samples/tank.hex', TANK, listing(TANK))
+told('the sample has no refusal', b'!' not in listing(TANK) and listing(TANK).count(b'\nE\n') == 1)
+
+# ---- standard input and output that are slow, closed or broken: the program ends
+
+
+def ends(name, ok, **files):
+    try:
+        run = subprocess.run(COMMAND, timeout=SECONDS, stderr=subprocess.DEVNULL, **files)
+    except subprocess.TimeoutExpired:
+        return told(name, False, 'no end within %d s' % SECONDS)
+    told(name, ok(run), 'status %d, wrote %r' % (run.returncode, (run.stdout or b'')[:60]))
+
+
+def in_pieces(name, text, size):
+    child = subprocess.Popen(COMMAND, stdin=subprocess.PIPE, stdout=subprocess.PIPE)
+    for i in range(0, len(text), size):
+        child.stdin.write(text[i:i + size])
+        child.stdin.flush()
+    try:
+        out, _ = child.communicate(timeout=SECONDS)
+    except subprocess.TimeoutExpired:
+        child.kill()
+        return told(name, False, 'no end within %d s' % SECONDS)
+    told(name, out == listing(text) and child.returncode == 0)
+
+
+in_pieces('input in pieces of 7 bytes', new + old, 7)
+in_pieces('input in pieces of 4,097 bytes', exact, 4097)
+ends('a closed standard input', lambda run: run.stdout == b'records\n0 answers\n', stdout=subprocess.PIPE, preexec_fn=lambda: os.close(0))
+ends('a directory as standard input', lambda run: run.stdout == b'records\n0 answers\n', stdin=os.open(ROOT, os.O_RDONLY), stdout=subprocess.PIPE)
+ends('a closed standard output', lambda run: run.returncode == 0, input=EXAMPLE, preexec_fn=lambda: os.close(1))
+if os.path.exists('/dev/full'):
+    ends('a full device', lambda run: run.returncode == 0, input=EXAMPLE, stdout=open('/dev/full', 'wb'))
+
+# nobody reads the other end: the write fails or the signal SIGPIPE ends the program, and neither hangs
+reads, writes = os.pipe()
+os.close(reads)
+ends('a broken pipe', lambda run: run.returncode in (0, -13, 141), input=b'x\n' * (LIMIT // 2), stdout=writes)
+os.close(writes)
+
+# a reader that takes a little and then goes: more is written than a pipe holds
+reads, writes = os.pipe()
+child = subprocess.Popen(COMMAND, stdin=subprocess.PIPE, stdout=writes, stderr=subprocess.DEVNULL)
+os.close(writes)
+child.stdin.write(b'x\n' * (LIMIT // 2))
+child.stdin.close()
+first = os.read(reads, 8)
+os.close(reads)
+try:
+    told('a pipe that breaks midway', first == b'records\n' and child.wait(timeout=SECONDS) in (0, -13, 141), 'status %s, %r' % (child.returncode, first))
+except subprocess.TimeoutExpired:
+    child.kill()
+    told('a pipe that breaks midway', False, 'no end within %d s' % SECONDS)
+
+# a reader that is slow: the program writes all, also in short writes
+reads, writes = os.pipe()
+child = subprocess.Popen(COMMAND, stdin=subprocess.PIPE, stdout=writes)
+os.close(writes)
+child.stdin.write(b'x\n' * (LIMIT // 2))
+child.stdin.close()
+got = b''
+while True:
+    piece = os.read(reads, 1000)
+    if not piece:
+        break
+    got += piece
+os.close(reads)
+told('a slow reader', got == listing(b'x\n' * (LIMIT // 2)) and child.wait(timeout=SECONDS) == 0)
+
+print('%d passed, %d failed' % (passed, failed))
+sys.exit(1 if failed else 0)
