@@ -1,0 +1,57 @@
+-- No second answer meets the contract of an entry point.
+-- Assumes nothing.
+use Prim.Native.Nat.{ℕ}
+use mathlib.Core.Path.{_≡_, refl, sym, _∙_}
+use mathlib.Core.Option.{Option}
+use mathlib.Core.List.{List}
+use Rattle.writer.specs.Text.{Text}
+use Rattle.ihex.specs.Codes.{Message}
+use Rattle.ihex.specs.Entry.{records-of}
+use Rattle.ihex.specs.Entries.{Numbers, Wrote-text}
+use Rattle.ihex.specs.Claims.{Ihex-checksum-unique, Ihex-read-record-unique, Ihex-next-unique, Ihex-to-record-string-unique, Ihex-create-object-file-representation-unique, Ihex-load-unique, List-examples}
+
+pub ihex-checksum-unique : Ihex-checksum-unique
+ihex-checksum-unique bytes r r′ x y = x .answer ∙ sym (y .answer)
+
+same-numbers : {m : Message} {r a b c r′ a′ b′ c′ : ℕ} → Numbers m r a b c → Numbers m r′ a′ b′ c′ → (r ≡ r′) × (a ≡ a′) × (b ≡ b′) × (c ≡ c′)
+same-numbers x y = (x .code-is ∙ sym (y .code-is), x .a-is ∙ sym (y .a-is), x .b-is ∙ sym (y .b-is), x .c-is ∙ sym (y .c-is))
+
+pub ihex-read-record-unique : Ihex-read-record-unique
+ihex-read-record-unique line pool at r a b c p r′ a′ b′ c′ p′ x y = (same-numbers (x .answer) (y .answer), x .left ∙ sym (y .left))
+
+pub ihex-next-unique : Ihex-next-unique
+ihex-next-unique s text pool at r i l f a b c p r′ i′ l′ f′ a′ b′ c′ p′ x y = (
+  same-numbers (x .answer) (y .answer),
+  (x .position-is ∙ sym (y .position-is), x .line-is ∙ sym (y .line-is), x .flags-is ∙ sym (y .flags-is)),
+  x .left ∙ sym (y .left),
+)
+
+same-text : {t : Option Text} {out : List ℕ} {r v : ℕ} {o : List ℕ} {r′ v′ : ℕ} {o′ : List ℕ}
+    → Wrote-text t out r v o → Wrote-text t out r′ v′ o′ → (r ≡ r′) × (v ≡ v′) × (o ≡ o′)
+same-text x y = (x .code-is ∙ sym (y .code-is), x .value-is ∙ sym (y .value-is), x .left ∙ sym (y .left))
+
+pub ihex-to-record-string-unique : Ihex-to-record-string-unique
+ihex-to-record-string-unique kind number second at len pool out r v o r′ v′ o′ x y = same-text x y
+
+pub ihex-create-object-file-representation-unique : Ihex-create-object-file-representation-unique
+ihex-create-object-file-representation-unique list pool out r v o r′ v′ o′ x y = same-text x y
+
+pub ihex-load-unique : Ihex-load-unique
+ihex-load-unique text first page marks r l a b p m r′ l′ a′ b′ p′ m′ x y = (
+  (x .code-is ∙ sym (y .code-is), x .line-is ∙ sym (y .line-is), x .a-is ∙ sym (y .a-is), x .b-is ∙ sym (y .b-is)),
+  x .page-is ∙ sym (y .page-is),
+  x .marks-is ∙ sym (y .marks-is),
+)
+
+pub list-examples : List-examples
+unfolding records-of
+list-examples =
+    record {
+      empty = refl;
+      data-then-end = refl;
+      start-segment = refl;
+      start-linear = refl;
+      over = refl;
+      unknown = refl;
+      cut = refl;
+    }

@@ -1,0 +1,5 @@
+pub mod Codes
+pub mod Texts
+pub mod Listing
+pub mod Claims
+pub mod RoundTrip

@@ -1,0 +1,47 @@
+-- `ihex::ihex_load` meets its contract: the loader's answer, in numbers.
+-- Assumes nothing.
+use mathlib.Core.Path.{_∙_, ap}
+use Rattle.ihex.specs.Codes.{loading, line-at}
+use Rattle.ihex.proofs.Codes.{coded}
+use borrow.Author.Needs.{needs}
+use Rattle.ihex.proofs.ihex_load.Statement.{statement}
+use Rattle.ihex.proofs.ihex_load.Tie as tie
+
+load-requires : tie.Need-load-requires
+load-requires c κs = search needs
+
+code-loading-requires : tie.Need-code-loading-requires
+code-loading-requires c κs = search needs
+
+line-of-requires : tie.Need-line-of-requires
+line-of-requires c κs = search needs
+
+same-length : tie.Need-same-length
+same-length c = search needs
+
+same-length-2 : tie.Need-same-length-2
+same-length-2 c = search needs
+
+returns : tie.Need-returns
+returns c =
+    let l = c .before .before .before .before .before .before .load .ensures in
+    let k = coded (ap loading (l .answer)) (c .before .code-loading .ensures) in
+    record {
+      code-is = k .code-is;
+      line-is = c .line-of .ensures ∙ ap line-at (l .answer);
+      a-is = k .a-is;
+      b-is = k .b-is;
+      page-is = l .page;
+      marks-is = l .marks;
+    }
+
+pub ihex-load-spec : {M : Type 1} → statement M
+ihex-load-spec =
+    tie.close
+    (tie.spec
+    load-requires
+    code-loading-requires
+    line-of-requires
+    same-length
+    same-length-2
+    returns)

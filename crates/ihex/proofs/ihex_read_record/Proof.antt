@@ -1,0 +1,24 @@
+-- `ihex::ihex_read_record` meets its contract: the record reader's answer, in numbers.
+-- Assumes nothing.
+use Rattle.ihex.proofs.Codes.{numbers}
+use borrow.Author.Needs.{needs}
+use Rattle.ihex.proofs.ihex_read_record.Statement.{statement}
+use Rattle.ihex.proofs.ihex_read_record.Tie as tie
+
+read-record-requires : tie.Need-read-record-requires
+read-record-requires c κs = search needs
+
+code-answer-requires : tie.Need-code-answer-requires
+code-answer-requires c κs = search needs
+
+same-length : tie.Need-same-length
+same-length c = search needs
+
+returns : tie.Need-returns
+returns c =
+    let r = c .before .before .before .read-record in
+    record { answer = numbers (r .ensures .answer) (c .code-answer .ensures); left = r .ensures .left }
+
+pub ihex-read-record-spec : {M : Type 1} → statement M
+ihex-read-record-spec =
+    tie.close (tie.spec read-record-requires code-answer-requires same-length returns)

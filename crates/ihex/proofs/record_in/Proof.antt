@@ -1,0 +1,27 @@
+-- `ihex::record_in` meets its contract: the entry is one that is a record.
+-- Assumes nothing.
+use mathlib.Core.Path.{sym, _∙_, ap}
+use Rattle.ihex.specs.Entry.{given}
+use Rattle.ihex.proofs.Listing.{some-none}
+use borrow.Author.Needs.{needs}
+use Rattle.ihex.proofs.record_in.Statement.{statement}
+use Rattle.ihex.proofs.record_in.Tie as tie
+
+entry-at-requires : tie.Need-entry-at-requires
+entry-at-requires c κs = search needs
+
+enum-known-entry : tie.Need-enum-known-entry
+enum-known-entry c = search needs
+
+enum-told : tie.Need-enum-told
+enum-told c = search needs
+
+returns : tie.Need-returns
+returns c = sym (c .before .before .before .entry-at .ensures) ∙ ap given (c .before .entry .given .1)
+
+returns-2 : tie.Need-returns-2
+returns-2 c = some-none (c .before .before .before .before .pre .read) (sym (c .before .before .entry-at .ensures) ∙ ap given (c .enum-told .given .1))
+
+pub record-in-spec : {M : Type 1} → statement M
+record-in-spec =
+    tie.close (tie.spec entry-at-requires enum-known-entry enum-told returns returns-2)

@@ -1,0 +1,69 @@
+-- The contracts of the C entry points: what their numbers and buffers hold at exit, by what the library's own functions answer.
+-- Assumes nothing.
+use Prim.Native.Nat.{ℕ}
+use mathlib.Core.Path.{_≡_}
+use mathlib.Core.Option.{Option, none, some, Option·map}
+use mathlib.Core.List.{List}
+use lib.ListN.{length}
+use Rattle.record.specs.Line.{judge}
+use Rattle.record.specs.declared.Record.{Record}
+use Rattle.reader.specs.declared.State.{State}
+use Rattle.reader.specs.Answer.{answered, poured}
+use Rattle.reader.specs.Text.{outcome}
+use Rattle.writer.specs.Told.{Told as Told-written}
+use Rattle.writer.specs.Text.{Text, behind, within, placed}
+use Rattle.writer.specs.Line.{line-text}
+use Rattle.writer.specs.Object.{object}
+use Rattle.loader.specs.Load.{load}
+use Rattle.ihex.specs.Codes.{Message, value, reading, writing, loading, line-at, flags-of}
+use Rattle.ihex.specs.Entry.{record-of, records-of}
+
+-- an answer in four numbers
+pub record Numbers (m : Message) (r a b c : ℕ) : Type 0 where
+  pub code-is : r ≡ m .code
+  pub a-is : a ≡ value m 0
+  pub b-is : b ≡ value m 1
+  pub c-is : c ≡ value m 2
+
+pub record IhexReadRecord (line pool : List ℕ) (at r a b c : ℕ) (pool′ : List ℕ) : Type 0 where
+  pub answer : Numbers (reading (answered (judge line) (length pool) at)) r a b c
+  pub left : pool′ ≡ poured (judge line) pool at
+
+pub record IhexNext (s : State) (text pool : List ℕ) (at r position line flags a b c : ℕ) (pool′ : List ℕ) : Type 0 where
+  pub answer : Numbers (reading (outcome s text pool at .told)) r a b c
+  pub position-is : position ≡ outcome s text pool at .state .position
+  pub line-is : line ≡ outcome s text pool at .state .line
+  pub flags-is : flags ≡ flags-of (outcome s text pool at .state)
+  pub left : pool′ ≡ outcome s text pool at .pool
+
+-- what is answered for a text that is to be written from the output's start on; there is none where what was given is no record
+abbrev pub told-of : Option Text → (room : ℕ) → Option Told-written
+told-of none room = none
+told-of (some t) room = some (within (behind t 0) room)
+
+-- the output with that text, if it has the room
+abbrev pub output-with : Option Text → (out : List ℕ) → List ℕ
+output-with none out = out
+output-with (some t) out = placed t out 0
+
+-- a text, if there is one, was written: an answer in two numbers, and the output
+pub record Wrote-text (t : Option Text) (out : List ℕ) (r v : ℕ) (out′ : List ℕ) : Type 0 where
+  pub code-is : r ≡ writing (told-of t (length out)) .code
+  pub value-is : v ≡ value (writing (told-of t (length out))) 0
+  pub left : out′ ≡ output-with t out
+
+abbrev pub IhexToRecordString : (kind number second at len : ℕ) (pool out : List ℕ) (r v : ℕ) (out′ : List ℕ) → Type 0
+IhexToRecordString kind number second at len pool out r v out′ =
+    Wrote-text (Option·map (λ (x : Record). line-text x pool) (record-of kind number second at len)) out r v out′
+
+abbrev pub IhexCreateObjectFileRepresentation : (list pool out : List ℕ) (r v : ℕ) (out′ : List ℕ) → Type 0
+IhexCreateObjectFileRepresentation list pool out r v out′ =
+    Wrote-text (Option·map (λ (rs : List Record). object rs pool) (records-of list)) out r v out′
+
+pub record IhexLoad (text : List ℕ) (first : ℕ) (page marks : List ℕ) (r line a b : ℕ) (page′ marks′ : List ℕ) : Type 0 where
+  pub code-is : r ≡ loading (load text first page marks .answer) .code
+  pub line-is : line ≡ line-at (load text first page marks .answer)
+  pub a-is : a ≡ value (loading (load text first page marks .answer)) 0
+  pub b-is : b ≡ value (loading (load text first page marks .answer)) 1
+  pub page-is : page′ ≡ load text first page marks .page
+  pub marks-is : marks′ ≡ load text first page marks .marks

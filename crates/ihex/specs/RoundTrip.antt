@@ -1,0 +1,52 @@
+-- A written object, read again: the same records with the same payloads, then "done".
+-- Assumes nothing.
+use Prim.Native.Nat.{ℕ, suc, _+_, _^_, _≤_, _<_}
+use mathlib.Core.Path.{_≡_}
+use mathlib.Core.Bool.{false}
+use mathlib.Core.List.{List, [], _∷_}
+use lib.ListN.{length}
+use Rattle.record.specs.Common.{Every, Byte}
+use Rattle.record.specs.declared.Record.{Record}
+use Rattle.record.specs.Record.{meant}
+use Rattle.record.specs.Line.{Said, says}
+use Rattle.record.specs.Meaning.{Meaning}
+use Rattle.record.specs.Written.{kind-of, address-of, payload-of}
+use Rattle.reader.specs.declared.Answer.the-variants.{Read}
+use Rattle.reader.specs.Told.{done, told}
+use Rattle.reader.specs.Row.{Numbered, on, row}
+use Rattle.reader.specs.Text.{is-full, default-options, new-state}
+use Rattle.reader.specs.Calls.{Call, Given, Calls}
+use Rattle.writer.specs.Text.{chars}
+use Rattle.writer.specs.Object.{object}
+use Rattle.writer.specs.Claims.{In-range}
+
+-- what a record's line says
+abbrev pub said-of : Meaning → Said
+said-of m = says (kind-of m) (address-of m) (payload-of m)
+
+-- what the lines of these records say, numbered from n on
+unfoldable pub spoken : ℕ → List Record → (pool : List ℕ) → List Numbered
+spoken n [] pool = []
+spoken n (r ∷ rs) pool = on n (said-of (meant r pool)) ∷ spoken (suc n) rs pool
+
+-- the reader's row over an object's text is its records, each on a line of its own
+abbrev pub Same-row : Type 0
+Same-row =
+    (rs : List Record) (pool cs : List ℕ) → Every In-range rs → Every Byte pool → object rs pool ≡ chars cs
+    → row default-options cs ≡ spoken 1 rs pool
+
+-- calls were given these records, each with the same numbers and payload, and then "done"
+abbrev pub Again : List Record → (pool : List ℕ) → List Call → List Given → Type 0
+Again rs pool [] [] = Unit
+Again rs pool [] (g ∷ gs) = ⊥
+Again rs pool (call ∷ calls) [] = ⊥
+Again [] pool (call ∷ calls) (g ∷ gs) = (g .told ≡ done) × Again [] pool calls gs
+Again (r ∷ rs) pool (call ∷ calls) (g ∷ gs) =
+    ((r′ : Record) × (g .told ≡ told (Read r′)) × (meant r′ (g .pool) ≡ meant r pool)) × Again rs pool calls gs
+
+-- with both stops on, and room in the pool: no call is told PoolFull
+abbrev pub Round-trip : Type 0
+Round-trip =
+    (rs : List Record) (pool cs : List ℕ) → Every In-range rs → Every Byte pool → object rs pool ≡ chars cs → length cs < 2 ^ 64
+    → (calls : List Call) (givens : List Given) → Every (λ (g : Given). is-full (g .told) ≡ false) givens
+    → Calls cs (new-state default-options) calls givens → Again rs pool calls givens

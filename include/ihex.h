@@ -1,0 +1,119 @@
+/* Intel's hexadecimal object file format: the functions of libihex.a, on numbers and bytes.
+ *
+ * Each function is proved to do what is said of it here, for all inputs. What it leaves to its caller:
+ * - A slice is a pointer and a length in bytes, below 2^63; with the length 0 the pointer is not used and may be null.
+ * - A pointer to a number is not null. Nothing that a function writes overlaps anything else that it is given.
+ *
+ * No function allocates or keeps anything, and a refusal changes no byte of any slice.
+ */
+#ifndef IHEX_H
+#define IHEX_H
+
+#include <stddef.h>
+#include <stdint.h>
+
+#ifdef __cplusplus
+extern "C" {
+#endif
+
+/* The types of records: what a reader returns for a record, with its values in a, b and c (0 where there is none). */
+#define IHEX_DATA 0                     /* a: offset; b, c: position and length of the payload in the pool */
+#define IHEX_END_OF_FILE 1              /* no values */
+#define IHEX_EXTENDED_SEGMENT_ADDRESS 2 /* a: bits 4 to 19 of the segment base address */
+#define IHEX_START_SEGMENT_ADDRESS 3    /* a: CS; b: IP */
+#define IHEX_EXTENDED_LINEAR_ADDRESS 4  /* a: bits 16 to 31 of the linear base address */
+#define IHEX_START_LINEAR_ADDRESS 5     /* a: EIP */
+
+/* The other codes that are returned. */
+#define IHEX_OK 0             /* a writer wrote all, a load was accepted */
+#define IHEX_REFUSED 256      /* and the number of a refusal, below */
+#define IHEX_DONE 512         /* the text has no more answers */
+#define IHEX_BAD_RECORD 1024  /* what is to be written is no record; no values */
+
+/* The refusals: their numbers, and their values (0 where there is none). */
+#define IHEX_MISSING_START_CODE 1           /* the line's first byte is no colon, or there is none */
+#define IHEX_CONTAINS_INVALID_CHARACTERS 2  /* a byte behind the colon is no digit */
+#define IHEX_RECORD_TOO_SHORT 3             /* under 10 digits */
+#define IHEX_RECORD_TOO_LONG 4              /* over 520 digits */
+#define IHEX_RECORD_NOT_EVEN_LENGTH 5       /* an odd number of digits */
+#define IHEX_CHECKSUM_MISMATCH 6            /* a: computed; b: stated */
+#define IHEX_PAYLOAD_LENGTH_MISMATCH 7      /* the length byte is not the payload's length */
+#define IHEX_UNSUPPORTED_RECORD_TYPE 8      /* a: the type, which is over 05 */
+#define IHEX_INVALID_LENGTH_FOR_TYPE 9      /* a payload of the wrong size for 01 to 05 */
+#define IHEX_POOL_FULL 10                   /* a good data record; position + length exceeds the pool */
+#define IHEX_PAYLOAD_OUTSIDE_POOL 11        /* a record to be written; position + length exceeds the pool */
+#define IHEX_DATA_EXCEEDS_MAXIMUM_LENGTH 12 /* a payload over 255 bytes; a, or value: its length */
+#define IHEX_MISSING_END_OF_FILE_RECORD 13  /* the list's last record is no end; the text has no end record */
+#define IHEX_MULTIPLE_END_OF_FILE_RECORDS 14 /* a, or value: how many end records the list has */
+#define IHEX_OUTPUT_FULL 15                 /* the whole result is longer than the output */
+#define IHEX_BAD_WINDOW 16                  /* page and marks differ in length, or the window is too large */
+#define IHEX_OUTSIDE_WINDOW 17              /* a: the address of a data record's first byte that lies outside */
+
+/* The flags of ihex_next. The other bits are not read, and are 0 at exit. */
+#define IHEX_STOP_AFTER_FIRST_ERROR 1 /* after a refused line, only "done" */
+#define IHEX_STOP_AFTER_EOF 2         /* after an end record, only "done" */
+#define IHEX_FINISHED 4               /* only "done" */
+
+/* A payload has at most so many bytes, and a line at most so many characters, without its line end. */
+#define IHEX_MAX_PAYLOAD 255
+#define IHEX_MAX_LINE 521
+
+/* A page has at most so many places. */
+#define IHEX_MAX_PAGE 65536
+
+/* A record in a list. Its 24 bytes, each number low byte first: 0 type, 1 not read, 2 and 3 second, 4 to 7 number,
+ * 8 to 15 at, 16 to 23 len; so on a little-endian machine a list is an array of this struct. */
+struct ihex_record {
+    uint8_t type;    /* 0 to 5, above */
+    uint8_t unused;  /* not read */
+    uint16_t second; /* type 03: IP */
+    uint32_t number; /* type 00: the offset; 02, 04, 05: the number; 03: CS. Over 65,535 only for 01 and 05 */
+    uint64_t at;     /* type 00: the payload's position in the pool */
+    uint64_t len;    /* type 00: the payload's length */
+};
+
+#define IHEX_RECORD_SIZE 24
+
+/* The sum of the bytes, left to wrap at 256, then negated modulo 256.
+ * Of no bytes it is 0. */
+uint8_t ihex_checksum(const uint8_t *bytes, size_t bytes_len);
+
+/* Reads one line, without its line end: returns the record's type, or IHEX_REFUSED and the first of 1 to 10 that holds.
+ * The payload of a data record goes into the pool from `at` on, and no other byte changes; a, b and c are the values. */
+uint32_t ihex_read_record(const uint8_t *line, size_t line_len,
+                          uint8_t *pool, size_t pool_len, size_t at,
+                          uint64_t *a, uint64_t *b, uint64_t *c);
+
+/* Reads the next line that has a byte as ihex_read_record does, or returns IHEX_DONE, and moves the state: position, line, flags.
+ * A state begins with 0, 0 and the stops; line is the line's number. After IHEX_POOL_FULL the state is as it was. */
+uint32_t ihex_next(const uint8_t *text, size_t text_len,
+                   uint8_t *pool, size_t pool_len, size_t at,
+                   size_t *position, size_t *line, uint8_t *flags,
+                   uint64_t *a, uint64_t *b, uint64_t *c);
+
+/* Writes a record's line, without a line end, from the output's start on: returns 0 and its length as the value,
+ * or IHEX_BAD_RECORD, or IHEX_REFUSED and the first of 11, 12, 15 that holds. The fields are those of ihex_record. */
+uint32_t ihex_to_record_string(uint8_t type, uint32_t number, uint16_t second, size_t at, size_t len,
+                               const uint8_t *pool, size_t pool_len,
+                               uint8_t *out, size_t out_len,
+                               uint64_t *value);
+
+/* Writes a list of records, one LF behind each: returns 0 and the text's length as the value, or IHEX_BAD_RECORD for
+ * bytes that are no list of ihex_record, or IHEX_REFUSED and 13, 14, the first record's 11 or 12, or 15, in this order. */
+uint32_t ihex_create_object_file_representation(const void *list, size_t list_len,
+                                                const uint8_t *pool, size_t pool_len,
+                                                uint8_t *out, size_t out_len,
+                                                uint64_t *value);
+
+/* Loads a text, both stops on, into a page from the address `first` on; marks become 1 where it states a byte, else 0. Returns 0
+ * and counts data records in a; or IHEX_REFUSED and 16, the first line's 1 to 9 or 17, with its number in line (else 0), or 13. */
+uint32_t ihex_load(const uint8_t *text, size_t text_len, uint32_t first,
+                   uint8_t *page, size_t page_len,
+                   uint8_t *marks, size_t marks_len,
+                   size_t *line, uint64_t *a, uint64_t *b);
+
+#ifdef __cplusplus
+}
+#endif
+
+#endif

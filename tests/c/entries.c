@@ -1,0 +1,629 @@
+/* Calls each function of ihex.h on telling inputs, with guard bytes around every buffer and number that is lent.
+ * The last line is 'N passed, M failed'. */
+#include <ihex.h>
+#include <stdio.h>
+#include <string.h>
+
+static int passed, failed;
+
+static void check(int holds, int line, const char *what)
+{
+    if (holds) {
+        passed++;
+        return;
+    }
+    failed++;
+    printf("entries.c:%d: %s\n", line, what);
+}
+
+#define CHECK(holds) check((holds), __LINE__, #holds)
+
+/* ---- what is lent, between guards */
+
+#define MOST 70000
+#define EDGE 64
+#define GUARD 0xA5
+#define OLD 0x5C
+
+struct lent {
+    size_t len;
+    uint8_t all[EDGE + MOST + EDGE];
+};
+
+static struct lent pool_, out_, page_, marks_, text_, list_;
+
+/* the place of `len` bytes, each OLD; null where there is none */
+static uint8_t *lend(struct lent *l, size_t len)
+{
+    memset(l->all, GUARD, sizeof l->all);
+    memset(l->all + EDGE, OLD, len);
+    l->len = len;
+    return len ? l->all + EDGE : NULL;
+}
+
+/* bytes that are only read, which end where the guards begin */
+static const uint8_t *given(struct lent *l, const void *bytes, size_t len)
+{
+    uint8_t *place = lend(l, len);
+    if (len)
+        memcpy(place, bytes, len);
+    return place;
+}
+
+/* the guards stand, and all bytes are as they were but `n` from `at` on, which are these */
+static int holds(const struct lent *l, size_t at, const void *bytes, size_t n)
+{
+    size_t i;
+    for (i = 0; i < EDGE; i++)
+        if (l->all[i] != GUARD)
+            return 0;
+    for (i = EDGE + l->len; i < sizeof l->all; i++)
+        if (l->all[i] != GUARD)
+            return 0;
+    for (i = 0; i < l->len; i++)
+        if ((i < at || i >= at + n) && l->all[EDGE + i] != OLD)
+            return 0;
+    return n == 0 || memcmp(l->all + EDGE + at, bytes, n) == 0;
+}
+
+static int untouched(const struct lent *l)
+{
+    return holds(l, 0, NULL, 0);
+}
+
+/* the same bytes that were given */
+static int same(const struct lent *l, const void *bytes)
+{
+    return holds(l, 0, bytes, l->len);
+}
+
+struct number {
+    uint64_t before, value, after;
+};
+
+struct size {
+    uint64_t before;
+    size_t value;
+    uint64_t after;
+};
+
+struct byte {
+    uint8_t before, value, after;
+};
+
+#define EDGES 0xA5A5A5A5A5A5A5A5u
+#define WITHIN(n, edge) ((n).before == (edge) && (n).after == (edge))
+
+static struct number a, b, c;
+static struct size position, line;
+static struct byte flags;
+
+static void fresh(void)
+{
+    a.before = a.value = a.after = EDGES;
+    b = c = a;
+    position.before = position.after = line.before = line.after = EDGES;
+    flags.before = flags.after = GUARD;
+}
+
+static int fenced(void)
+{
+    return WITHIN(a, EDGES) && WITHIN(b, EDGES) && WITHIN(c, EDGES) && WITHIN(position, EDGES) &&
+           WITHIN(line, EDGES) && WITHIN(flags, GUARD);
+}
+
+static int values(uint64_t x, uint64_t y, uint64_t z)
+{
+    return a.value == x && b.value == y && c.value == z && fenced();
+}
+
+/* ---- checksum */
+
+static void checksums(void)
+{
+    static const uint8_t end[] = {0, 0, 0, 1}, wraps[] = {0x80, 0x80}, many[] = {0xFF, 0xFF, 0xFF};
+    CHECK(ihex_checksum(NULL, 0) == 0);
+    CHECK(ihex_checksum(end, 3) == 0);
+    CHECK(ihex_checksum(end, 4) == 0xFF);
+    CHECK(ihex_checksum(wraps, 2) == 0);
+    CHECK(ihex_checksum(many, 3) == 3);
+}
+
+/* ---- one line */
+
+static uint32_t read_line(const char *l, size_t pool_len, size_t at)
+{
+    size_t n = strlen(l);
+    const uint8_t *bytes = given(&text_, l, n);
+    uint8_t *pool = lend(&pool_, pool_len);
+    uint32_t r;
+    fresh();
+    r = ihex_read_record(bytes, n, pool, pool_len, at, &a.value, &b.value, &c.value);
+    CHECK(same(&text_, l));
+    return r;
+}
+
+static void lines(void)
+{
+    static const struct {
+        const char *line;
+        uint32_t code;
+        uint64_t a, b, c;
+    } rows[] = {
+        {"", IHEX_REFUSED + IHEX_MISSING_START_CODE, 0, 0, 0},
+        {"00000001FF", IHEX_REFUSED + IHEX_MISSING_START_CODE, 0, 0, 0},
+        {":", IHEX_REFUSED + IHEX_RECORD_TOO_SHORT, 0, 0, 0},
+        {":G", IHEX_REFUSED + IHEX_CONTAINS_INVALID_CHARACTERS, 0, 0, 0},
+        {":0100000", IHEX_REFUSED + IHEX_RECORD_TOO_SHORT, 0, 0, 0},
+        {":00000001FF0", IHEX_REFUSED + IHEX_RECORD_NOT_EVEN_LENGTH, 0, 0, 0},
+        {":00000001FE", IHEX_REFUSED + IHEX_CHECKSUM_MISMATCH, 0xFF, 0xFE, 0},
+        {":01000000FF", IHEX_REFUSED + IHEX_PAYLOAD_LENGTH_MISMATCH, 0, 0, 0},
+        {":01000006F9", IHEX_REFUSED + IHEX_PAYLOAD_LENGTH_MISMATCH, 0, 0, 0},
+        {":00000006FA", IHEX_REFUSED + IHEX_UNSUPPORTED_RECORD_TYPE, 6, 0, 0},
+        {":0100000100FE", IHEX_REFUSED + IHEX_INVALID_LENGTH_FOR_TYPE, 0, 0, 0},
+        {":00000001FF\r", IHEX_REFUSED + IHEX_CONTAINS_INVALID_CHARACTERS, 0, 0, 0},
+        {":00123401B9", IHEX_END_OF_FILE, 0, 0, 0},
+        {":020000021200EA", IHEX_EXTENDED_SEGMENT_ADDRESS, 0x1200, 0, 0},
+        {":0400000312345678E5", IHEX_START_SEGMENT_ADDRESS, 0x1234, 0x5678, 0},
+        {":02000004FFFFFC", IHEX_EXTENDED_LINEAR_ADDRESS, 0xFFFF, 0, 0},
+        {":04000005000000CD2A", IHEX_START_LINEAR_ADDRESS, 0xCD, 0, 0},
+        {":0400000512345678E3", IHEX_START_LINEAR_ADDRESS, 0x12345678, 0, 0},
+    };
+    static const uint8_t payload[] = {0x10, 0x20, 0x30, 0x40};
+    static char longest[IHEX_MAX_LINE + 2];
+    static uint8_t zeros[IHEX_MAX_PAYLOAD];
+    size_t i;
+
+    for (i = 0; i < sizeof rows / sizeof rows[0]; i++) {
+        CHECK(read_line(rows[i].line, 8, 2) == rows[i].code);
+        CHECK(values(rows[i].a, rows[i].b, rows[i].c));
+        CHECK(untouched(&pool_));
+        /* no pool at all */
+        CHECK(read_line(rows[i].line, 0, 0) == rows[i].code);
+    }
+
+    CHECK(read_line(":04012000102030403B", 8, 2) == IHEX_DATA);
+    CHECK(values(0x0120, 2, 4));
+    CHECK(holds(&pool_, 2, payload, 4));
+    CHECK(read_line(":04012000102030403b", 4, 0) == IHEX_DATA);
+    CHECK(values(0x0120, 0, 4));
+    CHECK(holds(&pool_, 0, payload, 4));
+    CHECK(read_line(":04012000102030403B", 8, 5) == IHEX_REFUSED + IHEX_POOL_FULL);
+    CHECK(values(0, 0, 0));
+    CHECK(untouched(&pool_));
+    CHECK(read_line(":04012000102030403B", 3, 0) == IHEX_REFUSED + IHEX_POOL_FULL);
+    CHECK(untouched(&pool_));
+    CHECK(read_line(":04012000102030403B", 8, SIZE_MAX) == IHEX_REFUSED + IHEX_POOL_FULL);
+    CHECK(untouched(&pool_));
+    CHECK(read_line(":04012000102030403B", 0, 0) == IHEX_REFUSED + IHEX_POOL_FULL);
+    CHECK(read_line(":00FFFF0002", 0, 0) == IHEX_DATA);
+    CHECK(values(0xFFFF, 0, 0));
+    CHECK(read_line(":00FFFF0002", 4, 4) == IHEX_DATA);
+    CHECK(values(0xFFFF, 4, 0));
+    CHECK(untouched(&pool_));
+
+    /* 520 digits, and one more */
+    memset(longest, '0', IHEX_MAX_LINE);
+    memcpy(longest, ":FF", 3);
+    memcpy(longest + IHEX_MAX_LINE - 2, "01", 2);
+    CHECK(read_line(longest, 300, 1) == IHEX_DATA);
+    CHECK(values(0, 1, IHEX_MAX_PAYLOAD));
+    CHECK(holds(&pool_, 1, zeros, IHEX_MAX_PAYLOAD));
+    longest[IHEX_MAX_LINE] = '0';
+    CHECK(read_line(longest, 300, 1) == IHEX_REFUSED + IHEX_RECORD_TOO_LONG);
+    CHECK(untouched(&pool_));
+}
+
+/* ---- a text */
+
+static uint32_t next(const char *text, size_t pool_len, size_t at)
+{
+    size_t n = strlen(text);
+    const uint8_t *bytes = given(&text_, text, n);
+    uint8_t *pool = lend(&pool_, pool_len);
+    size_t p = position.value, l = line.value;
+    uint8_t f = flags.value;
+    uint32_t r;
+    fresh();
+    position.value = p;
+    line.value = l;
+    flags.value = f;
+    r = ihex_next(bytes, n, pool, pool_len, at, &position.value, &line.value, &flags.value, &a.value, &b.value, &c.value);
+    CHECK(same(&text_, text));
+    return r;
+}
+
+static void begin(uint8_t stops)
+{
+    position.value = 0;
+    line.value = 0;
+    flags.value = stops;
+}
+
+static int stands(size_t p, size_t l, uint8_t f)
+{
+    return position.value == p && line.value == l && flags.value == f;
+}
+
+static void texts(void)
+{
+    static const char text[] = ":04012000102030403B\n\n:00000001FE\n:00000001FF\n:G";
+    static const uint8_t payload[] = {0x10, 0x20, 0x30, 0x40};
+
+    begin(IHEX_STOP_AFTER_EOF);
+    CHECK(next(text, 8, 1) == IHEX_DATA);
+    CHECK(values(0x0120, 1, 4) && stands(20, 1, IHEX_STOP_AFTER_EOF));
+    CHECK(holds(&pool_, 1, payload, 4));
+    CHECK(next(text, 8, 1) == IHEX_REFUSED + IHEX_CHECKSUM_MISMATCH);
+    CHECK(values(0xFF, 0xFE, 0) && stands(33, 3, IHEX_STOP_AFTER_EOF));
+    CHECK(next(text, 8, 1) == IHEX_END_OF_FILE);
+    CHECK(values(0, 0, 0) && stands(45, 4, IHEX_STOP_AFTER_EOF | IHEX_FINISHED));
+    CHECK(next(text, 8, 1) == IHEX_DONE);
+    CHECK(values(0, 0, 0) && stands(45, 4, IHEX_STOP_AFTER_EOF | IHEX_FINISHED));
+    CHECK(untouched(&pool_));
+
+    begin(IHEX_STOP_AFTER_FIRST_ERROR | IHEX_STOP_AFTER_EOF);
+    CHECK(next(text, 8, 1) == IHEX_DATA);
+    CHECK(next(text, 8, 1) == IHEX_REFUSED + IHEX_CHECKSUM_MISMATCH);
+    CHECK(stands(33, 3, IHEX_STOP_AFTER_FIRST_ERROR | IHEX_STOP_AFTER_EOF | IHEX_FINISHED));
+    CHECK(next(text, 8, 1) == IHEX_DONE);
+
+    begin(IHEX_STOP_AFTER_FIRST_ERROR);
+    CHECK(next(":00000001FF\n:00000001FF\n:G\n:", 0, 0) == IHEX_END_OF_FILE);
+    CHECK(next(":00000001FF\n:00000001FF\n:G\n:", 0, 0) == IHEX_END_OF_FILE);
+    CHECK(next(":00000001FF\n:00000001FF\n:G\n:", 0, 0) == IHEX_REFUSED + IHEX_CONTAINS_INVALID_CHARACTERS);
+    CHECK(next(":00000001FF\n:00000001FF\n:G\n:", 0, 0) == IHEX_DONE);
+
+    /* the pool is full: the state is as it was, and more room reads the line */
+    begin(0);
+    CHECK(next(text, 4, 1) == IHEX_REFUSED + IHEX_POOL_FULL);
+    CHECK(values(0, 0, 0) && stands(0, 0, 0) && untouched(&pool_));
+    CHECK(next(text, 4, 0) == IHEX_DATA);
+    CHECK(values(0x0120, 0, 4) && stands(20, 1, 0) && holds(&pool_, 0, payload, 4));
+
+    /* line ends, and a last line without one */
+    begin(0);
+    CHECK(next("\r\n:00000001FF\r\n\r\r\n:00000001FF\r", 0, 0) == IHEX_END_OF_FILE);
+    CHECK(stands(15, 2, 0));
+    CHECK(next("\r\n:00000001FF\r\n\r\r\n:00000001FF\r", 0, 0) == IHEX_REFUSED + IHEX_MISSING_START_CODE);
+    CHECK(stands(18, 3, 0));
+    CHECK(next("\r\n:00000001FF\r\n\r\r\n:00000001FF\r", 0, 0) == IHEX_REFUSED + IHEX_CONTAINS_INVALID_CHARACTERS);
+    CHECK(stands(30, 4, 0));
+    CHECK(next("\r\n:00000001FF\r\n\r\r\n:00000001FF\r", 0, 0) == IHEX_DONE);
+
+    /* no text; a position behind it; bits that mean nothing */
+    begin(0);
+    CHECK(next("", 0, 0) == IHEX_DONE);
+    CHECK(values(0, 0, 0) && stands(0, 0, IHEX_FINISHED));
+    begin(0xF8 | IHEX_STOP_AFTER_EOF);
+    position.value = SIZE_MAX;
+    CHECK(next(text, 8, 0) == IHEX_DONE);
+    CHECK(stands(SIZE_MAX, 0, IHEX_STOP_AFTER_EOF | IHEX_FINISHED) && untouched(&pool_));
+}
+
+/* ---- one record written */
+
+/* a pool that holds its positions */
+static const uint8_t *counted_pool(size_t len)
+{
+    size_t i;
+    uint8_t *pool = lend(&pool_, len);
+    for (i = 0; i < len; i++)
+        pool[i] = (uint8_t)i;
+    return pool;
+}
+
+static int counted(void)
+{
+    size_t i;
+    for (i = 0; i < pool_.len; i++)
+        if (pool_.all[EDGE + i] != (uint8_t)i)
+            return 0;
+    return pool_.all[EDGE - 1] == GUARD && pool_.all[EDGE + pool_.len] == GUARD;
+}
+
+static uint32_t write_record(uint8_t type, uint32_t number, uint16_t second, size_t at, size_t len, size_t pool_len, size_t out_len)
+{
+    const uint8_t *pool = counted_pool(pool_len);
+    uint8_t *out = lend(&out_, out_len);
+    uint32_t r;
+    fresh();
+    r = ihex_to_record_string(type, number, second, at, len, pool, pool_len, out, out_len, &a.value);
+    CHECK(fenced() && b.value == EDGES && c.value == EDGES && counted());
+    return r;
+}
+
+/* the output begins with the text, and the value is its length */
+static int wrote(const char *text)
+{
+    return a.value == strlen(text) && holds(&out_, 0, text, strlen(text));
+}
+
+static int wrote_nothing(uint64_t value)
+{
+    return a.value == value && untouched(&out_);
+}
+
+static void records(void)
+{
+    static const uint8_t short_types[] = {0, 2, 3, 4};
+    size_t i;
+
+    CHECK(write_record(IHEX_DATA, 0x0120, 0, 16, 4, 32, 600) == IHEX_OK);
+    CHECK(wrote(":0401200010111213" "95"));
+    CHECK(write_record(IHEX_DATA, 0xFFFF, 9, 32, 0, 32, 11) == IHEX_OK);
+    CHECK(wrote(":00FFFF0002"));
+    CHECK(write_record(IHEX_END_OF_FILE, 0xFFFFFFFF, 0xFFFF, SIZE_MAX, SIZE_MAX, 0, 12) == IHEX_OK);
+    CHECK(wrote(":00000001FF"));
+    CHECK(write_record(IHEX_EXTENDED_SEGMENT_ADDRESS, 0x1200, 9, 9, 9, 0, 15) == IHEX_OK);
+    CHECK(wrote(":020000021200EA"));
+    CHECK(write_record(IHEX_START_SEGMENT_ADDRESS, 0x1234, 0x5678, 9, 9, 0, 19) == IHEX_OK);
+    CHECK(wrote(":0400000312345678E5"));
+    CHECK(write_record(IHEX_EXTENDED_LINEAR_ADDRESS, 0xFFFF, 9, 9, 9, 0, 15) == IHEX_OK);
+    CHECK(wrote(":02000004FFFFFC"));
+    CHECK(write_record(IHEX_START_LINEAR_ADDRESS, 0x12345678, 9, 9, 9, 0, 19) == IHEX_OK);
+    CHECK(wrote(":0400000512345678E3"));
+
+    for (i = 0; i < sizeof short_types; i++) {
+        CHECK(write_record(short_types[i], 65535, 0, 0, 0, 8, 600) == IHEX_OK);
+        CHECK(write_record(short_types[i], 65536, 0, 0, 0, 8, 600) == IHEX_BAD_RECORD);
+        CHECK(wrote_nothing(0));
+        CHECK(write_record(short_types[i], 0xFFFFFFFF, 0, 0, 0, 8, 600) == IHEX_BAD_RECORD);
+    }
+    CHECK(write_record(6, 0, 0, 0, 0, 8, 600) == IHEX_BAD_RECORD);
+    CHECK(wrote_nothing(0));
+    CHECK(write_record(255, 0, 0, 0, 0, 0, 0) == IHEX_BAD_RECORD);
+
+    /* outside the pool, too long, no room: in this order */
+    CHECK(write_record(IHEX_DATA, 0, 0, 29, 4, 32, 600) == IHEX_REFUSED + IHEX_PAYLOAD_OUTSIDE_POOL);
+    CHECK(wrote_nothing(0));
+    CHECK(write_record(IHEX_DATA, 0, 0, SIZE_MAX, 2, 32, 600) == IHEX_REFUSED + IHEX_PAYLOAD_OUTSIDE_POOL);
+    CHECK(write_record(IHEX_DATA, 0, 0, 2, SIZE_MAX, 32, 600) == IHEX_REFUSED + IHEX_PAYLOAD_OUTSIDE_POOL);
+    CHECK(write_record(IHEX_DATA, 0, 0, 45, 256, 300, 0) == IHEX_REFUSED + IHEX_PAYLOAD_OUTSIDE_POOL);
+    CHECK(write_record(IHEX_DATA, 0, 0, 44, 256, 300, 0) == IHEX_REFUSED + IHEX_DATA_EXCEEDS_MAXIMUM_LENGTH);
+    CHECK(wrote_nothing(256));
+    CHECK(write_record(IHEX_DATA, 0, 0, 45, 255, 300, 520) == IHEX_REFUSED + IHEX_OUTPUT_FULL);
+    CHECK(wrote_nothing(0));
+    CHECK(write_record(IHEX_DATA, 0, 0, 45, 255, 300, IHEX_MAX_LINE) == IHEX_OK && a.value == IHEX_MAX_LINE);
+    CHECK(write_record(IHEX_END_OF_FILE, 0, 0, 0, 0, 0, 10) == IHEX_REFUSED + IHEX_OUTPUT_FULL);
+    CHECK(wrote_nothing(0));
+    CHECK(write_record(IHEX_END_OF_FILE, 0, 0, 0, 0, 0, 0) == IHEX_REFUSED + IHEX_OUTPUT_FULL);
+}
+
+/* ---- an object written */
+
+static uint32_t write_bytes(const void *bytes, size_t n, size_t pool_len, size_t out_len)
+{
+    const uint8_t *list = given(&list_, bytes, n);
+    const uint8_t *pool = counted_pool(pool_len);
+    uint8_t *out = lend(&out_, out_len);
+    uint32_t r;
+    fresh();
+    r = ihex_create_object_file_representation(list, n, pool, pool_len, out, out_len, &a.value);
+    CHECK(fenced() && b.value == EDGES && c.value == EDGES && counted() && same(&list_, bytes));
+    return r;
+}
+
+static uint32_t write_list(const struct ihex_record *list, size_t n, size_t pool_len, size_t out_len)
+{
+    return write_bytes(list, n * sizeof *list, pool_len, out_len);
+}
+
+static void objects(void)
+{
+    static const struct ihex_record all[] = {
+        {IHEX_EXTENDED_SEGMENT_ADDRESS, 0xEE, 0, 0x1200, 0, 0},
+        {IHEX_DATA, 0, 0, 0x0120, 16, 4},
+        {IHEX_START_SEGMENT_ADDRESS, 0, 0x5678, 0x1234, 0, 0},
+        {IHEX_EXTENDED_LINEAR_ADDRESS, 0, 0, 0xFFFF, 0, 0},
+        {IHEX_START_LINEAR_ADDRESS, 0, 0, 0x12345678, 0, 0},
+        {IHEX_END_OF_FILE, 0, 0xFFFF, 0xFFFFFFFF, UINT64_MAX, UINT64_MAX},
+    };
+    static const char text[] =
+        ":020000021200EA\n:040120001011121395\n:0400000312345678E5\n:02000004FFFFFC\n:0400000512345678E3\n:00000001FF\n";
+    static const uint8_t bytes[] = {
+        0, 0xEE, 0, 0, 0x20, 0x01, 0, 0, 0x02, 0x01, 0, 0, 0, 0, 0, 0, 0x03, 0, 0, 0, 0, 0, 0, 0, /* data */
+        1, 0xEE, 0, 0, 0, 0, 0, 0, 0, 0, 0, 0, 0, 0, 0, 0, 0, 0, 0, 0, 0, 0, 0, 0,             /* end */
+    };
+    struct ihex_record some[4];
+    size_t n = strlen(text), i;
+
+    CHECK(sizeof(struct ihex_record) == IHEX_RECORD_SIZE);
+    CHECK(offsetof(struct ihex_record, second) == 2 && offsetof(struct ihex_record, number) == 4);
+    CHECK(offsetof(struct ihex_record, at) == 8 && offsetof(struct ihex_record, len) == 16);
+
+    CHECK(write_list(all, 6, 32, 600) == IHEX_OK);
+    CHECK(wrote(text));
+    CHECK(write_list(all, 6, 32, n) == IHEX_OK);
+    CHECK(wrote(text));
+    CHECK(write_list(all, 6, 32, n - 1) == IHEX_REFUSED + IHEX_OUTPUT_FULL);
+    CHECK(wrote_nothing(0));
+    CHECK(write_list(all, 6, 32, 0) == IHEX_REFUSED + IHEX_OUTPUT_FULL);
+    CHECK(write_list(all, 5, 32, 600) == IHEX_REFUSED + IHEX_MISSING_END_OF_FILE_RECORD);
+    CHECK(wrote_nothing(0));
+    CHECK(write_list(all + 5, 1, 0, 12) == IHEX_OK);
+    CHECK(wrote(":00000001FF\n"));
+    CHECK(write_list(NULL, 0, 32, 600) == IHEX_REFUSED + IHEX_MISSING_END_OF_FILE_RECORD);
+    CHECK(wrote_nothing(0));
+    CHECK(write_list(NULL, 0, 0, 0) == IHEX_REFUSED + IHEX_MISSING_END_OF_FILE_RECORD);
+
+    /* position 0102 */
+    CHECK(write_bytes(bytes, 48, 300, 600) == IHEX_OK);
+    CHECK(wrote(":03012000020304D3\n:00000001FF\n"));
+
+    /* no list: before all else */
+    for (i = 1; i < sizeof bytes; i++)
+        if (i != 24)
+            CHECK(write_bytes(bytes, i, 0, 0) == IHEX_BAD_RECORD && wrote_nothing(0));
+    memcpy(some, all + 2, sizeof some);
+    some[1].number = 65536;
+    CHECK(write_list(some, 4, 32, 600) == IHEX_BAD_RECORD && wrote_nothing(0));
+    CHECK(write_list(some, 2, 32, 600) == IHEX_BAD_RECORD && wrote_nothing(0));
+    some[1].number = 65535;
+    CHECK(write_list(some, 4, 32, 600) == IHEX_OK);
+    some[3].type = 6;
+    CHECK(write_list(some, 4, 32, 0) == IHEX_BAD_RECORD && wrote_nothing(0));
+
+    /* 13, 14, then the first record with 11 or 12, then 15 */
+    memset(some, 0, sizeof some);
+    some[0].type = some[1].type = IHEX_END_OF_FILE;
+    CHECK(write_list(some, 3, 32, 600) == IHEX_REFUSED + IHEX_MISSING_END_OF_FILE_RECORD && wrote_nothing(0));
+    some[2].type = IHEX_END_OF_FILE;
+    CHECK(write_list(some, 3, 32, 600) == IHEX_REFUSED + IHEX_MULTIPLE_END_OF_FILE_RECORDS && wrote_nothing(3));
+    some[0].type = IHEX_DATA;
+    some[0].len = 301;
+    CHECK(write_list(some, 3, 300, 0) == IHEX_REFUSED + IHEX_MULTIPLE_END_OF_FILE_RECORDS && wrote_nothing(2));
+    some[1].type = IHEX_DATA;
+    some[1].len = 256;
+    CHECK(write_list(some, 3, 300, 0) == IHEX_REFUSED + IHEX_PAYLOAD_OUTSIDE_POOL && wrote_nothing(0));
+    CHECK(write_list(some, 3, 301, 0) == IHEX_REFUSED + IHEX_DATA_EXCEEDS_MAXIMUM_LENGTH && wrote_nothing(301));
+    some[0].len = 255;
+    CHECK(write_list(some, 3, 301, 0) == IHEX_REFUSED + IHEX_DATA_EXCEEDS_MAXIMUM_LENGTH && wrote_nothing(256));
+    some[1].at = UINT64_MAX;
+    CHECK(write_list(some, 3, 301, 0) == IHEX_REFUSED + IHEX_PAYLOAD_OUTSIDE_POOL && wrote_nothing(0));
+    some[1].at = 46;
+    some[1].len = 255;
+    CHECK(write_list(some, 3, 301, 2 * 522 + 11) == IHEX_REFUSED + IHEX_OUTPUT_FULL && wrote_nothing(0));
+    CHECK(write_list(some, 3, 301, 2 * 522 + 12) == IHEX_OK && a.value == 2 * 522 + 12);
+}
+
+/* ---- a load */
+
+static uint32_t load(const char *text, uint32_t first, size_t page_len, size_t marks_len)
+{
+    size_t n = strlen(text);
+    const uint8_t *bytes = given(&text_, text, n);
+    uint8_t *page = lend(&page_, page_len), *marks = lend(&marks_, marks_len);
+    uint32_t r;
+    fresh();
+    line.value = 77;
+    r = ihex_load(bytes, n, first, page, page_len, marks, marks_len, &line.value, &a.value, &b.value);
+    CHECK(same(&text_, text) && fenced() && c.value == EDGES);
+    return r;
+}
+
+/* the count, the marks whole, and the bytes of the page from a place on */
+static int loaded(uint64_t count, const char *marks, size_t at, const char *bytes)
+{
+    size_t i;
+    if (a.value != count || b.value != 0 || line.value != 0 || marks_.len != strlen(marks))
+        return 0;
+    for (i = 0; i < marks_.len; i++)
+        if (marks_.all[EDGE + i] != (uint8_t)(marks[i] - '0'))
+            return 0;
+    return marks_.all[EDGE - 1] == GUARD && marks_.all[EDGE + marks_.len] == GUARD && holds(&page_, at, bytes, strlen(bytes));
+}
+
+static int not_loaded(uint64_t x, uint64_t y, size_t l)
+{
+    return a.value == x && b.value == y && line.value == l && untouched(&page_) && untouched(&marks_);
+}
+
+static void loads(void)
+{
+    static const char doc[] = ":020000021200EA\n:010005007783\n:00000001FF\n", end[] = ":00000001FF";
+
+    CHECK(load(doc, 0x12000, 8, 8) == IHEX_OK);
+    CHECK(loaded(1, "00000100", 5, "\x77"));
+    CHECK(load(doc, 0x12005, 1, 1) == IHEX_OK);
+    CHECK(loaded(1, "1", 0, "\x77"));
+    CHECK(load(doc, 0x12000, 5, 5) == IHEX_REFUSED + IHEX_OUTSIDE_WINDOW);
+    CHECK(not_loaded(0x12005, 0, 2));
+    CHECK(load(doc, 0x12006, 8, 8) == IHEX_REFUSED + IHEX_OUTSIDE_WINDOW);
+    CHECK(not_loaded(0x12005, 0, 2));
+    CHECK(load(doc, 0, 0, 0) == IHEX_REFUSED + IHEX_OUTSIDE_WINDOW);
+    CHECK(not_loaded(0x12005, 0, 2));
+
+    /* beyond FFFF, and beyond 2^32 */
+    CHECK(load(":02FFFF00AABB9B\n:00000001FF\n", 0xFFFF, 2, 2) == IHEX_OK);
+    CHECK(loaded(1, "11", 0, "\xAA\xBB"));
+    CHECK(load(":02000004FFFFFC\n:02FFFF00AABB9B\n:00000001FF\n", 0xFFFFFFFF, 1, 1) == IHEX_REFUSED + IHEX_OUTSIDE_WINDOW);
+    CHECK(not_loaded(0, 0, 2));
+    CHECK(load(":02000004FFFFFC\n:01FFFF00AA57\n:00000001FF\n", 0xFFFFFFFF, 1, 1) == IHEX_OK);
+    CHECK(loaded(1, "1", 0, "\xAA"));
+
+    /* the last statement stands; text behind the end is not read; no data at all */
+    CHECK(load(":0100000011EE\n:0100000022DD\n:00000001FF\n:G\n", 0, 2, 2) == IHEX_OK);
+    CHECK(loaded(2, "10", 0, "\x22"));
+    CHECK(load(end, 0xFFFFFFFF, 0, 0) == IHEX_OK);
+    CHECK(loaded(0, "", 0, ""));
+    CHECK(load(end, 0, 3, 3) == IHEX_OK);
+    CHECK(loaded(0, "000", 0, ""));
+
+    /* refusals of lines, with their numbers */
+    CHECK(load(":0100000011EE\n\n\r\n:00000001FE\n:00000001FF\n", 0, 2, 2) == IHEX_REFUSED + IHEX_CHECKSUM_MISMATCH);
+    CHECK(not_loaded(0xFF, 0xFE, 4));
+    CHECK(load(":00000006FA", 0, 2, 2) == IHEX_REFUSED + IHEX_UNSUPPORTED_RECORD_TYPE);
+    CHECK(not_loaded(6, 0, 1));
+    CHECK(load(":0100000011EE\nx", 0, 2, 2) == IHEX_REFUSED + IHEX_MISSING_START_CODE);
+    CHECK(not_loaded(0, 0, 2));
+    CHECK(load(":0100000011EE\n", 0, 2, 2) == IHEX_REFUSED + IHEX_MISSING_END_OF_FILE_RECORD);
+    CHECK(not_loaded(0, 0, 0));
+    CHECK(load("", 0, 0, 0) == IHEX_REFUSED + IHEX_MISSING_END_OF_FILE_RECORD);
+    CHECK(not_loaded(0, 0, 0));
+
+    /* windows */
+    CHECK(load(end, 0, 2, 3) == IHEX_REFUSED + IHEX_BAD_WINDOW);
+    CHECK(not_loaded(0, 0, 0));
+    CHECK(load(end, 0, 0, 1) == IHEX_REFUSED + IHEX_BAD_WINDOW);
+    CHECK(load(":G", 0, IHEX_MAX_PAGE + 1, IHEX_MAX_PAGE + 1) == IHEX_REFUSED + IHEX_BAD_WINDOW);
+    CHECK(not_loaded(0, 0, 0));
+    CHECK(load(end, 0, IHEX_MAX_PAGE, IHEX_MAX_PAGE) == IHEX_OK && a.value == 0 && untouched(&page_));
+    CHECK(load(end, 0xFFFFFFFF, 2, 2) == IHEX_REFUSED + IHEX_BAD_WINDOW);
+    CHECK(load(end, 0xFFFF0000, IHEX_MAX_PAGE, IHEX_MAX_PAGE) == IHEX_OK);
+    CHECK(load(end, 0xFFFF0001, IHEX_MAX_PAGE, IHEX_MAX_PAGE) == IHEX_REFUSED + IHEX_BAD_WINDOW);
+}
+
+/* ---- a full page, written and loaded again */
+
+#define PAGE_RECORDS (IHEX_MAX_PAGE / 16)
+#define PAGE_TEXT (PAGE_RECORDS * (11 + 2 * 16 + 1) + 12)
+
+static uint8_t dump[IHEX_MAX_PAGE], written[PAGE_TEXT + 1], shown[IHEX_MAX_PAGE], set[IHEX_MAX_PAGE];
+static struct ihex_record list[PAGE_RECORDS + 1];
+
+static uint32_t write_page(size_t out_len, uint64_t *value)
+{
+    memset(written, OLD, sizeof written);
+    return ihex_create_object_file_representation(list, sizeof list, dump, sizeof dump, written, out_len, value);
+}
+
+static void full_page(void)
+{
+    size_t i, at_line;
+    uint64_t value, records, none;
+    for (i = 0; i < IHEX_MAX_PAGE; i++)
+        dump[i] = (uint8_t)(i * 7 + i / 256);
+    for (i = 0; i < PAGE_RECORDS; i++) {
+        list[i].number = (uint32_t)(16 * i);
+        list[i].at = 16 * i;
+        list[i].len = 16;
+    }
+    list[PAGE_RECORDS].type = IHEX_END_OF_FILE;
+
+    CHECK(write_page(PAGE_TEXT - 1, &value) == IHEX_REFUSED + IHEX_OUTPUT_FULL && value == 0);
+    for (i = 0; i < sizeof written && written[i] == OLD; i++)
+        ;
+    CHECK(i == sizeof written);
+    CHECK(write_page(PAGE_TEXT, &value) == IHEX_OK && value == PAGE_TEXT);
+    CHECK(written[PAGE_TEXT] == OLD && memcmp(written + PAGE_TEXT - 12, ":00000001FF\n", 12) == 0);
+    CHECK(ihex_load(written, PAGE_TEXT, 0, shown, sizeof shown, set, sizeof set, &at_line, &records, &none) == IHEX_OK);
+    CHECK(records == PAGE_RECORDS && none == 0 && at_line == 0);
+    CHECK(memcmp(shown, dump, sizeof dump) == 0);
+    for (i = 0; i < sizeof set && set[i] == 1; i++)
+        ;
+    CHECK(i == sizeof set);
+}
+
+int main(void)
+{
+    checksums();
+    lines();
+    texts();
+    records();
+    objects();
+    loads();
+    full_page();
+    printf("%d passed, %d failed\n", passed, failed);
+    return failed != 0;
+}
