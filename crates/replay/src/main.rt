@@ -1,0 +1,757 @@
+// Runs the port on cases from standard input, a line each, and prints each answer, a line each.
+//
+//   # ..                           a heading, printed again
+//   C BYTES                        the checksum of the bytes
+//   L POOL POSITION BYTES          the line of these bytes, read into a pool of POOL bytes at POSITION
+//   T FLAGS POOL BYTES             the text of these bytes, read into a pool of POOL bytes, each payload at its start
+//   W RECORD OUT BYTES             the record, with these bytes as its pool, written to an output of OUT bytes
+//   O OUT BYTES RECORD RECORD ..   the object of the records, with these bytes as their pool
+//   M FIRST PAGE MARKS BYTES       the text of these bytes, loaded into a page of PAGE bytes whose first address is FIRST
+//
+// A record is its type, two numbers, and the position and the length of its payload. The first number
+// is the offset of data and the number of types 02 to 05 (of 03: CS, and the second is IP). Bit 0 of
+// the flags is stop_after_first_error, bit 1 stop_after_eof.
+//
+// A lent buffer holds one byte in each place before the call: pool EE, output DD, page CC, marks AA.
+// Behind an answer stand ` | ` and the whole buffer; behind one of M the page, and then the marks. A
+// page or marks of more than 64 bytes are told in runs, each as its byte, `<` and the place where it
+// ends. The answer is one of these:
+//
+//   D OFFSET POSITION LENGTH    data
+//   E                           the end record
+//   X2 PAYLOAD                  a record of type 02, and so for 03 to 05
+//   done                        the text has no more answers
+//   W LENGTH                    so many bytes were written
+//   A RECORDS                   loaded, with so many data records
+//   ! NUMBER VALUES             a refusal
+//
+// The answers of T stand in one line with `; ` between them, up to "done" or refusal 10, and at most
+// 40 of them. Behind ` @` stands the number of lines behind which the reader stands then. One more
+// call, with a pool of 4,096 bytes, is told at the end without its pool. Behind a refusal of M stand
+// ` @` and the number of its line.
+//
+// The number of a refusal is in decimal, and every other number in hexadecimal with capitals. A
+// case that is none of these is answered by `?`. Each case ends in LF, and what a case has beyond
+// 4,096 bytes is dropped.
+use loader::LoaderError;
+use loader::Loading;
+use reader::Answer;
+use reader::ReaderError;
+use reader::ReaderOptions;
+use reader::Reply;
+use reader::State;
+use record::Record;
+use writer::Survey;
+use writer::WriterError;
+use writer::Written;
+ghost use mathlib.Core.Path.{_≡_};
+ghost use lib.ListN.{length};
+
+// Puts a byte at n, if there is room, and answers where the next one goes.
+fn put(out: &mut [u8], n: usize, b: u8) -> usize {
+    if n < out.len() {
+        out[n] = b;
+        return n + 1;
+    }
+    n
+}
+
+// The first n bytes, or all where there are fewer.
+fn front(s: &[u8], n: usize) -> &[u8] {
+    if n <= s.len() {
+        return &s[0..n];
+    }
+    s
+}
+
+fn capital(b: u8) -> u8 {
+    if b < b'a' {
+        return b;
+    }
+    if b > b'f' {
+        return b;
+    }
+    b - 32
+}
+
+// Prints a text, with its digits in capitals.
+fn say(text: &[u8]) {
+    let mut i = 0;
+    while i < text.len() {
+        let c = [capital(text[i])];
+        io::write_all(1, &c);
+        i += 1;
+    }
+}
+
+// Prints a number with at least so many digits.
+fn say_number(x: u64, width: usize) {
+    let mut text = [0u8; 16];
+    let k = io::hex(x, width, &mut text);
+    say(&text[..k]);
+}
+
+fn wide(b: u8) -> u64
+    ensures { λ r. ⌜ r ≡ b ⌝ }
+{
+    b as u64
+}
+
+fn say_bytes(bytes: &[u8]) {
+    let mut i = 0;
+    while i < bytes.len() {
+        say_number(wide(bytes[i]), 2);
+        i += 1;
+    }
+}
+
+// Prints a space and a number.
+fn say_field(x: u64, width: usize) {
+    say(b" ");
+    say_number(x, width);
+}
+
+// The number of a record: the offset of data, the payload of types 02 to 05.
+fn number_of(r: Record) -> u64 {
+    match r {
+        Record::Data {
+            offset,
+            at: _,
+            len: _,
+        } => offset as u64,
+        Record::EndOfFile => 0,
+        Record::ExtendedSegmentAddress(a) => a as u64,
+        Record::StartSegmentAddress { cs, ip } => (cs as u64) * 65536 + (ip as u64),
+        Record::ExtendedLinearAddress(a) => a as u64,
+        Record::StartLinearAddress(a) => a as u64,
+    }
+}
+
+// `X`, the type, and the payload.
+fn say_special(kind: u8, x: u64) {
+    say(b"X");
+    say_number(wide(kind), 1);
+    if kind % 2 == 0 {
+        say_field(x, 4);
+        return;
+    }
+    say_field(x, 8);
+}
+
+fn say_data(offset: u64, at: usize, len: usize) {
+    say(b"D");
+    say_field(offset, 4);
+    say_field(at as u64, 1);
+    say_field(len as u64, 1);
+}
+
+fn say_record(r: Record) {
+    let kind = r.record_type();
+    let x = number_of(r);
+    if kind == 1 {
+        say(b"E");
+        return;
+    }
+    if let Record::Data { offset: _, at, len } = r {
+        say_data(x, at, len);
+        return;
+    }
+    say_special(kind, x);
+}
+
+// `!`, the refusal's number in decimal, and its values.
+fn say_refusal(e: ReaderError) {
+    say(b"! ");
+    io::print_decimal(1, wide(e.number()));
+    if let ReaderError::ChecksumMismatch(computed, stated) = e {
+        say_field(wide(computed), 2);
+        say_field(wide(stated), 2);
+    }
+    if let ReaderError::UnsupportedRecordType(kind) = e {
+        say_field(wide(kind), 2);
+    }
+}
+
+fn say_answer(a: Answer) {
+    match a {
+        Answer::Read(r) => say_record(r),
+        Answer::Refused(e) => say_refusal(e),
+    }
+}
+
+// The value of a digit in capitals, or 16.
+fn digit(c: u8) -> u8 {
+    if c < b'0' {
+        return 16;
+    }
+    if c <= b'9' {
+        return c - b'0';
+    }
+    if c < b'A' {
+        return 16;
+    }
+    if c <= b'F' {
+        return c - b'A' + 10;
+    }
+    16
+}
+
+// A number, and where the text goes on behind it and the character that ended it.
+struct Spelt {
+    value: u64,
+    next: usize,
+}
+
+// A digit appended to a number; what does not fit 64 bits is lost.
+fn appended(x: u64, d: u8) -> u64 {
+    (x % 1152921504606846976) * 16 + wide(d % 16)
+}
+
+fn number(text: &[u8], from: usize) -> Spelt {
+    let mut value: u64 = 0;
+    let mut i = from;
+    while i < text.len() {
+        let d = digit(text[i]);
+        i += 1;
+        if d > 15 {
+            break;
+        }
+        value = appended(value, d);
+    }
+    Spelt { value, next: i }
+}
+
+// Stores the bytes that the text spells from a place on, and answers how many.
+fn unspell(text: &[u8], from: usize, bytes: &mut [u8]) -> usize {
+    let mut n = 0;
+    let mut i = from;
+    while i < text.len() {
+        let high = digit(text[i]);
+        i += 1;
+        if i < text.len() {
+            let low = digit(text[i]);
+            i += 1;
+            n = put(bytes, n, (high % 16) * 16 + low % 16);
+        }
+    }
+    n
+}
+
+fn checksum_case(text: &[u8]) {
+    let mut bytes = io::buffer();
+    let k = unspell(text, 2, &mut bytes);
+    let sum = checksum::checksum(front(&bytes, k));
+    say_number(wide(sum), 2);
+}
+
+fn preset(bytes: &mut [u8], b: u8) {
+    let mut i = 0;
+    while i < bytes.len() {
+        bytes[i] = b;
+        i += 1;
+    }
+}
+
+fn read_line(line: &[u8], pool: &mut [u8], at: usize) {
+    preset(pool, 0xEE);
+    let a = reader::read_record(line, pool, at);
+    say_answer(a);
+    say(b" | ");
+    say_bytes(pool);
+}
+
+fn read_into(line: &[u8], length: usize, at: usize) {
+    let mut space = io::buffer();
+    let pool: &mut [u8] = &mut space;
+    if length > pool.len() {
+        say(b"?");
+        return;
+    }
+    read_line(line, &mut pool[0..length], at);
+}
+
+fn line_case(text: &[u8]) {
+    let size = number(text, 2);
+    let place = number(text, size.next);
+    let mut bytes = io::buffer();
+    let k = unspell(text, place.next, &mut bytes);
+    read_into(front(&bytes, k), size.value as usize, place.value as usize);
+}
+
+// At the beginning of a text, with the stops that the flags name.
+fn begin(flags: u64) -> State {
+    let options = ReaderOptions {
+        stop_after_first_error: flags % 2 == 1,
+        stop_after_eof: flags / 2 % 2 == 1,
+    };
+    State::new_with_options(options)
+}
+
+// Prints a reply, and answers whether the row goes on behind it.
+fn say_reply(reply: Reply) -> bool {
+    match reply {
+        Reply::Read(r) => {
+            say_record(r);
+            true
+        }
+        Reply::Refused(e) => {
+            say_refusal(e);
+            e.number() != 10
+        }
+        Reply::Done => {
+            io::write_all(1, b"done");
+            false
+        }
+    }
+}
+
+// Prints the line behind which a reader stands.
+fn say_line(line: usize) {
+    say(b" @");
+    say_number(line as u64, 1);
+}
+
+// One more call, with much room.
+fn read_more(text: &[u8], state: State) {
+    let mut pool = io::buffer();
+    let step = state.next(text, &mut pool, 0);
+    let reply = step.reply;
+    let behind = step.state;
+    say_reply(reply);
+    say_line(behind.line);
+}
+
+// The answers of a text from a state on, and the state behind them.
+fn read_row(text: &[u8], pool: &mut [u8], start: State) -> State {
+    let mut state = start;
+    let mut turns: u64 = 40;
+    while turns > 0 {
+        let step = state.next(text, pool, 0);
+        let reply = step.reply;
+        let behind = step.state;
+        let more = say_reply(reply);
+        say_line(behind.line);
+        say(b" | ");
+        say_bytes(pool);
+        say(b"; ");
+        state = behind;
+        if !more {
+            break;
+        }
+        turns -= 1;
+    }
+    state
+}
+
+fn read_text(text: &[u8], pool: &mut [u8], flags: u64) {
+    preset(pool, 0xEE);
+    let state = read_row(text, pool, begin(flags));
+    read_more(text, state);
+}
+
+fn read_text_into(text: &[u8], flags: u64, length: usize) {
+    let mut space = io::buffer();
+    let pool: &mut [u8] = &mut space;
+    if length > pool.len() {
+        say(b"?");
+        return;
+    }
+    read_text(text, &mut pool[0..length], flags);
+}
+
+fn text_case(text: &[u8]) {
+    let flags = number(text, 2);
+    let size = number(text, flags.next);
+    let mut bytes = io::buffer();
+    let k = unspell(text, size.next, &mut bytes);
+    read_text_into(front(&bytes, k), flags.value, size.value as usize);
+}
+
+fn low16(x: u64) -> u16 {
+    (x % 65536) as u16
+}
+
+fn low32(x: u64) -> u32 {
+    (x % 4294967296) as u32
+}
+
+// The record of a type, its numbers, and the place of its payload.
+fn record_of(kind: u64, x: u64, second: u64, at: usize, len: usize) -> Record {
+    if kind == 0 {
+        return Record::Data {
+            offset: low16(x),
+            at,
+            len,
+        };
+    }
+    if kind == 2 {
+        return Record::ExtendedSegmentAddress(low16(x));
+    }
+    if kind == 3 {
+        return Record::StartSegmentAddress {
+            cs: low16(x),
+            ip: low16(second),
+        };
+    }
+    if kind == 4 {
+        return Record::ExtendedLinearAddress(low16(x));
+    }
+    if kind == 5 {
+        return Record::StartLinearAddress(low32(x));
+    }
+    Record::EndOfFile
+}
+
+// A record, and where the text goes on behind it.
+struct Given {
+    record: Record,
+    next: usize,
+}
+
+fn record_at(text: &[u8], from: usize) -> Given {
+    let kind = number(text, from);
+    let x = number(text, kind.next);
+    let second = number(text, x.next);
+    let at = number(text, second.next);
+    let len = number(text, at.next);
+    let record = record_of(
+        kind.value,
+        x.value,
+        second.value,
+        at.value as usize,
+        len.value as usize,
+    );
+    Given {
+        record,
+        next: len.next,
+    }
+}
+
+fn say_writer_error(e: WriterError) {
+    match e {
+        WriterError::PayloadOutsidePool => say(b"! 11"),
+        WriterError::DataExceedsMaximumLength(n) => {
+            say(b"! 12");
+            say_field(n as u64, 1);
+        }
+        WriterError::MissingEndOfFileRecord => say(b"! 13"),
+        WriterError::MultipleEndOfFileRecords(n) => {
+            say(b"! 14");
+            say_field(n as u64, 1);
+        }
+        WriterError::OutputFull => say(b"! 15"),
+    }
+}
+
+fn say_written(w: Written) {
+    match w {
+        Written::Wrote(n) => {
+            say(b"W");
+            say_field(n as u64, 1);
+        }
+        Written::Refused(e) => say_writer_error(e),
+    }
+}
+
+fn write_line(r: Record, pool: &[u8], out: &mut [u8]) {
+    preset(out, 0xDD);
+    let w = writer::to_record_string(r, pool, out);
+    say_written(w);
+    say(b" | ");
+    say_bytes(out);
+}
+
+fn write_into(r: Record, pool: &[u8], length: usize) {
+    let mut space = io::buffer();
+    let out: &mut [u8] = &mut space;
+    if length > out.len() {
+        say(b"?");
+        return;
+    }
+    write_line(r, pool, &mut out[0..length]);
+}
+
+fn record_case(text: &[u8]) {
+    let g = record_at(text, 2);
+    let r = g.record;
+    let size = number(text, g.next);
+    let mut bytes = io::buffer();
+    let k = unspell(text, size.next, &mut bytes);
+    write_into(r, front(&bytes, k), size.value as usize);
+}
+
+// The survey of the records from a place on. A case has no more of them than bytes.
+fn survey_all(text: &[u8], from: usize, pool: &[u8]) -> Survey {
+    let mut s = Survey::new();
+    let mut i = from;
+    let mut turns: u64 = 4096;
+    while turns > 0 {
+        if i >= text.len() {
+            break;
+        }
+        let g = record_at(text, i);
+        let r = g.record;
+        s = s.add(r, pool);
+        i = g.next;
+        turns -= 1;
+    }
+    s
+}
+
+// The records from a place on, a step each, behind what is done.
+fn write_steps(text: &[u8], from: usize, pool: &[u8], begun: Written, out: &mut [u8]) -> Written {
+    let mut done = begun;
+    let mut i = from;
+    let mut turns: u64 = 4096;
+    while turns > 0 {
+        if i >= text.len() {
+            break;
+        }
+        let g = record_at(text, i);
+        let r = g.record;
+        done = writer::write_next(done, r, pool, out);
+        i = g.next;
+        turns -= 1;
+    }
+    done
+}
+
+fn write_object(text: &[u8], from: usize, pool: &[u8], out: &mut [u8]) {
+    preset(out, 0xDD);
+    let begun = survey_all(text, from, pool).begin(out.len());
+    let w = write_steps(text, from, pool, begun, out);
+    say_written(w);
+    say(b" | ");
+    say_bytes(out);
+}
+
+fn write_object_into(text: &[u8], from: usize, pool: &[u8], length: usize) {
+    let mut space = io::buffer();
+    let out: &mut [u8] = &mut space;
+    if length > out.len() {
+        say(b"?");
+        return;
+    }
+    write_object(text, from, pool, &mut out[0..length]);
+}
+
+// The pool's digits end at a space, which is the first of no pair and so spells no byte.
+fn object_case(text: &[u8]) {
+    let size = number(text, 2);
+    let behind = number(text, size.next);
+    let mut bytes = io::buffer();
+    let k = unspell(front(text, behind.next), size.next, &mut bytes);
+    write_object_into(text, behind.next, front(&bytes, k), size.value as usize);
+}
+
+fn say_loader_error(e: LoaderError) {
+    match e {
+        LoaderError::Line(why) => say_refusal(why),
+        LoaderError::MissingEndOfFileRecord => say(b"! 13"),
+        LoaderError::BadWindow => say(b"! 16"),
+        LoaderError::OutsideWindow(a) => {
+            say(b"! 17");
+            say_field(a as u64, 8);
+        }
+    }
+}
+
+fn say_loading(l: Loading) {
+    match l {
+        Loading::Accepted(n) => {
+            say(b"A");
+            say_field(n as u64, 1);
+        }
+        Loading::Refused(e, line) => {
+            say_loader_error(e);
+            say_line(line);
+        }
+    }
+}
+
+// Whether a run of equal bytes ends ahead of a place.
+fn ends_run(bytes: &[u8], b: u8, next: usize) -> bool {
+    if next >= bytes.len() {
+        return true;
+    }
+    bytes[next] != b
+}
+
+// Prints each run of equal bytes: the byte, and the place behind it.
+fn say_runs(bytes: &[u8]) {
+    let mut i = 0;
+    while i < bytes.len() {
+        let b = bytes[i];
+        i += 1;
+        if ends_run(bytes, b, i) {
+            say_field(wide(b), 2);
+            say(b"<");
+            say_number(i as u64, 1);
+        }
+    }
+}
+
+fn say_long(bytes: &[u8]) {
+    if bytes.len() > 64 {
+        say_runs(bytes);
+        return;
+    }
+    say(b" ");
+    say_bytes(bytes);
+}
+
+fn load(text: &[u8], first: u32, page: &mut [u8], marks: &mut [u8]) {
+    preset(page, 0xCC);
+    preset(marks, 0xAA);
+    let l = loader::load(text, first, page, marks);
+    say_loading(l);
+    say(b" |");
+    say_long(page);
+    say(b" |");
+    say_long(marks);
+}
+
+// One byte more than a page may have.
+fn much_space() -> [u8; 65537]
+    ensures { λ r. ⌜ 65537 ≡ length r ⌝ }
+{
+    [0; 65537]
+}
+
+fn load_beside(text: &[u8], first: u32, page: &mut [u8], length: usize) {
+    let mut space = much_space();
+    let marks: &mut [u8] = &mut space;
+    if length > marks.len() {
+        say(b"?");
+        return;
+    }
+    load(text, first, page, &mut marks[0..length]);
+}
+
+fn load_into(text: &[u8], first: u32, length: usize, marks: usize) {
+    let mut space = much_space();
+    let page: &mut [u8] = &mut space;
+    if length > page.len() {
+        say(b"?");
+        return;
+    }
+    load_beside(text, first, &mut page[0..length], marks);
+}
+
+fn load_case(text: &[u8]) {
+    let first = number(text, 2);
+    let page = number(text, first.next);
+    let marks = number(text, page.next);
+    let mut bytes = io::buffer();
+    let k = unspell(text, marks.next, &mut bytes);
+    load_into(
+        front(&bytes, k),
+        low32(first.value),
+        page.value as usize,
+        marks.value as usize,
+    );
+}
+
+// The answer to a case of texts or records.
+fn answer_whole(kind: u8, text: &[u8]) {
+    if kind == b'T' {
+        text_case(text);
+        return;
+    }
+    if kind == b'W' {
+        record_case(text);
+        return;
+    }
+    if kind == b'O' {
+        object_case(text);
+        return;
+    }
+    if kind == b'M' {
+        load_case(text);
+        return;
+    }
+    say(b"?");
+}
+
+// The answer to a case.
+fn answer(text: &[u8]) {
+    if text.len() == 0 {
+        say(b"?");
+        return;
+    }
+    let kind = text[0];
+    if kind == b'C' {
+        checksum_case(text);
+        return;
+    }
+    if kind == b'L' {
+        line_case(text);
+        return;
+    }
+    if kind == b'#' {
+        io::write_all(1, text);
+        return;
+    }
+    answer_whole(kind, text);
+}
+
+fn run(text: &[u8]) {
+    answer(text);
+    say(b"\n");
+}
+
+// Goes on with a byte of the input: a line that it ends is run. Answers the length of the line so far.
+fn take(b: u8, line: &mut [u8], n: usize) -> usize {
+    if b != b'\n' {
+        return put(line, n, b);
+    }
+    run(front(line, n));
+    0
+}
+
+fn take_all(chunk: &[u8], line: &mut [u8], n: usize) -> usize {
+    let mut m = n;
+    let mut i = 0;
+    while i < chunk.len() {
+        m = take(chunk[i], line, m);
+        i += 1;
+    }
+    m
+}
+
+// The length of the line so far, and whether the input goes on.
+struct Progress {
+    n: usize,
+    more: bool,
+}
+
+// Reads once, and runs the cases that end in what came.
+fn some(line: &mut [u8], n: usize) -> Progress {
+    let mut chunk = io::large_buffer();
+    let got = libc::read(0, &mut chunk);
+    if got <= 0 {
+        return Progress { n, more: false };
+    }
+    let k = io::count(got, &chunk);
+    let m = take_all(&chunk[..k], line, n);
+    Progress { n: m, more: true }
+}
+
+// Nothing says that an input ends, so the turns are counted down from a number that no run uses up.
+fn all(line: &mut [u8]) {
+    let mut n = 0;
+    let mut turns = u64::MAX;
+    while turns > 0 {
+        let p = some(line, n);
+        if !p.more {
+            break;
+        }
+        n = p.n;
+        turns -= 1;
+    }
+}
+
+fn main() {
+    let mut line = io::buffer();
+    all(&mut line);
+}

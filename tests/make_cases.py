@@ -1,0 +1,876 @@
+#!/usr/bin/env python3
+"""Makes the cases of the program `replay`: crates/replay/stdin, and crates/replay/stdout with the answers.
+
+    tests/make_cases.py            writes the two files
+    tests/make_cases.py --check    says whether the stored files are what it would write
+
+The answers come from a model of document 01 that is written here and shares nothing with the port.
+The examples of document 01 and the limits stand here with their answers as well, and the model is
+held to them. src/main.rt of `replay` says what a case looks like.
+"""
+import pathlib
+import re
+import sys
+
+FOLDER = pathlib.Path(__file__).resolve().parent.parent / "crates" / "replay"
+TOP = 2**64 - 1
+# What each place of a lent buffer holds before a call.
+POOL, OUT, PAGE, MARKS = 0xEE, 0xDD, 0xCC, 0xAA
+
+
+# The model.
+
+def checksum(data):
+    return -sum(data) % 256
+
+
+def judge(line, pool, position):
+    """What the record reader answers, and the pool behind the call."""
+    if line[:1] != b":":
+        return "! 1", pool
+    digits = line[1:]
+    if not re.fullmatch(rb"[0-9A-Fa-f]*", digits, re.DOTALL):
+        return "! 2", pool
+    if len(digits) < 10:
+        return "! 3", pool
+    if len(digits) > 520:
+        return "! 4", pool
+    if len(digits) % 2 == 1:
+        return "! 5", pool
+    *body, stated = bytes.fromhex(digits.decode("ascii"))
+    computed = checksum(body)
+    if computed != stated:
+        return f"! 6 {computed:02X} {stated:02X}", pool
+    length, high, low, kind, *payload = body
+    payload = bytes(payload)
+    if length != len(payload):
+        return "! 7", pool
+    if kind > 5:
+        return f"! 8 {kind:02X}", pool
+    if kind != 0:
+        if len(payload) != {1: 0, 2: 2, 3: 4, 4: 2, 5: 4}[kind]:
+            return "! 9", pool
+        return ("E" if kind == 1 else f"X{kind} {payload.hex().upper()}"), pool
+    if position + len(payload) > len(pool):
+        return "! 10", pool
+    pool = pool[:position] + payload + pool[position + len(payload):]
+    return f"D {high * 256 + low:04X} {position:X} {len(payload):X}", pool
+
+
+def lines_of(text):
+    """The lines of a text, without their ends."""
+    *ended, last = text.split(b"\n")
+    rows = [line[:-1] if line.endswith(b"\r") else line for line in ended]
+    return rows + [last] if last else rows
+
+
+class TextReader:
+    """A text, behind how many of its lines the reader stands, and whether a stop was met."""
+
+    def __init__(self, text, stop_after_first_error, stop_after_eof):
+        self.rows = lines_of(text)
+        self.behind = 0
+        self.stopped = False
+        self.after_error, self.after_eof = stop_after_first_error, stop_after_eof
+
+    def next(self, pool):
+        """What a call answers, with the payload at the pool's start, and the pool behind the call."""
+        row = next((i for i in range(self.behind, len(self.rows)) if self.rows[i]), None)
+        if self.stopped or row is None:
+            return "done", pool
+        told, pool = judge(self.rows[row], pool, 0)
+        if told != "! 10":
+            self.behind = row + 1
+            self.stopped = self.after_eof if told == "E" else self.after_error and told.startswith("!")
+        return told, pool
+
+
+def line_of(kind, number, second, at, length, pool):
+    """The line of a record, or the refusal."""
+    if kind == 0:
+        if at + length > len(pool):
+            return None, "! 11"
+        if length > 255:
+            return None, f"! 12 {length:X}"
+        return record(0, number, pool[at:at + length]), None
+    if kind == 3:
+        return record(3, 0, number.to_bytes(2, "big") + second.to_bytes(2, "big")), None
+    return record(kind, 0, number.to_bytes({1: 0, 2: 2, 4: 2, 5: 4}[kind], "big")), None
+
+
+def put_out(text, size):
+    """The answer to a text that is to be written, and the output."""
+    out = bytes([OUT]) * size
+    if len(text) > size:
+        return "! 15", out
+    return f"W {len(text):X}", text.encode("ascii") + out[len(text):]
+
+
+def write_line(given, pool, size):
+    line, refusal = line_of(*given, pool)
+    return put_out(line, size) if refusal is None else (refusal, bytes([OUT]) * size)
+
+
+def write_object(records, pool, size):
+    ends = sum(r[0] == 1 for r in records)
+    lines = [line_of(*r, pool) for r in records]
+    refusals = [refusal for _, refusal in lines if refusal is not None]
+    if not records or records[-1][0] != 1:
+        refusals[:0] = ["! 13"]
+    elif ends > 1:
+        refusals[:0] = [f"! 14 {ends:X}"]
+    if refusals:
+        return refusals[0], bytes([OUT]) * size
+    return put_out("".join(line + "\n" for line, _ in lines), size)
+
+
+def load(text, first, page_size, marks_size):
+    """What the loader answers, page, and marks."""
+    untouched = bytes([PAGE]) * page_size, bytes([MARKS]) * marks_size
+    if page_size != marks_size or page_size > 65536 or first + page_size > 2**32:
+        return "! 16 @0", *untouched
+    base, data, stated = 0, 0, {}
+    for number, row in enumerate(lines_of(text), 1):
+        if not row:
+            continue
+        told, payload = judge(row, bytes(255), 0)
+        if told == "E":
+            page = bytes(stated.get(first + i, PAGE) for i in range(page_size))
+            return f"A {data:X}", page, bytes(first + i in stated for i in range(page_size))
+        if told.startswith("!"):
+            return f"{told} @{number:X}", *untouched
+        kind, value, *rest = told.split()
+        if kind == "X2":
+            base = 16 * int(value, 16)
+        if kind == "X4":
+            base = 65536 * int(value, 16)
+        if kind == "D":
+            data += 1
+            for i in range(int(rest[1], 16)):
+                address = (base + int(value, 16) + i) % 2**32
+                if not first <= address < first + page_size:
+                    return f"! 17 {address:08X} @{number:X}", *untouched
+                stated[address] = payload[i]
+    return "! 13 @0", *untouched
+
+
+# The cases, in order, each with its answer.
+
+cases = []
+answers = []
+
+
+def heading(text):
+    cases.append(f"# {text}")
+    answers.append(f"# {text}")
+
+
+def sum_case(data, answer=None):
+    """The checksum of the bytes."""
+    told = f"{checksum(data):02X}"
+    if answer is not None and told != answer:
+        sys.exit(f"the model answers {told}, not {answer}, to the checksum of {data.hex()}")
+    cases.append(f"C {data.hex().upper()}".rstrip())
+    answers.append(told)
+
+
+def line_case(line, answer=None, pool=4, position=0):
+    """A line read; where an answer is given, the model must give the same."""
+    if isinstance(line, str):
+        line = line.encode("latin-1")
+    told, after = judge(line, bytes([POOL]) * pool, position)
+    if answer is not None and told != answer:
+        sys.exit(f"the model answers {told}, not {answer}, to {line!r}")
+    cases.append(f"L {pool:X} {position:X} {line.hex().upper()}".rstrip())
+    answers.append(f"{told} | {after.hex().upper()}")
+
+
+def text_case(text, answer=None, flags=3, pool=4):
+    """A text read until "done" or refusal 10, and one call more; an answer is the row with its line numbers."""
+    if isinstance(text, str):
+        text = text.encode("latin-1")
+    reader = TextReader(text, flags % 2 == 1, flags // 2 % 2 == 1)
+    row, shown, after = [], [], bytes([POOL]) * pool
+    while len(row) < 40:
+        told, after = reader.next(after)
+        row.append(f"{told} @{reader.behind:X}")
+        shown.append(f"{row[-1]} | {after.hex().upper()}")
+        if told in ("done", "! 10"):
+            break
+    told, _ = reader.next(bytes(4096))
+    row.append(f"{told} @{reader.behind:X}")
+    if answer is not None and row != answer:
+        sys.exit(f"the model answers {row}, not {answer}, to the text {text!r}")
+    cases.append(f"T {flags:X} {pool:X} {text.hex().upper()}".rstrip())
+    answers.append("; ".join([*shown, row[-1]]))
+
+
+def spelt(given):
+    return " ".join(f"{x:X}" for x in given)
+
+
+def write_case(given, answer=None, pool=b"", out=None):
+    """A record written. A record is its type, two numbers, and the place and length of its payload."""
+    if out is None:
+        out = 11 + 2 * given[4] + 4
+    told, after = write_line(given, pool, out)
+    if isinstance(answer, str) and answer.startswith(":"):
+        text = answer.encode("ascii")
+        ok = told == f"W {len(text):X}" and after == text + bytes([OUT]) * (out - len(text))
+    else:
+        ok = answer in (None, told)
+    if not ok:
+        sys.exit(f"the model answers {told} and {after}, not {answer}, to the record {given}")
+    cases.append(f"W {spelt(given)} {out:X} {pool.hex().upper()}".rstrip())
+    answers.append(f"{told} | {after.hex().upper()}")
+
+
+def object_case(records, answer=None, pool=b"", out=80):
+    """A list of records written; an answer is the lines or the refusal."""
+    told, after = write_object(records, pool, out)
+    if isinstance(answer, list):
+        text = "".join(line + "\n" for line in answer).encode("ascii")
+        ok = told == f"W {len(text):X}" and after == text + bytes([OUT]) * (out - len(text))
+    else:
+        ok = answer in (None, told)
+    if not ok:
+        sys.exit(f"the model answers {told} and {after}, not {answer}, to the records {records}")
+    cases.append(" ".join([f"O {out:X} {pool.hex().upper()}", *map(spelt, records)]))
+    answers.append(f"{told} | {after.hex().upper()}")
+    return after[:int(told[2:], 16)] if told.startswith("W") else None
+
+
+def told_long(data):
+    """All bytes, or the runs of equal ones where there are more than 64."""
+    if len(data) <= 64:
+        return " " + data.hex().upper()
+    ends = [i for i in range(1, len(data) + 1) if i == len(data) or data[i] != data[i - 1]]
+    return "".join(f" {data[i - 1]:02X}<{i:X}" for i in ends)
+
+
+def load_case(text, answer=None, first=0, page=8, marks=None, places=None):
+    """A text loaded; places are the marked ones, each with what it holds."""
+    if isinstance(text, str):
+        text = text.encode("latin-1")
+    if marks is None:
+        marks = page
+    told, after, marked = load(text, first, page, marks)
+    if answer is not None and told != answer:
+        sys.exit(f"the model answers {told}, not {answer}, to the load of {text!r} at {first:X}")
+    if places is not None:
+        wanted = bytes(places.get(i, PAGE) for i in range(page)), bytes(i in places for i in range(page))
+        if (after, marked) != wanted:
+            sys.exit(f"the model stores {after.hex()} and marks {marked.hex()} for the load of {text!r} at {first:X}")
+    cases.append(f"M {first:X} {page:X} {marks:X} {text.hex().upper()}".rstrip())
+    answers.append(f"{told} |{told_long(after)} |{told_long(marked)}")
+
+
+def record(kind, address, payload, length=None, check=None):
+    """The line of a record in capitals; length byte and checksum as given, else the right ones."""
+    body = bytes([len(payload) if length is None else length, address >> 8, address & 255, kind]) + bytes(payload)
+    return ":" + (body + bytes([checksum(body) if check is None else check])).hex().upper()
+
+
+def some_bytes(n, start=0):
+    """n bytes, none of which is the pool's preset and no two neighbours of which are equal."""
+    return bytes((start + 7 * i) % 223 for i in range(n))
+
+
+class Numbers:
+    """A row of numbers that is the same on every machine."""
+
+    def __init__(self, seed):
+        self.state = seed
+
+    def below(self, n):
+        self.state = (self.state * 6364136223846793005 + 1442695040888963407) % 2**64
+        return (self.state >> 33) % n
+
+
+def of_document_01():
+    heading("document 01: the lines marked P")
+    line_case("", "! 1")
+    line_case(":", "! 3")
+    line_case(":G", "! 2")
+    line_case(":0100000", "! 3")
+    line_case(":00000001FF0", "! 5")
+    line_case(":00000001FE", "! 6 FF FE")
+    line_case(":01000000FF", "! 7")
+    line_case(":01000006F9", "! 7")
+    line_case(":00000006FA", "! 8 06")
+    line_case(":0100000100FE", "! 9")
+    line_case(":00123401B9", "E")
+    line_case(":020000021200EA", "X2 1200")
+    line_case(":02000004FFFFFC", "X4 FFFF")
+    line_case(":04000005000000CD2A", "X5 000000CD")
+    heading("document 01: the other lines")
+    longest = record(0, 0, some_bytes(255))
+    assert len(longest) == 521 and longest.startswith(":FF")
+    line_case(longest, "D 0000 0 FF", pool=255)
+    line_case(longest + "0", "! 4", pool=255)
+    line_case(":00000001FF\r", "! 2")
+    line_case("\r", "! 1")
+    line_case(":02FFFF00AABB9B", "D FFFF 0 2")
+    line_case(":010005007783", "D 0005 0 1")
+    line_case(":00000001FF", "E")
+    line_case(":04012000102030403B", "D 0120 0 4")
+    heading("document 01: errors that look right")
+    line_case(":000000010", "! 3")
+    line_case(" :00000001FF", "! 1")
+    line_case(":00000001FF ", "! 2")
+    line_case(": 00000001FF", "! 2")
+    line_case(":00000001FF\r\r", "! 2")
+    line_case(":00000001FF\n", "! 2")
+    line_case("\n", "! 1")
+    heading("the crate's own examples")
+    line_case(":00000001FF", "E")
+    assert record(0, 0x10, b"Hello") == ":0500100048656C6C6FF7"
+    line_case(":0500100048656C6C6FF7", "D 0010 0 5", pool=5)
+
+
+def of_the_checksum():
+    heading("checksum: of none, of each byte, of sums that wrap")
+    sum_case(b"", "00")
+    sum_case(bytes.fromhex("00000001"), "FF")
+    sum_case(bytes.fromhex("02000004FFFF"), "FC")
+    sum_case(bytes.fromhex("0401200010203040"), "3B")
+    sum_case(bytes([0x80, 0x80]), "00")
+    sum_case(bytes([0xFF, 0x01]), "00")
+    sum_case(bytes([0xFF] * 2), "02")
+    sum_case(bytes([0xFF] * 256), "00")
+    sum_case(bytes([0xFF] * 257), "01")
+    sum_case(bytes([0x01] * 255), "01")
+    sum_case(bytes(range(256)), "80")
+    for b in range(256):
+        sum_case(bytes([b]))
+    for n in (2, 3, 15, 16, 17, 259, 260, 1024):
+        sum_case(some_bytes(n, n))
+
+
+def of_the_digits():
+    heading("how many digits: 0 to 24, 508 to 530, 1040 and 1041, good records where they can be")
+    for n in [*range(25), *range(508, 531), 1040, 1041]:
+        if n % 2 == 0 and 10 <= n <= 520:
+            line_case(record(0, 0x1234, some_bytes((n - 10) // 2)), f"D 1234 0 {(n - 10) // 2:X}", pool=256)
+        else:
+            line_case(":" + "0" * n, "! 3" if n < 10 else "! 4" if n > 520 else "! 5")
+    heading("the limits of the digits: 9, 10, 519, 520, 521, 522")
+    line_case(":" + "00000001FF"[:9], "! 3")
+    line_case(":" + "0" * 10, "D 0000 0 0")
+    line_case(":" + "0" * 519, "! 5")
+    line_case(":" + "0" * 520, "! 7")
+    line_case(":" + "0" * 521, "! 4")
+    line_case(":" + "0" * 522, "! 4")
+    heading("every byte as the first character, alone and before a good line's digits")
+    for b in range(256):
+        line_case(bytes([b]), "! 3" if b == 0x3A else "! 1")
+        line_case(bytes([b]) + b"00000001FF", "E" if b == 0x3A else "! 1")
+    good = b":010005007783"
+    for name, place in (("first", 1), ("middle", 9), ("last", 12)):
+        heading(f"every byte as the {name} digit of {good.decode()}")
+        for b in range(256):
+            line = good[:place] + bytes([b]) + good[place + 1:]
+            line_case(line, None if chr(b) in "0123456789ABCDEFabcdef" else "! 2")
+    heading("the neighbours of the digits, and bytes with the top bit, at every place")
+    for b in b"/:@G`g \x00\x7f\x80\xb0\xc1\xe1\xff":
+        for place in range(1, len(good)):
+            line_case(good[:place] + bytes([b]) + good[place + 1:], "! 2")
+    heading("both letter cases")
+    for kind, address, payload in ((0, 0xABCD, "ABCDEFFEDCBA0A"), (0, 0xFACE, ""), (3, 0, "ABCDEFAB"), (4, 0xBEEF, "CAFE"), (6, 0, "AB")):
+        line = record(kind, address, bytes.fromhex(payload))
+        line_case(line, pool=16)
+        line_case(line.lower(), pool=16)
+        line_case("".join(c.lower() if i % 2 else c for i, c in enumerate(line)), pool=16)
+        line_case("".join(c if i % 2 else c.lower() for i, c in enumerate(line)), pool=16)
+    line_case(":00000001ff", "E")
+    line_case(":00000001fF", "E")
+    line_case(":00000001Fe", "! 6 FF FE")
+    line_case(":02abcd00cdefCA", "D ABCD 0 2")
+
+
+def of_other_bytes():
+    heading("bytes that are no ASCII: UTF-8 and not")
+    for text in ("é", "€", "０", "：", "\u2028", "𝟘", "\ufeff"):
+        raw = text.encode("utf-8")
+        line_case(raw, "! 1")
+        line_case(raw + b":00000001FF", "! 1")
+        line_case(b":" + raw, "! 2")
+        line_case(b":" + raw + b"00000001FF", "! 2")
+        line_case(b":00000001FF" + raw, "! 2")
+        line_case(b":" + raw * 200, "! 2")
+    for raw in (b"\x80", b"\xff", b"\xc3", b"\xc3\x28", b"\xe2\x82", b"\xc0\xaf", b"\xed\xa0\x80", b"\xf5\x80\x80\x80", b"\xff\xfe"):
+        line_case(raw, "! 1")
+        line_case(raw + b":00000001FF", "! 1")
+        line_case(b":" + raw, "! 2")
+        line_case(b":" + raw + b"0000000001FF", "! 2")
+        line_case(b":00000001FF" + raw, "! 2")
+    line_case(b":" + bytes(range(128, 256)) * 5, "! 2")
+
+
+def of_the_order():
+    heading("two faults in one line: the first in the order is told")
+    line_case("00000001FG", "! 1")
+    line_case("G", "! 1")
+    line_case("x" * 521, "! 1")
+    line_case(":0G", "! 2")
+    line_case(":0000000G", "! 2")
+    line_case(":" + "0" * 520 + "G", "! 2")
+    line_case(":" + "0" * 521 + "g", "! 2")
+    line_case(":00000001FG", "! 2")
+    line_case(":00000001F", "! 3")
+    line_case(":" + "0" * 523, "! 4")
+    line_case(":00000001FE0", "! 5")
+    line_case(record(0, 0, b"", length=1, check=0), "! 6 FF 00")
+    line_case(record(6, 0, b"", check=0), "! 6 FA 00")
+    line_case(record(1, 0, b"\x00", check=0), "! 6 FE 00")
+    line_case(record(0, 0, b"\x01", check=0), "! 6 FE 00", pool=0)
+    line_case(record(6, 0, b"", length=1), "! 7")
+    line_case(record(1, 0, b"", length=1), "! 7")
+    line_case(record(0, 0, b"\x01", length=2), "! 7", pool=0)
+    line_case(record(6, 0, b"\x01"), "! 8 06", pool=0)
+    line_case(record(2, 0, b"\x01"), "! 9", pool=0)
+    line_case(record(0, 0, b"\x01"), "! 10", pool=0)
+    line_case(record(1, 0, b""), "E", pool=0, position=TOP)
+    line_case(record(2, 0, b"\x12\x34"), "X2 1234", pool=0, position=TOP)
+
+
+def of_the_fields():
+    heading("every stated checksum")
+    for b in range(256):
+        line_case(record(0, 0x0100, b"\x12\x34\x56", check=b), "D 0100 1 3" if b == 0x60 else f"! 6 60 {b:02X}", position=1)
+    heading("every length byte, with the checksum made right")
+    for b in range(256):
+        line_case(record(0, 0x0100, b"\x12\x34\x56", length=b), "D 0100 1 3" if b == 3 else "! 7", position=1)
+    heading("every type, with no payload and with four bytes")
+    for kind in range(256):
+        line_case(record(kind, 0, b""))
+        line_case(record(kind, 0, b"\x12\x34\x56\x78"))
+    heading("types 00 to 06, with every size from 0 to 8 and the longest, and an address that is not 0000")
+    for kind in range(7):
+        for n in [*range(9), 254, 255]:
+            line_case(record(kind, 0, some_bytes(n, 0xC1)), pool=n)
+        for address in (0x0001, 0x1234, 0xFF00, 0xFFFF):
+            for n in (0, 2, 4):
+                line_case(record(kind, address, some_bytes(n, 0xC1)))
+    heading("the numbers of the types, high byte first")
+    line_case(record(2, 0, b"\x00\x01"), "X2 0001")
+    line_case(record(2, 0, b"\x01\x00"), "X2 0100")
+    line_case(record(3, 0, b"\x12\x34\x56\x78"), "X3 12345678")
+    line_case(record(3, 0, b"\x00\x01\x00\x02"), "X3 00010002")
+    line_case(record(3, 0, b"\xFF\xFF\x00\x00"), "X3 FFFF0000")
+    line_case(record(4, 0, b"\x80\x00"), "X4 8000")
+    line_case(record(5, 0, b"\x12\x34\x56\x78"), "X5 12345678")
+    line_case(record(5, 0, b"\xFF\xFF\xFF\xFF"), "X5 FFFFFFFF")
+    line_case(record(5, 0, b"\x00\x00\x00\x00"), "X5 00000000")
+    line_case(record(0, 0x00FF, b""), "D 00FF 0 0")
+    line_case(record(0, 0xFF00, b""), "D FF00 0 0")
+
+
+def of_the_pool():
+    heading("every payload length, in a pool that it fills")
+    for n in range(256):
+        line_case(record(0, n, some_bytes(n, n)), f"D {n:04X} 0 {n:X}", pool=n)
+    heading("a pool one byte short")
+    for n in (1, 2, 15, 16, 17, 254, 255):
+        line_case(record(0, n, some_bytes(n, n)), "! 10", pool=n - 1)
+    heading("the limits of the position, with payloads of 0, 1, 2 and 16 bytes")
+    for n in (0, 1, 2, 16):
+        line = record(0, 0x0200, some_bytes(n, 1))
+        for pool in (0, 1, 2, 15, 16, 17, 40):
+            near = {0, 1, pool - n - 1, pool - n, pool - n + 1, pool - 1, pool, pool + 1}
+            far = {255, 256, 2**16, 2**31, 2**32 - 1, 2**32, 2**63 - 1, 2**63, TOP - 16, TOP - 15, TOP - 1, TOP}
+            for position in sorted(p for p in near | far if p >= 0):
+                line_case(line, f"D 0200 {position:X} {n:X}" if position + n <= pool else "! 10", pool, position)
+    heading("the longest payload in pools about its size")
+    line = record(0, 0xFFFF, some_bytes(255, 3))
+    for pool, position in ((254, 0), (255, 0), (255, 1), (256, 1), (256, 2), (300, 0), (300, 45), (300, 46), (300, TOP), (300, TOP - 254), (300, TOP - 255)):
+        line_case(line, f"D FFFF {position:X} FF" if position + 255 <= pool else "! 10", pool, position)
+    heading("an empty payload at the pool's end, and beyond it")
+    line_case(":0000000000", "D 0000 0 0", 0, 0)
+    line_case(":0000000000", "! 10", 0, 1)
+    line_case(":0000000000", "D 0000 12C 0", 300, 300)
+    line_case(":0000000000", "! 10", 300, 301)
+    line_case(":0000000000", "! 10", 300, TOP)
+
+
+def of_chance():
+    heading("records by chance, in letters of both cases")
+    numbers = Numbers(1988)
+    lines = []
+    for _ in range(300):
+        kind = numbers.below(6)
+        n = {0: numbers.below(33), 1: 0, 2: 2, 3: 4, 4: 2, 5: 4}[kind]
+        line = record(kind, numbers.below(65536), bytes(numbers.below(256) for _ in range(n)))
+        lines.append("".join(c.lower() if numbers.below(2) else c for c in line))
+        line_case(lines[-1], pool=numbers.below(64), position=numbers.below(32))
+    heading("the same with one character changed, dropped or doubled")
+    for line in lines:
+        at, what = numbers.below(len(line)), numbers.below(4)
+        new = "0123456789abcdefABCDEF:gG \r"[numbers.below(27)]
+        line_case(line[:at] + ("", line[at] * 2, new, new)[what] + line[at + 1:], pool=40, position=2)
+
+
+END = ":00000001FF"
+END_RECORD = (1, 0, 0, 0, 0)
+# A line for each refusal from 1 to 9.
+BAD = ["00000001FF", ":0000000G", ":0100000", ":" + "0" * 521, ":00000001FF0", ":00000001FE", ":01000000FF", ":00000006FA", ":0100000100FE"]
+SAID = ["! 1", "! 2", "! 3", "! 4", "! 5", "! 6 FF FE", "! 7", "! 8 06", "! 9"]
+
+
+def data(offset, at, length):
+    return (0, offset, 0, at, length)
+
+
+def ended(*lines, end="\n"):
+    return "".join(line + end for line in lines)
+
+
+def of_texts():
+    listed = ":04012000102030403B\n\n:00000001FE\n:00000001FF\n"
+    heading("texts: all four settings of the stops")
+    text_case(listed, ["D 0120 0 4 @1", "! 6 FF FE @3", "E @4", "done @4", "done @4"], flags=2)
+    text_case(listed, ["D 0120 0 4 @1", "! 6 FF FE @3", "done @3", "done @3"], flags=3)
+    twice = ended(BAD[0], END, BAD[1], ":010005007783", END)
+    text_case(twice, ["! 1 @1", "E @2", "! 2 @3", "D 0005 0 1 @4", "E @5", "done @5", "done @5"], flags=0)
+    text_case(twice, ["! 1 @1", "done @1", "done @1"], flags=1)
+    text_case(twice, ["! 1 @1", "E @2", "done @2", "done @2"], flags=2)
+    text_case(twice, ["! 1 @1", "done @1", "done @1"], flags=3)
+    tail = ended(":010005007783", END, ":0100060055A4", END, BAD[3])
+    text_case(tail, ["D 0005 0 1 @1", "E @2", "D 0006 0 1 @3", "E @4", "! 4 @5", "done @5", "done @5"], flags=0)
+    text_case(tail, ["D 0005 0 1 @1", "E @2", "D 0006 0 1 @3", "E @4", "! 4 @5", "done @5", "done @5"], flags=1)
+    text_case(tail, ["D 0005 0 1 @1", "E @2", "done @2", "done @2"], flags=2)
+    text_case(tail, ["D 0005 0 1 @1", "E @2", "done @2", "done @2"], flags=3)
+    text_case(tail[:-1], ["D 0005 0 1 @1", "E @2", "D 0006 0 1 @3", "E @4", "! 4 @5", "done @5", "done @5"], flags=0)
+    heading("texts: line ends, empty lines and their numbers")
+    for flags in range(4):
+        text_case("", ["done @0", "done @0"], flags)
+        text_case("\n", ["done @0", "done @0"], flags)
+        text_case("\r\n", ["done @0", "done @0"], flags)
+        text_case("\n\r\n\n", ["done @0", "done @0"], flags)
+    text_case(END, ["E @1", "done @1", "done @1"])
+    text_case(END + "\n", ["E @1", "done @1", "done @1"])
+    text_case(END + "\r\n", ["E @1", "done @1", "done @1"])
+    text_case(END + "\r", ["! 2 @1", "done @1", "done @1"])
+    text_case(END + "\r\r\n", ["! 2 @1", "done @1", "done @1"])
+    text_case("\r", ["! 1 @1", "done @1", "done @1"])
+    text_case("\r\r\n", ["! 1 @1", "done @1", "done @1"])
+    text_case("\r\r\n" + END, ["! 1 @1", "E @2", "done @2", "done @2"], flags=2)
+    text_case("\r\r\r\n\r\n" + END + "\r\n", ["! 1 @1", "E @3", "done @3", "done @3"], flags=0)
+    text_case("\n\r", ["! 1 @2", "done @2", "done @2"])
+    text_case("\n\n\r\n" + END, ["E @4", "done @4", "done @4"])
+    text_case("\r" + END + "\n", ["! 1 @1", "done @1", "done @1"])
+    text_case(":0000\r0001FF\n", ["! 2 @1", "done @1", "done @1"])
+    text_case(END + "\r" + END + "\n", ["! 2 @1", "done @1", "done @1"])
+    text_case("\n" * 300 + END, ["E @12D", "done @12D", "done @12D"])
+    text_case("\r\n" * 300 + BAD[0] + "\r\n" * 300 + END, ["! 1 @12D", "E @259", "done @259", "done @259"], flags=0)
+    text_case(END + "\n\n\r\n\n", ["E @1", "done @1", "done @1"], flags=0)
+    text_case(" \n\t\n" + END, ["! 1 @1", "! 1 @2", "E @3", "done @3", "done @3"], flags=2)
+    text_case("\x00\n\xff\xfe\n\xe9\n:\x80\n\x0b\n\x0c\n\x85\n" + END,
+              ["! 1 @1", "! 1 @2", "! 1 @3", "! 2 @4", "! 1 @5", "! 1 @6", "! 1 @7", "E @8", "done @8", "done @8"], flags=2)
+    heading("texts: lines of 13 to 19 and 29 to 35 bytes, with each line end")
+    for n in [*range(13, 20), *range(29, 36)]:
+        for end in ("\n", "\r\n", "\r\r\n", ""):
+            text_case(":" + "0" * (n - 1) + end, flags=0)
+            text_case(":" + "0" * (n - 1) + end + END, flags=0)
+    heading("texts: every record type, and each refusal from 1 to 9")
+    kinds = ended(":0100050077" + "83", ":020000021200EA", ":0400000312345678E5", ":02000004FFFFFC", ":04000005000000CD2A", END)
+    for flags in range(4):
+        text_case(kinds, ["D 0005 0 1 @1", "X2 1200 @2", "X3 12345678 @3", "X4 FFFF @4", "X5 000000CD @5", "E @6", "done @6", "done @6"], flags)
+    text_case(ended(*BAD, END), [*(f"{said} @{i:X}" for i, said in enumerate(SAID, 1)), "E @A", "done @A", "done @A"], flags=2)
+    for line, said in zip(BAD, SAID):
+        text_case(ended("", line, END), [f"{said} @2", "done @2", "done @2"])
+        text_case(ended("", line, END), [f"{said} @2", "E @3", "done @3", "done @3"], flags=2)
+        text_case(line, [f"{said} @1", "done @1", "done @1"], flags=0)
+    heading("texts: refusal 10 uses up no line and sets no stop")
+    for flags in range(4):
+        text_case(ended("", ":010005007783", "", ":02FFFF00AABB9B", END), ["D 0005 0 1 @2", "! 10 @2", "D FFFF 0 2 @4"], flags, pool=1)
+        text_case(":02FFFF00AABB9B", ["! 10 @0", "D FFFF 0 2 @1"], flags, pool=1)
+        text_case(":010005007783\n", ["! 10 @0", "D 0005 0 1 @1"], flags, pool=0)
+        text_case(":0000050" + "0FB", ["D 0005 0 0 @1", "done @1", "done @1"], flags, pool=0)
+    longest = record(0, 0, some_bytes(255))
+    text_case(ended(longest, END), ["! 10 @0", "D 0000 0 FF @1"], pool=254)
+    text_case(ended(longest, END), ["D 0000 0 FF @1", "E @2", "done @2", "done @2"], pool=255)
+    heading("texts: payloads over one another, each from the pool's start")
+    text_case(ended(record(0, 1, b"\x11\x22\x33\x44"), record(0, 2, b"\x55\x66"), record(0, 3, b""), record(0, 4, b"\x77"), END), pool=6)
+    heading("texts: more than 40 answers")
+    text_case("x\n" * 45, [f"! 1 @{i:X}" for i in range(1, 42)], flags=0)
+    text_case(ended(END) * 45, [f"E @{i:X}" for i in range(1, 42)], flags=1)
+    heading("texts: every text of up to four bytes of LF, CR, the colon and 0, with both stops off")
+    for n in range(5):
+        for i in range(4**n):
+            text_case("".join("\n\r:0"[i // 4**k % 4] for k in range(n)), flags=0, pool=0)
+
+
+def of_one_record():
+    hello = b"Hello"
+    heading("writing: every record type")
+    write_case(data(0x10, 0, 5), ":0500100048656C6C6FF7", hello)
+    write_case(END_RECORD, END)
+    write_case((2, 0x1200, 0, 0, 0), ":020000021200EA", out=15)
+    write_case((3, 0x1234, 0x5678, 0, 0), ":0400000312345678E5", out=19)
+    write_case((4, 0xFFFF, 0, 0, 0), ":02000004FFFFFC", out=15)
+    write_case((5, 0xCD, 0, 0, 0), ":04000005000000CD2A", out=19)
+    write_case(data(0xFFFF, 0, 2), ":02FFFF00AABB9B", b"\xAA\xBB")
+    write_case(data(0, 0, 0), ":0000000000")
+    for kind, number, second in ((1, 0, 0), (2, 1, 0), (2, 0x100, 0), (2, 0xABCD, 0), (3, 1, 2), (3, 0xFFFF, 0), (3, 0, 0xFFFF), (4, 0x8000, 0), (4, 0xEF01, 0), (5, 1, 0), (5, 0xFFFFFFFF, 0), (5, 0x12345678, 0), (5, 0x00FF00FF, 0), (5, 0xFEDCBA98, 0)):
+        for out in (0, 10, 11, 14, 15, 18, 19, 24):
+            write_case((kind, number, second, 0, 0), out=out)
+    heading("writing: every payload byte in capitals, and every offset byte")
+    for b in range(0, 256, 4):
+        write_case(data(257 * b, 0, 4), pool=bytes(range(b, b + 4)))
+    heading("writing: payloads of 0, 1, 2, 254, 255, 256 and 300 bytes, the output full, one short and longer")
+    for n in (0, 1, 2, 254, 255):
+        for out in (11 + 2 * n, 12 + 2 * n):
+            write_case(data(n, 0, n), f"W {11 + 2 * n:X}", some_bytes(n, 1), out)
+        for out in (10 + 2 * n, 1, 0):
+            write_case(data(n, 0, n), "! 15", some_bytes(n, 1), out)
+    for n in (256, 257, 300):
+        for out in (0, 11, 11 + 2 * n):
+            write_case(data(n, 0, n), f"! 12 {n:X}", some_bytes(n, 1), out)
+            write_case(data(n, 0, n), "! 11", some_bytes(n - 1, 1), out)
+    heading("writing: positions at the pool's end and beyond it, up to 2^64 - 1")
+    for pool in (0, 1, 5, 300):
+        for n in sorted({0, 1, 2, pool, pool + 1, 255, 256, 2**32, 2**63, TOP}):
+            for at in sorted({0, 1, max(pool - n, 0), max(pool - n, 0) + 1, pool, pool + 1, 2**32, 2**63, TOP - 1, TOP}):
+                fits = at + n <= pool
+                write_case(data(0x1234, at, n), None if fits and n <= 255 else f"! 12 {n:X}" if fits else "! 11", some_bytes(pool, 9), out=24)
+    heading("writing: in the order 11, 12, 15")
+    write_case(data(0, 1, 256), "! 11", some_bytes(256), out=0)
+    write_case(data(0, 0, 256), "! 12 100", some_bytes(256), out=0)
+    write_case(data(0, 0, 255), "! 15", some_bytes(256), out=0)
+    write_case(data(0, TOP, 1), "! 11", b"\x01", out=0)
+    write_case(data(0, TOP, TOP), "! 11", b"\x01", out=0)
+    write_case(data(0, 0, TOP), "! 11", b"\x01", out=0)
+
+
+def of_objects():
+    hello = b"Hello"
+    heading("objects: the crate's example")
+    text = object_case([data(0x10, 0, 5), END_RECORD], [":0500100048656C6C6FF7", END], hello)
+    assert text == b":0500100048656C6C6FF7\n:00000001FF\n" and len(text) == 34
+    object_case([data(0x10, 0, 5), END_RECORD], [":0500100048656C6C6FF7", END], hello, out=34)
+    object_case([data(0x10, 0, 5), END_RECORD], "! 15", hello, out=33)
+    object_case([data(0x10, 0, 5), END_RECORD], "! 15", hello, out=0)
+    heading("objects: end records that are missing, not last, or more than one")
+    object_case([], "! 13")
+    object_case([], "! 13", out=0)
+    object_case([END_RECORD], [END])
+    object_case([END_RECORD], [END], out=12)
+    object_case([END_RECORD], "! 15", out=11)
+    object_case([END_RECORD, END_RECORD, data(0, 0, 0)], "! 13")
+    object_case([data(0, 0, 0)], "! 13")
+    object_case([END_RECORD, (5, 1, 0, 0, 0)], "! 13")
+    for n in (2, 3, 4, 10, 20, 40):
+        object_case([END_RECORD] * n, f"! 14 {n:X}", out=600)
+    object_case([END_RECORD, data(0, 0, 0), END_RECORD], "! 14 2")
+    object_case([END_RECORD, (2, 1, 0, 0, 0), END_RECORD, data(0, 0, 1), END_RECORD], "! 14 3", b"\x01")
+    heading("objects: every record type")
+    every = [data(5, 0, 1), (2, 0x1200, 0, 0, 0), (3, 0x1234, 0x5678, 0, 0), (4, 0xFFFF, 0, 0, 0), (5, 0xCD, 0, 0, 0), END_RECORD]
+    lines = [":010005007783", ":020000021200EA", ":0400000312345678E5", ":02000004FFFFFC", ":04000005000000CD2A", END]
+    whole = sum(len(line) + 1 for line in lines)
+    object_case(every, lines, b"\x77", out=whole)
+    object_case(every, lines, b"\x77", out=whole + 9)
+    object_case(every, "! 15", b"\x77", out=whole - 1)
+    heading("objects: the first record with 11 or 12, and nothing written ahead of it")
+    many = some_bytes(300)
+    object_case([data(0, 0, 4), data(0, 0, 256), data(0, 300, 1), END_RECORD], "! 12 100", many)
+    object_case([data(0, 0, 4), data(0, 300, 1), data(0, 0, 256), END_RECORD], "! 11", many)
+    object_case([data(0, 0, 4), data(0, 1, 299), data(0, 0, 300), END_RECORD], "! 12 12B", many)
+    object_case([data(0, 0, 4), data(0, 0, 4), data(0, TOP, 1), END_RECORD], "! 11", many)
+    object_case([data(0, 0, 4), data(0, TOP, TOP), END_RECORD], "! 11", many, out=0)
+    object_case([data(0, 0, 256), END_RECORD], "! 12 100", many, out=0)
+    object_case([data(0, 0, 256), END_RECORD, END_RECORD], "! 14 2", many)
+    object_case([data(0, 0, 256), data(0, 301, 0)], "! 13", many)
+    object_case([data(0, 0, 255), END_RECORD], "W 216", many, out=534)
+    object_case([data(0, 0, 255), END_RECORD], "! 15", many, out=533)
+    object_case([data(0, 300, 0), END_RECORD], [":0000000000", END], many)
+    object_case([data(0, 301, 0), END_RECORD], "! 11", many)
+    heading("objects: payloads that lie over one another in the pool")
+    object_case([data(1, 0, 3), data(2, 1, 3), data(3, 0, 4), END_RECORD], pool=b"\x11\x22\x33\x44")
+
+
+def of_loads():
+    example = ended(":020000021200EA", ":010005007783", END)
+    heading("loads: document 01's example")
+    load_case(example, "A 1", 0x12000, 8, places={5: 0x77})
+    load_case(example, "A 1", 0x12005, 1, places={0: 0x77})
+    load_case(example, "! 17 00012005 @2", 0x12000, 5)
+    load_case(example, "! 17 00012005 @2", 0x12006, 5)
+    load_case(example, "A 1", 0x12000, 6, places={5: 0x77})
+    heading("loads: data at FFFF and 10000")
+    over = ended(":02FFFF00AABB9B", END)
+    load_case(over, "A 1", 0xFFFF, 2, places={0: 0xAA, 1: 0xBB})
+    load_case(over, "A 1", 0xFFF8, 16, places={7: 0xAA, 8: 0xBB})
+    load_case(over, "! 17 00010000 @1", 0xFFF8, 8)
+    load_case(over, "! 17 0000FFFF @1", 0x10000, 8)
+    load_case(over, "! 17 00010000 @1", 0, 65536)
+    load_case(over, "A 1", 1, 65536, places={0xFFFE: 0xAA, 0xFFFF: 0xBB})
+    load_case(ended(":020000021200EA", ":02FFFF00AABB9B", END), "A 1", 0x21FFF, 2, places={0: 0xAA, 1: 0xBB})
+    heading("loads: the wrap at 2^32")
+    top = ended(":02000004FFFFFC", ":02FFFF00AABB9B", END)
+    load_case(top, "! 17 00000000 @2", 0xFFFFFFFF, 1)
+    load_case(top, "! 17 00000000 @2", 0xFFFFFFF0, 16)
+    load_case(top, "! 17 FFFFFFFF @2", 0, 16)
+    load_case(ended(":02000004FFFFFC", record(0, 0xFFFF, b"\x77"), END), "A 1", 0xFFFFFFFF, 1, places={0: 0x77})
+    load_case(ended(":02000004FFFFFC", record(0, 0xFFFF, b"\x77"), END), "A 1", 0xFFFF0000, 65536, places={0xFFFF: 0x77})
+    load_case(ended(":02000004FFFFFC", record(0, 0xFFFE, some_bytes(4, 1)), END), "! 17 00000000 @2", 0xFFFFFFC0, 64)
+    heading("loads: windows of length 0 and 1, to 2^32 and past it, of 65,536 and 65,537 places, page and marks of two lengths")
+    empty = ended(END)
+    for first in (0, 1, 0x12000, 2**31, 2**32 - 1):
+        load_case(empty, "A 0", first, 0, places={})
+        load_case(empty, "A 0", first, 1, places={})
+        load_case(example, "! 17 00012005 @2", first, 0)
+        load_case(example, "! 17 00012005 @2", first, 1)
+        load_case(empty, "A 0" if first + 2 <= 2**32 else "! 16 @0", first, 2)
+        for page, marks in ((0, 1), (1, 0), (8, 7), (7, 8), (65536, 65535), (65537, 65536), (0, 65537)):
+            load_case(empty, "! 16 @0", first, page, marks)
+    load_case(empty, "A 0", 2**32 - 8, 8, places={})
+    load_case(empty, "! 16 @0", 2**32 - 8, 9)
+    load_case(empty, "A 0", 2**32 - 65536, 65536, places={})
+    load_case(empty, "! 16 @0", 2**32 - 65535, 65536)
+    load_case(empty, "A 0", 0, 65536, places={})
+    load_case(empty, "! 16 @0", 0, 65537)
+    load_case(example, "A 1", 0x12000, 65536, places={5: 0x77})
+    load_case(example, "! 16 @0", 0x12000, 65537)
+    load_case("", "! 16 @0", 0, 8, 7)
+    load_case(BAD[0], "! 16 @0", 0, 8, 7)
+    heading("loads: a data record half inside")
+    four = ended(record(0, 0x100, b"\x11\x22\x33\x44"), END)
+    load_case(four, "A 1", 0x100, 4, places={0: 0x11, 1: 0x22, 2: 0x33, 3: 0x44})
+    for n in range(4):
+        load_case(four, f"! 17 {0x100 + n:08X} @1", 0x100, n)
+        load_case(four, f"! 17 {0x100 + n:08X} @1", 0x100 + n - 4, 4)
+        load_case(four, "! 17 00000100 @1", 0x101 + n, 4)
+    load_case(ended("", record(0, 0, b"\x11"), "", record(0, 6, some_bytes(4)), END), "! 17 00000008 @4")
+    load_case(ended("", record(0, 0, b"\x11"), "", record(0, 6, some_bytes(4)), BAD[0]), "! 17 00000008 @4")
+    heading("loads: bases, the latest of types 02 and 04 in force, start records place nothing")
+    one = record(0, 2, b"\x77")
+    segment, linear = record(2, 0, b"\x12\x34"), record(4, 0, b"\x00\x01")
+    load_case(ended(one, END), "A 1", places={2: 0x77})
+    load_case(ended(segment, one, END), "A 1", 0x12340, places={2: 0x77})
+    load_case(ended(linear, one, END), "A 1", 0x10000, places={2: 0x77})
+    load_case(ended(segment, linear, one, END), "A 1", 0x10000, places={2: 0x77})
+    load_case(ended(linear, segment, one, END), "A 1", 0x12340, places={2: 0x77})
+    load_case(ended(linear, segment, record(4, 0, b"\x00\x00"), one, END), "A 1", 0, places={2: 0x77})
+    load_case(ended(linear, record(2, 0, b"\x00\x00"), one, END), "A 1", 0, places={2: 0x77})
+    load_case(ended(record(2, 0, b"\xFF\xFF"), record(0, 0xFFFF, b"\x77"), END), "A 1", 0x10FFE8, places={7: 0x77})
+    load_case(ended(one, linear, record(0, 0, b"\x55"), END), "! 17 00010000 @3", 0)
+    load_case(ended(record(0, 0xFFFF, b"\x11"), linear, record(0, 0, b"\x22"), END), "A 2", 0xFFFC, places={3: 0x11, 4: 0x22})
+    load_case(ended(record(3, 0, b"\x12\x34\x56\x78"), one, record(5, 0, b"\x00\x01\x00\x00"), record(0, 3, b"\x66"), END), "A 2", places={2: 0x77, 3: 0x66})
+    load_case(ended(record(2, 0x1234, b"\x00\x00"), record(4, 5, b"\x00\x00"), one, ":00123401B9"), "A 1", places={2: 0x77})
+    heading("loads: records over one another, the last one holds")
+    load_case(ended(record(0, 0, b"\x11\x12\x13\x14"), record(0, 2, b"\x21\x22\x23"), END), "A 2", places={0: 0x11, 1: 0x12, 2: 0x21, 3: 0x22, 4: 0x23})
+    load_case(ended(record(0, 2, b"\x21\x22\x23"), record(0, 0, b"\x11\x12\x13\x14"), END), "A 2", places={0: 0x11, 1: 0x12, 2: 0x13, 3: 0x14, 4: 0x23})
+    load_case(ended(*(record(0, 3, bytes([b])) for b in (1, 2, 3, 0xCC)), END), "A 4", places={3: 0xCC})
+    load_case(ended(record(0, 1, b"\x11"), segment, linear, record(4, 0, b"\x00\x00"), record(0, 1, b"\x22"), END), "A 2", places={1: 0x22})
+    heading("loads: empty data records are counted, also outside the window")
+    load_case(ended(":0000000000", END), "A 1", places={})
+    load_case(ended(record(0, 0xFFFF, b""), linear, record(0, 0x8000, b""), one, END), "! 17 00010002 @4")
+    load_case(ended(record(0, 0xFFFF, b""), one, linear, record(0, 0x8000, b""), END), "A 3", places={2: 0x77})
+    load_case(ended(*[":0000000000"] * 20, END), "A 14", page=0, places={})
+    heading("loads: each refusal from 1 to 9 with its line, and 13")
+    for line, said in zip(BAD, SAID):
+        load_case(line, f"{said} @1")
+        load_case(ended(line, END), f"{said} @1")
+        load_case(ended("", one, "", "", line, END), f"{said} @5")
+        load_case(ended("", one, "", line, END, end="\r\n"), f"{said} @4")
+        load_case(ended(one, line, record(0, 8, b"\x77"), END), f"{said} @2")
+        load_case(ended(one, record(0, 8, b"\x77"), line, END), "! 17 00000008 @2")
+        load_case(ended(one, END, line), "A 1", places={2: 0x77})
+    load_case("", "! 13 @0")
+    load_case("\n\r\n", "! 13 @0")
+    load_case(ended(one), "! 13 @0")
+    load_case(one, "! 13 @0")
+    load_case(ended(one, segment, linear), "! 13 @0")
+    load_case(ended(one) + ":00000001FE", "! 6 FF FE @2")
+    load_case(ended(one) + END + "\r", "! 2 @2")
+    load_case(ended(one) + "\r\r\n" + END, "! 1 @2")
+    load_case(ended(one) + END, "A 1", places={2: 0x77})
+    load_case(ended(one, END, end="\r\n"), "A 1", places={2: 0x77})
+    load_case("\n\n" + one + "\n\r\n" + END + "\r\n", "A 1", places={2: 0x77})
+    heading("the incident: what stands behind the end record changes nothing")
+    dump = ended(record(0, 0, some_bytes(16, 1)), record(0, 0x20, some_bytes(16, 2)), END)
+    stored = dict(zip([*range(16), *range(32, 48)], some_bytes(16, 1) + some_bytes(16, 2)))
+    old = ended(record(0, 8, some_bytes(16, 99)), record(0, 0x18, some_bytes(16, 77)), END)
+    for tail in ("", old, old[5:], old[1:], old[14:], old.lower(), "\n\n" + old, "\x00" * 40, "\xff" * 40, "garbage", ":0000000", "\r", "\r\n", ":", END, ended(END) * 9, ended(*BAD), record(0, 0x40, b"\x01"), ended(linear, one, segment)):
+        load_case(dump + tail, "A 2", 0, 48, places=stored)
+        text_case(dump + tail, ["D 0000 0 10 @1", "D 0020 0 10 @2", "E @3", "done @3", "done @3"], pool=16)
+    load_case(dump.replace("\n", "\r\n") + old[3:], "A 2", 0, 48, places=stored)
+    for tail in ("0", ":", "\r", " ", END, old[:-1]):
+        load_case(dump[:-1] + tail, f"! {5 if tail == '0' else 2} @3", 0, 48)
+
+
+def of_chance_again():
+    numbers = Numbers(2026)
+    texts = []
+    heading("objects by chance")
+    for _ in range(60):
+        pool = bytes(numbers.below(256) for _ in range(numbers.below(48)))
+        records = []
+        for _ in range(numbers.below(7)):
+            kind = (0, 0, 0, 2, 3, 4, 5, 1 if numbers.below(4) == 0 else 0)[numbers.below(8)]
+            n = numbers.below(min(len(pool), 16) + 1)
+            at = numbers.below(len(pool) - n + (2 if numbers.below(4) == 0 else 1))
+            number = numbers.below(3) if kind in (2, 4) else numbers.below(64) if kind == 0 else numbers.below(2**16) * (1 if kind == 3 else 2**16 + 1)
+            records.append(END_RECORD if kind == 1 else data(number, at, n) if kind == 0 else (kind, number, numbers.below(2**16), 0, 0))
+        if numbers.below(8):
+            records.append(END_RECORD)
+        text = object_case(records, None, pool, out=numbers.below(8) * 16 + 100)
+        if text:
+            texts.append(text)
+    heading("the same objects read again and loaded")
+    for text in texts:
+        text_case(text, pool=16)
+        load_case(text, first=numbers.below(8), page=numbers.below(100))
+        load_case(text, first=0, page=128)
+        load_case(text, first=0, page=65536)
+        load_case(text, first=0xFFF0, page=64)
+    heading("the same with line ends mixed, lines emptied, and one to three characters changed, dropped or doubled")
+    for text in texts * 2:
+        text = "".join(line + ("\n", "\r\n", "\n\n", "\r\r\n" if numbers.below(4) == 0 else "\n")[numbers.below(4)] for line in text.decode("ascii").split("\n")[:-1])
+        for _ in range(numbers.below(4)):
+            at = numbers.below(len(text))
+            new = "0123456789abcdefABCDEF:gG \r\n\x00\xff"[numbers.below(30)]
+            text = text[:at] + ("", text[at] * 2, new, new + text[at])[numbers.below(4)] + text[at + 1:]
+        text_case(text, flags=numbers.below(4), pool=(16, 8)[numbers.below(2)])
+        load_case(text, first=0, page=(128, 65536)[numbers.below(2)])
+
+
+def main():
+    of_document_01()
+    of_the_checksum()
+    of_the_digits()
+    of_other_bytes()
+    of_the_order()
+    of_the_fields()
+    of_the_pool()
+    of_chance()
+    of_texts()
+    of_one_record()
+    of_objects()
+    of_loads()
+    of_chance_again()
+    told = {c[0]: set() for c in cases}
+    for c, a in zip(cases, answers):
+        assert len(c) <= 4096, f"a case is too long: {c}"
+        told[c[0]].update(part.split(" |")[0] for part in a.split("; "))
+    kinds = ["D", "E", "X2", "X3", "X4", "X5"]
+    for form, wanted in (("L", [*kinds, *range(1, 11)]), ("T", [*kinds, "done", *range(1, 11)]), ("W", ["W", 11, 12, 15]),
+                         ("O", ["W", *range(11, 16)]), ("M", ["A", *range(1, 10), 13, 16, 17])):
+        for w in (f"! {w}" if isinstance(w, int) else w for w in wanted):
+            assert any(t == w or t.startswith(w + " ") for t in told[form]), f"no case {form} is answered {w}"
+    made = {"stdin": cases, "stdout": answers}
+    number = sum(not c.startswith("#") for c in cases)
+    size = 0
+    for name, rows in made.items():
+        text = "\n".join(rows) + "\n"
+        size += len(text)
+        if "--check" not in sys.argv[1:]:
+            (FOLDER / name).write_text(text, encoding="ascii")
+        elif not (FOLDER / name).exists() or (FOLDER / name).read_bytes() != text.encode("ascii"):
+            sys.exit(f"crates/replay/{name} is not what tests/make_cases.py makes")
+    forms = ", ".join(f"{sum(c.startswith(form) for c in cases)} {form}" for form in "CLTWOM")
+    print(f"{number} cases ({forms}), {size} bytes in the two files")
+
+
+main()
