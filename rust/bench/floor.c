@@ -1,0 +1,140 @@
+/* The floor: plain loops over lines that are good, with the tests that a reader cannot do without.
+ * Nothing is proved of them. */
+#include <stddef.h>
+#include <stdint.h>
+#include <string.h>
+
+/* A digit's value, and 16 for all else. */
+static const uint8_t DIGIT[256] = {
+    [0 ... 255] = 16,
+    ['0'] = 0,  ['1'] = 1,  ['2'] = 2,  ['3'] = 3,  ['4'] = 4,  ['5'] = 5,  ['6'] = 6,  ['7'] = 7,
+    ['8'] = 8,  ['9'] = 9,  ['A'] = 10, ['B'] = 11, ['C'] = 12, ['D'] = 13, ['E'] = 14, ['F'] = 15,
+    ['a'] = 10, ['b'] = 11, ['c'] = 12, ['d'] = 13, ['e'] = 14, ['f'] = 15,
+};
+
+static const char CAPITAL[16] = "0123456789ABCDEF";
+
+/* A line's bytes into a buffer of 260, and how many there are; 0 where it is no record. */
+static size_t decode(const uint8_t *line, size_t len, uint8_t *bytes)
+{
+    if (len < 11 || len > 521 || len % 2 == 0 || line[0] != ':')
+        return 0;
+    size_t n = len / 2;
+    uint8_t seen = 0, sum = 0;
+    for (size_t i = 0; i < n; i++) {
+        uint8_t high = DIGIT[line[1 + 2 * i]], low = DIGIT[line[2 + 2 * i]];
+        seen |= high | low;
+        bytes[i] = high * 16 + low;
+        sum += bytes[i];
+    }
+    if (seen > 15 || sum != 0 || bytes[0] != n - 5 || bytes[3] > 5)
+        return 0;
+    return n;
+}
+
+/* The payload's length, or -1; the payload goes to the pool. */
+int64_t floor_read_record(const uint8_t *line, size_t len, uint8_t *pool)
+{
+    uint8_t bytes[260];
+    size_t n = decode(line, len, bytes);
+    if (n == 0)
+        return -1;
+    memcpy(pool, bytes + 4, n - 5);
+    return n - 5;
+}
+
+/* The line that begins at a position: its length; the position moves behind its LF. */
+static size_t cut(const uint8_t *text, size_t len, size_t *position)
+{
+    size_t from = *position, end = from;
+    while (end < len && text[end] != '\n')
+        end++;
+    *position = end < len ? end + 1 : end;
+    return end < len && end > from && text[end - 1] == '\r' ? end - 1 - from : end - from;
+}
+
+/* How many records a text has, and the sum of the first bytes of their payloads. */
+size_t floor_read_text(const uint8_t *text, size_t len, uint8_t *pool, uint64_t *sum)
+{
+    size_t records = 0;
+    for (size_t position = 0; position < len;) {
+        size_t from = position, n = cut(text, len, &position);
+        if (n == 0)
+            continue;
+        int64_t payload = floor_read_record(text + from, n, pool);
+        if (payload < 0)
+            return records;
+        records++;
+        if (payload > 0)
+            *sum += pool[0];
+    }
+    return records;
+}
+
+/* Loads a text that places all at its offsets: judges it first, then writes. */
+size_t floor_load(const uint8_t *text, size_t len, uint8_t *page, uint8_t *marks, size_t size)
+{
+    uint8_t bytes[260];
+    for (int write = 0; write < 2; write++) {
+        size_t records = 0;
+        if (write)
+            memset(marks, 0, size);
+        for (size_t position = 0; position < len;) {
+            size_t from = position, n = cut(text, len, &position);
+            if (n == 0)
+                continue;
+            n = decode(text + from, n, bytes);
+            if (n == 0)
+                return 0;
+            if (bytes[3] != 0)
+                break;
+            size_t offset = bytes[1] * 256 + bytes[2];
+            if (offset + n - 5 > size)
+                return 0;
+            records++;
+            if (write) {
+                memcpy(page + offset, bytes + 4, n - 5);
+                memset(marks + offset, 1, n - 5);
+            }
+        }
+        if (write)
+            return records;
+    }
+    return 0;
+}
+
+static uint8_t *put(uint8_t *out, uint8_t byte)
+{
+    out[0] = CAPITAL[byte / 16];
+    out[1] = CAPITAL[byte % 16];
+    return out + 2;
+}
+
+/* A record's line, and its length. */
+size_t floor_write_record(uint8_t kind, uint16_t address, const uint8_t *payload, size_t n, uint8_t *out)
+{
+    uint8_t *end = out, sum = n + (address >> 8) + address + kind;
+    *end++ = ':';
+    end = put(end, n);
+    end = put(end, address >> 8);
+    end = put(end, address);
+    end = put(end, kind);
+    for (size_t i = 0; i < n; i++) {
+        end = put(end, payload[i]);
+        sum += payload[i];
+    }
+    return put(end, -sum) - out;
+}
+
+/* Data records of n bytes each, one behind the other, and an end record; the text's length. */
+size_t floor_write_object(const uint8_t *pool, size_t n, size_t records, uint8_t *out)
+{
+    size_t length = 0;
+    for (size_t i = 0; i < records; i++) {
+        length += floor_write_record(0, i * n, pool + i * n, n, out + length);
+        out[length++] = '\n';
+    }
+    length += floor_write_record(1, 0, pool, 0, out + length);
+    out[length++] = '\n';
+    return length;
+}

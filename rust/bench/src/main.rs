@@ -1,0 +1,297 @@
+//! One driver for all: does one piece of work a number of times.
+//!
+//!     bench WHO WHAT BYTES RECORDS REPETITIONS
+//!
+//! WHO is crate, port, face or floor. WHAT is record or text (reading), line or object (writing), or
+//! load. BYTES are a record's payload, RECORDS how many there are in a text, or calls a repetition.
+//! It prints a number that comes from the results, the same for all, and the nanoseconds taken.
+
+mod floor;
+
+use std::env;
+use std::process::exit;
+use std::time::Instant;
+
+/// The inputs, the same for all.
+pub struct Given {
+    /// Payload bytes a record.
+    n: usize,
+    records: usize,
+    /// All payloads, one behind the other.
+    pool: Vec<u8>,
+    /// The object's text, with an end record.
+    text: String,
+    /// Its first line.
+    line: String,
+    of_crate: Vec<original::Record>,
+    of_face: Vec<ihex::Record>,
+    /// The records as the C entry points take them.
+    list: Vec<u8>,
+    /// What is lent for writing.
+    out: Vec<u8>,
+    page: Vec<u8>,
+    marks: Vec<u8>,
+}
+
+fn given(n: usize, records: usize) -> Given {
+    let byte = |i: usize| (i.wrapping_add(1).wrapping_mul(2_654_435_761) >> 13) as u8;
+    let pool: Vec<u8> = (0..n * records).map(byte).collect();
+    let (mut of_crate, mut of_face, mut list) = (vec![], vec![], vec![]);
+    for i in 0..records {
+        let value = pool[i * n..(i + 1) * n].to_vec();
+        let offset = (i * n) as u16;
+        of_face.push(ihex::Record::Data {
+            offset,
+            value: value.clone(),
+        });
+        of_crate.push(original::Record::Data { offset, value });
+        list.extend(ihex_sys::entry(0, offset.into(), 0, i * n, n));
+    }
+    of_face.push(ihex::Record::EndOfFile);
+    of_crate.push(original::Record::EndOfFile);
+    list.extend(ihex_sys::entry(1, 0, 0, 0, 0));
+    let text = original::create_object_file_representation(&of_crate).expect("a good object");
+    let line = text.lines().next().unwrap_or("").to_string();
+    Given {
+        n,
+        records,
+        pool,
+        out: vec![0; text.len()],
+        text,
+        line,
+        of_crate,
+        of_face,
+        list,
+        page: vec![0; 65_536],
+        marks: vec![0; 65_536],
+    }
+}
+
+/// A piece of work, and the number that comes from its result.
+type Work = fn(&mut Given) -> u64;
+
+/// The reading, the writing of lines and the writing of objects, for the crate and for the face.
+macro_rules! rusts {
+    ($name:ident, $from:ident, $records:ident) => {
+        mod $name {
+            use super::Given;
+            use $from::{create_object_file_representation, Reader, Record};
+
+            fn first(record: &Record) -> u64 {
+                match record {
+                    Record::Data { value, .. } => value.first().map_or(0, |&byte| byte.into()),
+                    _ => 0,
+                }
+            }
+
+            pub fn record(given: &mut Given) -> u64 {
+                let read = |_| Record::from_record_string(&given.line).map_or(0, |r| first(&r));
+                (0..given.records).map(read).sum()
+            }
+
+            pub fn text(given: &mut Given) -> u64 {
+                Reader::new(&given.text)
+                    .map(|read| 1 + read.map_or(0, |r| first(&r)))
+                    .sum()
+            }
+
+            pub fn line(given: &mut Given) -> u64 {
+                let write = |_| given.$records[0].to_record_string().map_or(0, |s| s.len());
+                (0..given.records).map(write).sum::<usize>() as u64
+            }
+
+            pub fn object(given: &mut Given) -> u64 {
+                create_object_file_representation(&given.$records).map_or(0, |s| s.len()) as u64
+            }
+        }
+    };
+}
+
+rusts!(by_crate, original, of_crate);
+rusts!(by_face, ihex, of_face);
+
+/// What a program does that has the crate's reader alone: reads all, then places it.
+fn crate_load(given: &mut Given) -> u64 {
+    let read: Result<Vec<original::Record>, _> = original::Reader::new(&given.text).collect();
+    let mut loaded = 0;
+    given.marks.fill(0);
+    for record in read.unwrap_or_default() {
+        if let original::Record::Data { offset, value } = record {
+            let places = usize::from(offset)..usize::from(offset) + value.len();
+            given.page[places.clone()].copy_from_slice(&value);
+            given.marks[places].fill(1);
+            loaded += 1;
+        }
+    }
+    loaded
+}
+
+fn face_load(given: &mut Given) -> u64 {
+    let loaded = ihex::load(&given.text, 0, &mut given.page, &mut given.marks);
+    loaded.map_or(0, |loaded| loaded.data_records as u64)
+}
+
+mod by_port {
+    use super::Given;
+
+    pub fn record(given: &mut Given) -> u64 {
+        let mut pool = [0; 255];
+        let (mut a, mut b, mut c, mut sum) = (0, 0, 0, 0);
+        for _ in 0..given.records {
+            let line = given.line.as_bytes();
+            let code = ihex_sys::read_record(line, &mut pool, 0, &mut a, &mut b, &mut c);
+            sum += if code == 0 { u64::from(pool[0]) } else { 0 };
+        }
+        sum
+    }
+
+    pub fn text(given: &mut Given) -> u64 {
+        let mut pool = [0; 255];
+        let (mut position, mut line, mut flags) = (0, 0, 3);
+        let (mut a, mut b, mut c, mut sum) = (0, 0, 0, 0);
+        loop {
+            let code = ihex_sys::next(
+                given.text.as_bytes(),
+                &mut pool,
+                0,
+                &mut position,
+                &mut line,
+                &mut flags,
+                &mut a,
+                &mut b,
+                &mut c,
+            );
+            if code == ihex_sys::DONE {
+                return sum;
+            }
+            sum += 1 + if code == 0 { u64::from(pool[0]) } else { 0 };
+        }
+    }
+
+    pub fn line(given: &mut Given) -> u64 {
+        let (mut value, mut sum) = (0, 0);
+        for _ in 0..given.records {
+            let out = &mut given.out;
+            ihex_sys::to_record_string(0, 0, 0, 0, given.n, &given.pool, out, &mut value);
+            sum += value;
+        }
+        sum
+    }
+
+    pub fn object(given: &mut Given) -> u64 {
+        let mut value = 0;
+        let (list, pool) = (&given.list, &given.pool);
+        ihex_sys::create_object_file_representation(list, pool, &mut given.out, &mut value);
+        value
+    }
+
+    pub fn load(given: &mut Given) -> u64 {
+        let (mut line, mut a, mut b) = (0, 0, 0);
+        let (page, marks) = (&mut given.page, &mut given.marks);
+        ihex_sys::load(
+            given.text.as_bytes(),
+            0,
+            page,
+            marks,
+            &mut line,
+            &mut a,
+            &mut b,
+        );
+        a
+    }
+}
+
+mod by_floor {
+    use super::{floor, Given};
+
+    pub fn record(given: &mut Given) -> u64 {
+        let mut pool = [0; 255];
+        let mut sum = 0;
+        for _ in 0..given.records {
+            let n = floor::read_record(given.line.as_bytes(), &mut pool);
+            sum += if n < 0 { 0 } else { u64::from(pool[0]) };
+        }
+        sum
+    }
+
+    pub fn text(given: &mut Given) -> u64 {
+        let mut sum = 0;
+        let records = floor::read_text(given.text.as_bytes(), &mut [0; 255], &mut sum);
+        records as u64 + sum
+    }
+
+    pub fn line(given: &mut Given) -> u64 {
+        let mut out = [0; 521];
+        let payload = &given.pool[..given.n];
+        (0..given.records)
+            .map(|_| floor::write_record(0, 0, payload, &mut out) as u64)
+            .sum()
+    }
+
+    pub fn object(given: &mut Given) -> u64 {
+        floor::write_object(&given.pool, given.n, &mut given.out) as u64
+    }
+
+    pub fn load(given: &mut Given) -> u64 {
+        floor::load(given.text.as_bytes(), &mut given.page, &mut given.marks) as u64
+    }
+}
+
+fn work(who: &str, what: &str) -> Option<Work> {
+    Some(match (who, what) {
+        ("crate", "record") => by_crate::record,
+        ("crate", "text") => by_crate::text,
+        ("crate", "line") => by_crate::line,
+        ("crate", "object") => by_crate::object,
+        ("crate", "load") => crate_load,
+        ("face", "record") => by_face::record,
+        ("face", "text") => by_face::text,
+        ("face", "line") => by_face::line,
+        ("face", "object") => by_face::object,
+        ("face", "load") => face_load,
+        ("port", "record") => by_port::record,
+        ("port", "text") => by_port::text,
+        ("port", "line") => by_port::line,
+        ("port", "object") => by_port::object,
+        ("port", "load") => by_port::load,
+        ("floor", "record") => by_floor::record,
+        ("floor", "text") => by_floor::text,
+        ("floor", "line") => by_floor::line,
+        ("floor", "object") => by_floor::object,
+        ("floor", "load") => by_floor::load,
+        _ => return None,
+    })
+}
+
+fn main() {
+    let words: Vec<String> = env::args().skip(1).collect();
+    let number = |i: usize| {
+        words
+            .get(i)
+            .and_then(|word| word.parse().ok())
+            .unwrap_or(usize::MAX)
+    };
+    let (n, records, repetitions) = (number(2), number(3), number(4));
+    let asked = words
+        .first()
+        .zip(words.get(1))
+        .and_then(|(who, what)| work(who, what));
+    let work = match asked {
+        Some(work) if n <= 255 && records <= 1 << 20 && repetitions < usize::MAX => work,
+        _ => {
+            eprintln!("usage: bench crate|port|face|floor record|text|line|object|load BYTES RECORDS REPETITIONS");
+            exit(2)
+        }
+    };
+    if words[0] == "crate" && !original::AT_HAND {
+        println!("not at hand");
+        return;
+    }
+    let mut given = given(n, records);
+    let mut result = 0;
+    let start = Instant::now();
+    for _ in 0..repetitions {
+        result = work(&mut given);
+    }
+    println!("{result} {}", start.elapsed().as_nanos());
+}

@@ -1,0 +1,132 @@
+#!/usr/bin/env python3
+"""The tables of the bench, from the driver run under a counter of instructions.
+
+    tables.py MACHINE RUSTC CC DRIVER COUNTER..
+
+The last lines say for each bar whether it is met.
+"""
+import re
+import subprocess
+import sys
+
+MACHINE, RUSTC, CC, DRIVER, *COUNTER = sys.argv[1:]
+# Records of 16 bytes, which fill a page, and records of the other sizes.
+FULL, SOME = 4096, 1024
+ALL = ("crate", "face", "port", "floor")
+WORK = {
+    "record": "read a record",
+    "text": "read a text",
+    "line": "write a record",
+    "object": "write an object",
+    "load": "load a full page",
+}
+REPETITIONS = 2
+
+
+def records_of(size):
+    return FULL if size == 16 else SOME
+
+
+def output(command):
+    done = subprocess.run(command, capture_output=True, text=True, check=True)
+    return done.stdout, done.stderr
+
+
+def words(who, what, size, records, repetitions):
+    return [who, what, str(size), str(records), str(repetitions)]
+
+
+def total(who, what, size, records, repetitions):
+    """Instructions of the whole program, and the number that comes from its results."""
+    out, err = output(COUNTER + [DRIVER] + words(who, what, size, records, repetitions))
+    found = re.search(r"(?:Collected : |instructions )(\d+)", err)
+    return int(found[1]), out.split()[0]
+
+
+def instructions(who, what, size, records):
+    """Instructions a record, and the number that comes from the results."""
+    none, _ = total(who, what, size, records, 0)
+    some, result = total(who, what, size, records, REPETITIONS)
+    return (some - none) / REPETITIONS / records, result
+
+
+def nanoseconds(who, what, size, records):
+    """The best of seven runs, a record."""
+    runs = [output([DRIVER] + words(who, what, size, records, 10))[0] for _ in range(7)]
+    return min(int(run.split()[1]) for run in runs) / 10 / records
+
+
+def table(head, rows):
+    print("| " + " | ".join(head) + " |")
+    print("|" + "---|" * len(head))
+    for row in rows:
+        print("| " + " | ".join(row) + " |")
+    print()
+
+
+def whole(x):
+    return f"{x:,.0f}"
+
+
+def main():
+    given, _ = output([DRIVER] + words("crate", "record", 16, 1, 1))
+    at_hand = given.strip() != "not at hand"
+    if not at_hand:
+        print("The source of the crate ihex is not at hand: it was not measured.\n")
+    who = [one for one in ALL if at_hand or one != "crate"]
+    cases = [(what, size) for what in WORK if what != "load" for size in (16, 32, 255)]
+    cases.append(("load", 16))
+    count = {}
+    for what, size in cases:
+        results = set()
+        for one in who:
+            count[one, what, size], result = instructions(one, what, size, records_of(size))
+            results.add(result)
+        if len(results) != 1:
+            sys.exit(f"{what} {size}: the results differ, {results}")
+
+    print(f"By `rust/bench/run`, on {MACHINE}, with {RUSTC} at opt-level 3 and {CC} at -O3.\n")
+    print(f"Instructions a record, of {FULL:,} records of 16 bytes and {SOME:,} of the others:\n")
+    head = ["Work", "Payload"] + list(who)
+    if at_hand:
+        head.append("port : crate")
+    rows = []
+    for what, size in cases:
+        row = [WORK[what], str(size)] + [whole(count[one, what, size]) for one in who]
+        if at_hand:
+            row.append(f"{100 * count['port', what, size] / count['crate', what, size]:.1f} %")
+        rows.append(row)
+    table(head, rows)
+
+    if MACHINE == "x86_64":
+        print("Nanoseconds a record, the best of seven runs of ten repetitions:\n")
+        rows = []
+        for what, size in cases:
+            times = [f"{nanoseconds(one, what, size, records_of(size)):.1f}" for one in who]
+            rows.append([WORK[what], str(size)] + times)
+        table(["Work", "Payload"] + list(who), rows)
+
+    print("Instructions a record of 16 bytes at 1, 2, 4 and 8 times the size, of the port:\n")
+    sizes = (512, 1024, 2048, 4096)
+    rows = []
+    for what in ("text", "object", "load"):
+        grown = [instructions("port", what, 16, records)[0] for records in sizes]
+        rows.append([WORK[what]] + [f"{n:,.1f}" for n in grown])
+    table(["Work"] + [f"{records:,} records" for records in sizes], rows)
+
+    reading, writing = count["port", "text", 16], count["port", "object", 16]
+    bars = [("loading, as a multiple of reading", count["port", "load", 16] / reading, 2.5)]
+    if at_hand:
+        bars += [
+            ("reading a text, % of the crate's as built here", 100 * reading / count["crate", "text", 16], 18),
+            ("writing an object, % of the crate's as built here", 100 * writing / count["crate", "object", 16], 10),
+        ]
+    bars += [
+        ("reading a text, % of 4,292, the crate's by rustc 1.63", 100 * reading / 4292, 18),
+        ("writing an object, % of 6,443, the crate's by rustc 1.63", 100 * writing / 6443, 10),
+    ]
+    rows = [[name, f"{is_:.1f}", f"{bar}", "met" if is_ <= bar else "MISSED"] for name, is_, bar in bars]
+    table(["Bar", "Is", "At most", ""], rows)
+
+
+main()

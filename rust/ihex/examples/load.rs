@@ -1,0 +1,20 @@
+use ihex::{load, LoadError};
+
+fn main() {
+    let text = ":020000021200EA\n:010005007783\n:00000001FF\n";
+    let mut page = [0xEE; 8];
+    let mut marks = [0xEE; 8];
+    let loaded = load(text, 0x12000, &mut page, &mut marks).unwrap();
+    assert_eq!(loaded.data_records, 1);
+    assert_eq!(page, [0xEE, 0xEE, 0xEE, 0xEE, 0xEE, 0x77, 0xEE, 0xEE]);
+    assert_eq!(marks, [0, 0, 0, 0, 0, 1, 0, 0]);
+
+    let refused = load(text, 0x12006, &mut page, &mut marks).unwrap_err();
+    let outside = LoadError::OutsideWindow {
+        line: 2,
+        address: 0x12005,
+    };
+    assert_eq!(refused, outside);
+    assert_eq!(refused.line(), Some(2));
+    assert_eq!(marks, [0, 0, 0, 0, 0, 1, 0, 0]);
+}

@@ -1,0 +1,41 @@
+//! Intel HEX read, written and loaded, over the proved library `libihex.a`.
+//!
+//! The names and shapes are those of the crate ihex 3.0.0: a program that uses it changes one line
+//! of its `Cargo.toml`. Beside them stand, and the crate has none of it: reading bytes that are no
+//! UTF-8 ([`ByteReader`], [`Record::from_record_bytes`]), line numbers ([`Reader::numbered`]), and
+//! the loading of a text into a page with marks ([`load`]).
+//!
+//! No function panics, whatever its arguments.
+//!
+//! # A line to a record, and back
+//!
+//! ```
+#![doc = include_str!("../examples/record.rs")]
+//! ```
+//!
+//! # A text
+//!
+//! ```
+#![doc = include_str!("../examples/text.rs")]
+//! ```
+#![forbid(unsafe_code)]
+#![warn(missing_docs)]
+
+mod checksum;
+mod loader;
+mod reader;
+mod record;
+mod writer;
+
+pub use checksum::*;
+pub use loader::*;
+pub use reader::*;
+pub use record::*;
+pub use writer::*;
+
+/// Ends the program where the archive answers a code that the function it calls does not have, so
+/// that nothing is made up. The archive that is built from this source answers none.
+fn stranger(code: u32) -> ! {
+    eprintln!("ihex: libihex.a answered {code}, which this build does not know");
+    std::process::abort()
+}

@@ -1,0 +1,108 @@
+use std::error::Error;
+use std::fmt;
+
+use crate::reader::{LineError, ReaderError};
+use crate::stranger;
+
+/// What an accepted load comes to.
+#[derive(PartialEq, Eq, Clone, Copy, Debug, Hash)]
+pub struct Loaded {
+    /// How many data records the text has ahead of its end record.
+    pub data_records: usize,
+}
+
+/// Why a text is not loaded.
+#[derive(PartialEq, Eq, Clone, Copy, Debug, Hash)]
+#[non_exhaustive]
+pub enum LoadError {
+    /// A line gives no record.
+    Line(LineError),
+    /// The text has no end record.
+    MissingEndOfFileRecord,
+    /// Page and marks differ in length, the page is longer than 65,536, or it passes 2^32.
+    BadWindow,
+    /// A byte of a data record lies outside the window.
+    OutsideWindow {
+        /// The record's line.
+        line: usize,
+        /// The address of the record's first byte that lies outside.
+        address: u32,
+    },
+}
+
+impl LoadError {
+    /// The number of the line that decided, if it was one.
+    pub fn line(&self) -> Option<usize> {
+        match self {
+            LoadError::Line(LineError { line, .. }) => Some(*line),
+            LoadError::OutsideWindow { line, .. } => Some(*line),
+            LoadError::MissingEndOfFileRecord | LoadError::BadWindow => None,
+        }
+    }
+
+    /// The refusal's number: 1 to 9, 13, 16 or 17.
+    pub fn number(&self) -> u32 {
+        match self {
+            LoadError::Line(LineError { error, .. }) => error.number(),
+            LoadError::MissingEndOfFileRecord => 13,
+            LoadError::BadWindow => 16,
+            LoadError::OutsideWindow { .. } => 17,
+        }
+    }
+}
+
+impl fmt::Display for LoadError {
+    fn fmt(&self, f: &mut fmt::Formatter) -> fmt::Result {
+        match self {
+            LoadError::Line(refused) => refused.fmt(f),
+            LoadError::MissingEndOfFileRecord => write!(f, "text has no end of file record"),
+            LoadError::BadWindow => write!(f, "page and marks are no window"),
+            LoadError::OutsideWindow { line, address } => {
+                write!(
+                    f,
+                    "line {line}: address {address:08X} lies outside the window"
+                )
+            }
+        }
+    }
+}
+
+impl Error for LoadError {
+    fn source(&self) -> Option<&(dyn Error + 'static)> {
+        match self {
+            LoadError::Line(refused) => Some(&refused.error),
+            _ => None,
+        }
+    }
+}
+
+/// Loads a text into a page whose first place has the address `first`. On acceptance each place
+/// that the text states holds its byte and its mark is 1, and every other place keeps its byte and
+/// its mark is 0. A refused load changes neither page nor marks.
+///
+/// ```
+#[doc = include_str!("../examples/load.rs")]
+/// ```
+pub fn load<T>(text: &T, first: u32, page: &mut [u8], marks: &mut [u8]) -> Result<Loaded, LoadError>
+where
+    T: AsRef<[u8]> + ?Sized,
+{
+    let (mut line, mut a, mut b) = (0, 0, 0);
+    let text = text.as_ref();
+    let code = ihex_sys::load(text, first, page, marks, &mut line, &mut a, &mut b);
+    match code.wrapping_sub(ihex_sys::REFUSED) {
+        13 => Err(LoadError::MissingEndOfFileRecord),
+        16 => Err(LoadError::BadWindow),
+        17 => Err(LoadError::OutsideWindow {
+            line,
+            address: a as u32,
+        }),
+        _ if code == 0 => Ok(Loaded {
+            data_records: a as usize,
+        }),
+        _ => match ReaderError::told(code, a, b) {
+            Some(error) => Err(LoadError::Line(LineError { line, error })),
+            None => stranger(code),
+        },
+    }
+}

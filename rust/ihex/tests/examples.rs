@@ -1,0 +1,21 @@
+//! The examples of the documentation as ordinary tests, since documentation tests are passed over
+//! when cross-building.
+macro_rules! example {
+    ($name:ident, $file:literal) => {
+        mod $name {
+            include!($file);
+
+            #[test]
+            fn runs() {
+                main()
+            }
+        }
+    };
+}
+
+example!(record, "../examples/record.rs");
+example!(text, "../examples/text.rs");
+example!(bytes, "../examples/bytes.rs");
+example!(lines, "../examples/lines.rs");
+example!(object, "../examples/object.rs");
+example!(load, "../examples/load.rs");

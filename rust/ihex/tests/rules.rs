@@ -1,0 +1,331 @@
+//! The rules, by example: each line, list and load with its answer.
+
+use ihex::{
+    checksum, create_object_file_representation, load, types, ByteReader, LineError, LoadError,
+    Reader, ReaderError, ReaderOptions, Record, WriterError,
+};
+
+fn read(line: &str) -> Result<Record, ReaderError> {
+    let read = Record::from_record_string(line);
+    assert_eq!(line.parse(), read);
+    assert_eq!(Record::from_record_bytes(line.as_bytes()), read);
+    read
+}
+
+/// The line of a data record of zeros at address 0.
+fn zeros(n: u8) -> String {
+    format!(
+        ":{n:02X}000000{}{:02X}",
+        "00".repeat(n.into()),
+        n.wrapping_neg()
+    )
+}
+
+#[test]
+fn lines_are_refused_in_order() {
+    let refused = [
+        ("", ReaderError::MissingStartCode),
+        ("00000001FF", ReaderError::MissingStartCode),
+        (" :00000001FF", ReaderError::MissingStartCode),
+        (":", ReaderError::RecordTooShort),
+        (":G", ReaderError::ContainsInvalidCharacters),
+        (":00000001FF ", ReaderError::ContainsInvalidCharacters),
+        (":00000001FF\r", ReaderError::ContainsInvalidCharacters),
+        (":0000000\u{661}FF", ReaderError::ContainsInvalidCharacters),
+        (":+0000001FF", ReaderError::ContainsInvalidCharacters),
+        (":0100000", ReaderError::RecordTooShort),
+        (":00000001FF0", ReaderError::RecordNotEvenLength),
+        (":00000001FE", ReaderError::ChecksumMismatch(0xFF, 0xFE)),
+        (":01000000FF", ReaderError::PayloadLengthMismatch),
+        (":01000006F9", ReaderError::PayloadLengthMismatch),
+        (":00000006FA", ReaderError::UnsupportedRecordType(6)),
+        (":0100000100FE", ReaderError::InvalidLengthForType),
+    ];
+    for (line, error) in refused {
+        assert_eq!(read(line), Err(error), "{line:?}");
+    }
+    let longest = zeros(255);
+    assert_eq!(longest.len(), 521);
+    assert_eq!(
+        read(&(longest.clone() + "0")),
+        Err(ReaderError::RecordTooLong)
+    );
+    assert_eq!(read(&(longest + "00")), Err(ReaderError::RecordTooLong));
+}
+
+#[test]
+fn lines_are_records() {
+    let records = [
+        (":00123401B9", Record::EndOfFile),
+        (":00000001ff", Record::EndOfFile),
+        (":020000021200EA", Record::ExtendedSegmentAddress(0x1200)),
+        (":02000004FFFFFC", Record::ExtendedLinearAddress(0xFFFF)),
+        (":04000005000000CD2A", Record::StartLinearAddress(0xCD)),
+        (
+            ":0400000300003800C1",
+            Record::StartSegmentAddress { cs: 0, ip: 0x3800 },
+        ),
+    ];
+    for (line, record) in records {
+        assert_eq!(read(line), Ok(record), "{line:?}");
+    }
+    let value = vec![0; 255];
+    assert_eq!(read(&zeros(255)), Ok(Record::Data { offset: 0, value }));
+}
+
+#[test]
+fn records_are_written_and_read_again() {
+    let records = [
+        (Record::EndOfFile, ":00000001FF", types::END_OF_FILE),
+        (
+            Record::ExtendedSegmentAddress(0x1200),
+            ":020000021200EA",
+            types::EXTENDED_SEGMENT_ADDRESS,
+        ),
+        (
+            Record::StartSegmentAddress {
+                cs: 0x1234,
+                ip: 0x3800,
+            },
+            ":04000003123438007B",
+            types::START_SEGMENT_ADDRESS,
+        ),
+        (
+            Record::ExtendedLinearAddress(0xFFFF),
+            ":02000004FFFFFC",
+            types::EXTENDED_LINEAR_ADDRESS,
+        ),
+        (
+            Record::StartLinearAddress(0xCD),
+            ":04000005000000CD2A",
+            types::START_LINEAR_ADDRESS,
+        ),
+        (
+            Record::Data {
+                offset: 0x10,
+                value: vec![],
+            },
+            ":00001000F0",
+            types::DATA,
+        ),
+    ];
+    for (record, line, kind) in records {
+        assert_eq!(record.record_type(), kind);
+        assert_eq!(record.to_record_string().as_deref(), Ok(line));
+        assert_eq!(read(line), Ok(record));
+    }
+    let data = |n| Record::Data {
+        offset: 0,
+        value: vec![0; n],
+    };
+    assert_eq!(data(255).to_record_string(), Ok(zeros(255)));
+    let long = Err(WriterError::DataExceedsMaximumLength(256));
+    assert_eq!(data(256).to_record_string(), long);
+}
+
+#[test]
+fn objects_are_refused_in_order() {
+    let data = |n| Record::Data {
+        offset: 0,
+        value: vec![0; n],
+    };
+    let end = || Record::EndOfFile;
+    let written = |records: &[Record]| create_object_file_representation(records);
+    let missing = Err(WriterError::MissingEndOfFileRecord);
+    assert_eq!(written(&[]), missing);
+    assert_eq!(written(&[end(), end(), data(0)]), missing);
+    assert_eq!(
+        written(&[end(), end(), end()]),
+        Err(WriterError::MultipleEndOfFileRecords(3))
+    );
+    assert_eq!(
+        written(&[data(256), end(), end()]),
+        Err(WriterError::MultipleEndOfFileRecords(2))
+    );
+    assert_eq!(
+        written(&[data(1), data(300), data(256), end()]),
+        Err(WriterError::DataExceedsMaximumLength(300))
+    );
+    assert_eq!(written(&[end()]).as_deref(), Ok(":00000001FF\n"));
+}
+
+#[test]
+fn texts_are_cut_at_line_ends() {
+    let all = ReaderOptions {
+        stop_after_first_error: false,
+        stop_after_eof: false,
+    };
+    let answers = |text| -> Vec<_> { Reader::new_with_options(text, all).collect() };
+    let end = Ok(Record::EndOfFile);
+    assert_eq!(answers(""), vec![]);
+    assert_eq!(answers("\n\r\n\n"), vec![]);
+    assert_eq!(answers("\r\r\n"), vec![Err(ReaderError::MissingStartCode)]);
+    assert_eq!(
+        answers(":00000001FF\r"),
+        vec![Err(ReaderError::ContainsInvalidCharacters)]
+    );
+    assert_eq!(
+        answers(":00000001FF\r\n:00000001FF"),
+        vec![end.clone(), end.clone()]
+    );
+    assert_eq!(Reader::new(":00000001FF\n:00000001FF").count(), 1);
+    assert_eq!(Reader::new(":\n:00000001FF").count(), 1);
+    let mut reader = ByteReader::new(b"\xFF\n:00000001FF");
+    assert_eq!(reader.next(), Some(Err(ReaderError::MissingStartCode)));
+    assert_eq!(
+        (reader.next(), reader.next(), reader.line()),
+        (None, None, 1)
+    );
+    assert_eq!(
+        ReaderOptions::default(),
+        ReaderOptions {
+            stop_after_first_error: true,
+            stop_after_eof: true
+        }
+    );
+}
+
+#[test]
+fn loads_are_refused_and_change_nothing() {
+    let end = ":00000001FF\n";
+    let run = |text: &str, first, page: usize, marks: usize| {
+        let (mut bytes, mut places) = (vec![0xEE; page], vec![0xEE; marks]);
+        let answer = load(text, first, &mut bytes, &mut places);
+        if answer.is_err() {
+            assert!(bytes.iter().chain(&places).all(|&byte| byte == 0xEE));
+        }
+        answer
+    };
+    assert_eq!(run("", 0, 1, 2), Err(LoadError::BadWindow));
+    assert_eq!(run(end, 0, 65_537, 65_537), Err(LoadError::BadWindow));
+    assert_eq!(run(end, u32::MAX, 2, 2), Err(LoadError::BadWindow));
+    assert_eq!(
+        run(end, u32::MAX, 1, 1).map(|loaded| loaded.data_records),
+        Ok(0)
+    );
+    assert_eq!(run(end, 0, 0, 0).map(|loaded| loaded.data_records), Ok(0));
+    assert_eq!(run("\n\n", 0, 1, 1), Err(LoadError::MissingEndOfFileRecord));
+    let error = ReaderError::RecordTooShort;
+    assert_eq!(
+        run("\n:\n", 0, 1, 1),
+        Err(LoadError::Line(LineError { line: 2, error }))
+    );
+    let crossing = ":02FFFF00AABB9B\n:00000001FF\n";
+    let outside = LoadError::OutsideWindow {
+        line: 1,
+        address: 0x1_0000,
+    };
+    assert_eq!(run(crossing, 0xFFFF, 1, 1), Err(outside));
+    assert_eq!(
+        run(crossing, 0xFFFF, 2, 2).map(|loaded| loaded.data_records),
+        Ok(1)
+    );
+}
+
+#[test]
+fn checksums() {
+    assert_eq!(checksum([0x00, 0x00, 0x00, 0x01]), 0xFF);
+    assert_eq!(checksum([]), 0);
+    assert_eq!(checksum(vec![0xFF; 300]), 44);
+    assert_eq!(checksum("0"), 0xD0);
+}
+
+#[test]
+fn errors_print_and_have_numbers() {
+    let readers = [
+        (ReaderError::MissingStartCode, 1, "missing start code ':'"),
+        (
+            ReaderError::ContainsInvalidCharacters,
+            2,
+            "invalid characters encountered in record",
+        ),
+        (ReaderError::RecordTooShort, 3, "too short"),
+        (ReaderError::RecordTooLong, 4, "too long"),
+        (
+            ReaderError::RecordNotEvenLength,
+            5,
+            "record does not contain a whole number of bytes",
+        ),
+        (
+            ReaderError::ChecksumMismatch(255, 14),
+            6,
+            "invalid checksum 'FF', expecting '0E'",
+        ),
+        (
+            ReaderError::PayloadLengthMismatch,
+            7,
+            "payload length does not match record header",
+        ),
+        (
+            ReaderError::UnsupportedRecordType(6),
+            8,
+            "unsupported IHEX record type '06'",
+        ),
+        (
+            ReaderError::InvalidLengthForType,
+            9,
+            "payload length invalid for record type",
+        ),
+    ];
+    for (error, number, text) in readers {
+        assert_eq!((error.number(), error.to_string().as_str()), (number, text));
+        let refused = LineError { line: 7, error };
+        assert_eq!(refused.to_string(), format!("line 7: {text}"));
+        let load = LoadError::Line(refused);
+        assert_eq!((load.number(), load.line()), (number, Some(7)));
+        assert_eq!(load.to_string(), refused.to_string());
+    }
+    let writers = [
+        (
+            WriterError::DataExceedsMaximumLength(300),
+            12,
+            "record has 300 bytes (max 255)",
+        ),
+        (
+            WriterError::MissingEndOfFileRecord,
+            13,
+            "object is missing end of file record",
+        ),
+        (
+            WriterError::MultipleEndOfFileRecords(2),
+            14,
+            "object contains 2 end of file records",
+        ),
+        (
+            WriterError::SynthesisFailed,
+            0,
+            "unable to write string representation of record",
+        ),
+    ];
+    for (error, number, text) in writers {
+        assert_eq!((error.number(), error.to_string().as_str()), (number, text));
+    }
+    let outside = LoadError::OutsideWindow {
+        line: 2,
+        address: 0x12005,
+    };
+    let loads = [
+        (
+            LoadError::MissingEndOfFileRecord,
+            13,
+            None,
+            "text has no end of file record",
+        ),
+        (
+            LoadError::BadWindow,
+            16,
+            None,
+            "page and marks are no window",
+        ),
+        (
+            outside,
+            17,
+            Some(2),
+            "line 2: address 00012005 lies outside the window",
+        ),
+    ];
+    for (error, number, line, text) in loads {
+        assert_eq!((error.number(), error.line()), (number, line));
+        assert_eq!(error.to_string(), text);
+    }
+}

@@ -1,0 +1,286 @@
+//! The kinds of comparison, and how one is run.
+
+use std::sync::atomic::{AtomicU64, Ordering};
+use std::sync::Mutex;
+use std::thread;
+use std::time::{Duration, Instant};
+
+use crate::chance::Chance;
+use crate::inputs;
+use crate::lines::{self, LineCase};
+use crate::loads;
+use crate::port::Port;
+use crate::shrink::{shrink, Case};
+use crate::sums::{self, SumCase};
+use crate::texts::{self, TextCase};
+use crate::writes;
+
+/// How much is compared.
+#[derive(Clone, Copy)]
+pub struct Plan {
+    pub seed: u64,
+    /// How many blocks of inputs by chance a kind has, as a multiple of the usual number.
+    pub times: u64,
+    /// A part of the usual number, where all is not needed.
+    pub part_of: u64,
+    /// After how many disagreements a kind is given up.
+    pub enough: u64,
+}
+
+/// What a kind of comparison came to.
+pub struct Report {
+    pub name: &'static str,
+    pub inputs: u64,
+    pub disagreements: u64,
+    /// The smallest input found on which the two disagree, and how.
+    pub smallest: Option<String>,
+    pub time: Duration,
+}
+
+/// A block's own chance, from the seed, the kind's name and the block's number.
+fn chance_of(seed: u64, name: &str, block: u64) -> Chance {
+    let mut mixed = Chance::new(seed);
+    for byte in name.bytes() {
+        mixed = Chance::new(mixed.number() ^ u64::from(byte));
+    }
+    Chance::new(mixed.number() ^ block.wrapping_mul(0xD6E8_FEB8_6659_FD93))
+}
+
+/// Runs a check on every case of every block, on all processors.
+fn compare<C: Case>(
+    name: &'static str,
+    plan: Plan,
+    blocks: u64,
+    make: impl Fn(u64, &mut Chance) -> Vec<C> + Sync,
+    check: impl Fn(&C) -> Option<String> + Sync,
+) -> Report {
+    let start = Instant::now();
+    let (next, inputs, disagreements) = (AtomicU64::new(0), AtomicU64::new(0), AtomicU64::new(0));
+    let found: Mutex<Vec<C>> = Mutex::new(Vec::new());
+    let work = || loop {
+        let block = next.fetch_add(1, Ordering::Relaxed);
+        if block >= blocks || disagreements.load(Ordering::Relaxed) >= plan.enough {
+            return;
+        }
+        for case in make(block, &mut chance_of(plan.seed, name, block)) {
+            inputs.fetch_add(1, Ordering::Relaxed);
+            if check(&case).is_some() {
+                let before = disagreements.fetch_add(1, Ordering::Relaxed);
+                if before < plan.enough {
+                    found
+                        .lock()
+                        .expect("no thread panics with the lock")
+                        .push(case);
+                }
+            }
+        }
+    };
+    let threads = thread::available_parallelism().map_or(1, |n| n.get());
+    thread::scope(|scope| {
+        for _ in 0..threads {
+            scope.spawn(work);
+        }
+    });
+    let found = found
+        .into_inner()
+        .expect("no thread panicked with the lock");
+    let small = |case| shrink(case, |other| check(other).is_some());
+    let smallest = found.into_iter().map(small).min_by_key(Case::size);
+    let told = |case: C| format!("{}: {}", case.show(), check(&case).unwrap_or_default());
+    Report {
+        name,
+        inputs: inputs.into_inner(),
+        disagreements: disagreements.into_inner(),
+        smallest: smallest.map(told),
+        time: start.elapsed(),
+    }
+}
+
+/// A kind of comparison, ready to run.
+pub type Kind<'a> = Box<dyn Fn() -> Report + 'a>;
+
+/// A kind whose inputs come by chance, a thousand a block.
+fn by_chance<'a, C: Case + 'a>(
+    name: &'static str,
+    plan: Plan,
+    thousands: u64,
+    make: fn(&mut Chance) -> C,
+    check: impl Fn(&C) -> Option<String> + Sync + 'a,
+) -> Kind<'a> {
+    let blocks = (thousands * plan.times / plan.part_of).max(1);
+    let block = move |_: u64, chance: &mut Chance| (0..1000).map(|_| make(chance)).collect();
+    Box::new(move || compare(name, plan, blocks, block, &check))
+}
+
+fn random_line(chance: &mut Chance) -> LineCase {
+    LineCase::new(if chance.once_in(3) {
+        inputs::summed(chance)
+    } else {
+        inputs::random(chance)
+    })
+}
+
+fn good_line(chance: &mut Chance) -> LineCase {
+    LineCase::new(inputs::good(chance))
+}
+
+fn damaged_line(chance: &mut Chance) -> LineCase {
+    LineCase::new(inputs::damaged(chance))
+}
+
+fn stopped_text(flags: u8, chance: &mut Chance) -> TextCase {
+    let text = inputs::text(chance);
+    let pool = inputs::pool_for(&text, chance);
+    TextCase::new(text, pool, flags)
+}
+
+/// Bytes for the checksum.
+fn bytes(chance: &mut Chance) -> SumCase {
+    let n = chance.under(600);
+    SumCase(chance.bytes(n))
+}
+
+/// What is compared with the port, through its C entry points.
+pub fn of_port<'a>(port: &'a dyn Port, plan: Plan) -> Vec<Kind<'a>> {
+    let line = move |case: &LineCase| lines::port(port, case);
+    let text = move |case: &TextCase| texts::port(port, case);
+    let telling = inputs::TELLING.len() as u64;
+    let sizes: Vec<usize> = inputs::boundaries().collect();
+    vec![
+        by_chance("checksums", plan, 20, bytes, move |case| {
+            sums::port(port, case)
+        }),
+        Box::new(move || {
+            let make = |block, _: &mut Chance| match inputs::TELLING.get(block as usize) {
+                Some(&byte) => inputs::every(&[byte], 4),
+                None => inputs::every(b"", 0),
+            };
+            let blocks = ((telling + 1) / plan.part_of).max(1);
+            compare("every line up to 4 characters", plan, blocks, make, line)
+        }),
+        Box::new(move || {
+            let make =
+                |block, _: &mut Chance| inputs::every(&[b':', inputs::TELLING[block as usize]], 5);
+            let blocks = (telling / plan.part_of).max(1);
+            compare(
+                "every line of a colon and up to 4 characters",
+                plan,
+                blocks,
+                make,
+                line,
+            )
+        }),
+        Box::new(move || {
+            let make = |block, chance: &mut Chance| inputs::sized(sizes[block as usize], chance);
+            compare(
+                "lines of 0 to 12 and 515 to 525 digits",
+                plan,
+                sizes.len() as u64,
+                make,
+                line,
+            )
+        }),
+        Box::new(move || {
+            let make = |_, chance: &mut Chance| inputs::changed(chance);
+            let blocks = (12 * plan.times / plan.part_of).max(1);
+            compare(
+                "good lines, each byte changed to all 256",
+                plan,
+                blocks,
+                make,
+                line,
+            )
+        }),
+        by_chance("good lines", plan, 60, good_line, line),
+        by_chance("lines by chance", plan, 250, random_line, line),
+        by_chance(
+            "good lines with one to three damages",
+            plan,
+            300,
+            damaged_line,
+            line,
+        ),
+        by_chance("lines with narrow pools", plan, 100, inputs::pooled, line),
+        by_chance(
+            "texts, no stop",
+            plan,
+            26,
+            |chance| stopped_text(0, chance),
+            text,
+        ),
+        by_chance(
+            "texts, stop after an error",
+            plan,
+            26,
+            |chance| stopped_text(1, chance),
+            text,
+        ),
+        by_chance(
+            "texts, stop after an end",
+            plan,
+            26,
+            |chance| stopped_text(2, chance),
+            text,
+        ),
+        by_chance(
+            "texts, both stops",
+            plan,
+            26,
+            |chance| stopped_text(3, chance),
+            text,
+        ),
+        by_chance(
+            "texts, states made up by hand",
+            plan,
+            20,
+            inputs::by_hand,
+            text,
+        ),
+        by_chance("records written", plan, 150, inputs::record, move |case| {
+            writes::record_by_port(port, case)
+        }),
+        by_chance("lists written", plan, 60, inputs::object, move |case| {
+            writes::object_by_port(port, case)
+        }),
+        by_chance("loads", plan, 60, inputs::load, move |case| {
+            loads::port(port, case)
+        }),
+    ]
+}
+
+/// What is compared with the Rust face.
+pub fn of_face(plan: Plan) -> Vec<Kind<'static>> {
+    vec![
+        by_chance("face: good lines", plan, 20, good_line, lines::face),
+        by_chance("face: lines by chance", plan, 50, random_line, lines::face),
+        by_chance(
+            "face: good lines with damages",
+            plan,
+            100,
+            damaged_line,
+            lines::face,
+        ),
+        by_chance(
+            "face: texts",
+            plan,
+            20,
+            |chance| stopped_text(chance.under(4) as u8, chance),
+            texts::face,
+        ),
+        by_chance(
+            "face: records written",
+            plan,
+            30,
+            inputs::record,
+            writes::record_by_face,
+        ),
+        by_chance(
+            "face: lists written",
+            plan,
+            20,
+            inputs::object,
+            writes::object_by_face,
+        ),
+        by_chance("face: loads", plan, 20, inputs::load, loads::face),
+    ]
+}

@@ -1,0 +1,20 @@
+//! The crate ihex 3.0.0 against the port: inputs, comparisons, and the search for a small input on
+//! which the two disagree.
+#![forbid(unsafe_code)]
+
+pub mod chance;
+pub mod domain;
+pub mod inputs;
+pub mod kinds;
+pub mod lent;
+pub mod lines;
+pub mod loads;
+pub mod port;
+pub mod seen;
+pub mod shrink;
+pub mod stored;
+pub mod sums;
+pub mod texts;
+pub mod told;
+pub mod writes;
+pub mod wrong;

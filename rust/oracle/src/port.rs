@@ -1,0 +1,69 @@
+//! The port: the C entry points, one method each. A false port is one that alters some of them.
+#![allow(clippy::too_many_arguments)]
+
+use crate::told::Entry;
+
+pub trait Port: Sync {
+    fn checksum(&self, bytes: &[u8]) -> u8 {
+        ihex_sys::checksum(bytes)
+    }
+
+    fn read_record(
+        &self,
+        line: &[u8],
+        pool: &mut [u8],
+        at: usize,
+        (a, b, c): (&mut u64, &mut u64, &mut u64),
+    ) -> u32 {
+        ihex_sys::read_record(line, pool, at, a, b, c)
+    }
+
+    fn next(
+        &self,
+        text: &[u8],
+        pool: &mut [u8],
+        at: usize,
+        (position, line, flags): (&mut usize, &mut usize, &mut u8),
+        (a, b, c): (&mut u64, &mut u64, &mut u64),
+    ) -> u32 {
+        ihex_sys::next(text, pool, at, position, line, flags, a, b, c)
+    }
+
+    fn to_record_string(&self, entry: &Entry, pool: &[u8], out: &mut [u8], value: &mut u64) -> u32 {
+        let Entry {
+            kind,
+            number,
+            second,
+            at,
+            len,
+        } = *entry;
+        ihex_sys::to_record_string(kind, number, second, at, len, pool, out, value)
+    }
+
+    fn create_object_file_representation(
+        &self,
+        list: &[u8],
+        pool: &[u8],
+        out: &mut [u8],
+        value: &mut u64,
+    ) -> u32 {
+        ihex_sys::create_object_file_representation(list, pool, out, value)
+    }
+
+    fn load(
+        &self,
+        text: &[u8],
+        first: u32,
+        page: &mut [u8],
+        marks: &mut [u8],
+        line: &mut usize,
+        (a, b): (&mut u64, &mut u64),
+    ) -> u32 {
+        ihex_sys::load(text, first, page, marks, line, a, b)
+    }
+}
+
+/// The port itself.
+pub struct Real;
+
+impl Port for Real {}

@@ -1,0 +1,76 @@
+//! How often each answer was called for, so that none is left out unseen.
+
+use std::sync::atomic::{AtomicU64, Ordering};
+
+use ihex_sys::{BAD_RECORD, DONE, REFUSED};
+
+/// The entry points, and the codes that each can answer.
+const ANSWERS: [(&str, &[u32]); 5] = [
+    (
+        "record reader",
+        &[
+            0, 1, 2, 3, 4, 5, 257, 258, 259, 260, 261, 262, 263, 264, 265, 266,
+        ],
+    ),
+    (
+        "text reader",
+        &[
+            0, 1, 2, 3, 4, 5, 257, 258, 259, 260, 261, 262, 263, 264, 265, 266, DONE,
+        ],
+    ),
+    ("record writer", &[0, 267, 268, 271, BAD_RECORD]),
+    ("object writer", &[0, 267, 268, 269, 270, 271, BAD_RECORD]),
+    (
+        "loader",
+        &[
+            0, 257, 258, 259, 260, 261, 262, 263, 264, 265, 269, 272, 273,
+        ],
+    ),
+];
+
+pub const RECORD_READER: usize = 0;
+pub const TEXT_READER: usize = 1;
+pub const RECORD_WRITER: usize = 2;
+pub const OBJECT_WRITER: usize = 3;
+pub const LOADER: usize = 4;
+
+#[allow(clippy::declare_interior_mutable_const)]
+const NONE: AtomicU64 = AtomicU64::new(0);
+#[allow(clippy::declare_interior_mutable_const)]
+const ROW: [AtomicU64; 32] = [NONE; 32];
+static SEEN: [[AtomicU64; 32]; 5] = [ROW; 5];
+
+fn place(code: u32) -> usize {
+    match code {
+        DONE => 30,
+        BAD_RECORD => 31,
+        _ if code > REFUSED => (code - REFUSED + 5).min(29) as usize,
+        _ => code.min(5) as usize,
+    }
+}
+
+/// One more answer of this entry point with this code was called for.
+pub fn note(entry: usize, code: u32) {
+    SEEN[entry][place(code)].fetch_add(1, Ordering::Relaxed);
+}
+
+/// Prints how often each answer was called for, and says whether none is missing.
+pub fn show() -> bool {
+    let mut all = true;
+    for (row, (name, codes)) in SEEN.iter().zip(ANSWERS) {
+        let count = |&code: &u32| (code, row[place(code)].load(Ordering::Relaxed));
+        let counts: Vec<(u32, u64)> = codes.iter().map(count).collect();
+        let texts: Vec<String> = counts
+            .iter()
+            .map(|(code, n)| format!("{code}: {n}"))
+            .collect();
+        let whole = counts.iter().all(|&(_, n)| n > 0);
+        let word = if whole { "ok" } else { "FAILED" };
+        println!(
+            "{word:6} every answer of the {name} (code: times): {}",
+            texts.join(", ")
+        );
+        all &= whole;
+    }
+    all
+}

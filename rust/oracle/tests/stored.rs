@@ -1,0 +1,85 @@
+//! A small stored list, with a case of each form: right answers agree, a wrong one is found and
+//! written anew, and what is no case is passed over and kept.
+
+use oracle::stored::List;
+
+const HEADINGS_AND_CASES: [(&str, &str); 9] = [
+    ("# a heading", "# a heading"),
+    ("C 01", "FF"),
+    ("C", "00"),
+    ("L 4 1 3A303130303035303037373833", "D 0005 1 1 | EE77EEEE"),
+    ("L 0 0 FF", "! 1 | "),
+    (
+        "T 3 1 3A303030303030303146460A0A30",
+        "E @1 | EE; done @1 | EE; done @1",
+    ),
+    ("W 1 0 0 0 0 C", "W B | 3A30303030303030314646DD"),
+    ("O C  1 0 0 0 0", "W C | 3A303030303030303146460A"),
+    ("M 0 2 41 3A30303030303030314646", "! 16 @0 | CCCC | AA<41"),
+];
+
+/// What `replay` takes another way, or not at all.
+const PASSED_OVER: [&str; 9] = [
+    "",
+    "Q 1",
+    "C 0",
+    "C 0a",
+    "C 01 02",
+    "L 1001 0 3A",
+    "T 4 1 3A",
+    "W 6 0 0 0 0 C",
+    "O C 00 1 0 0 0",
+];
+
+fn list() -> List {
+    let (cases, answers): (Vec<_>, Vec<_>) = HEADINGS_AND_CASES.iter().copied().unzip();
+    let owned = |rows: Vec<&str>| rows.into_iter().map(String::from).collect();
+    List {
+        cases: owned(cases),
+        answers: owned(answers),
+    }
+}
+
+#[test]
+fn right_answers_agree() {
+    let outcome = list().compare();
+    assert_eq!(outcome.report.smallest, None);
+    assert_eq!(
+        (outcome.report.inputs, outcome.report.disagreements),
+        (8, 0)
+    );
+    assert_eq!(
+        outcome.told,
+        "2 C, 2 L, 1 T, 1 W, 1 O, 1 M; 1 of them no UTF-8, answered by the rule for bytes; 0 passed over"
+    );
+}
+
+#[test]
+fn each_wrong_answer_is_found_and_written_anew() {
+    let right = list().answers;
+    for i in 0..right.len() {
+        let mut wrong = list();
+        wrong.answers[i].push('0');
+        let report = wrong.compare().report;
+        let smallest = report.smallest.expect("a wrong answer is found");
+        assert!(smallest.starts_with(&format!("line {}, ", i + 1)));
+        assert_eq!(report.disagreements, 1);
+        assert_eq!(wrong.answered().answers, right);
+    }
+}
+
+#[test]
+fn what_is_no_case_is_passed_over_and_kept() {
+    let mut list = list();
+    for case in PASSED_OVER {
+        list.cases.push(case.into());
+        list.answers.push("as it was".into());
+    }
+    let outcome = list.compare();
+    assert_eq!(
+        (outcome.report.inputs, outcome.report.disagreements),
+        (8, 0)
+    );
+    assert!(outcome.told.ends_with("; 9 passed over"));
+    assert_eq!(list.answered().answers, list.answers);
+}

@@ -1,0 +1,31 @@
+//! The numbers of this crate are those of include/ihex.h.
+
+const HEADER: &str = include_str!("../../../include/ihex.h");
+
+/// The number that the header gives a name.
+fn defined(name: &str) -> Option<u64> {
+    let rest = |line: &'static str| line.strip_prefix("#define IHEX_")?.strip_prefix(name);
+    let number = HEADER
+        .lines()
+        .find_map(|line| rest(line)?.strip_prefix(' '));
+    number?.split_whitespace().next()?.parse().ok()
+}
+
+#[test]
+fn numbers_are_the_headers() {
+    let numbers: [(&str, u64); 7] = [
+        ("REFUSED", ihex_sys::REFUSED.into()),
+        ("DONE", ihex_sys::DONE.into()),
+        ("BAD_RECORD", ihex_sys::BAD_RECORD.into()),
+        (
+            "STOP_AFTER_FIRST_ERROR",
+            ihex_sys::STOP_AFTER_FIRST_ERROR.into(),
+        ),
+        ("STOP_AFTER_EOF", ihex_sys::STOP_AFTER_EOF.into()),
+        ("FINISHED", ihex_sys::FINISHED.into()),
+        ("RECORD_SIZE", ihex_sys::ENTRY as u64),
+    ];
+    for (name, number) in numbers {
+        assert_eq!(defined(name), Some(number), "{name}");
+    }
+}
