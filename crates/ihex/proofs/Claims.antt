@@ -4,14 +4,15 @@ use Prim.Native.Nat.{ℕ}
 use mathlib.Core.Path.{_≡_, refl, sym, _∙_}
 use mathlib.Core.Option.{Option}
 use mathlib.Core.List.{List}
+use Rattle.checksum.proofs.Claims.{checksum-unique}
 use Rattle.writer.specs.Text.{Text}
-use Rattle.ihex.specs.Codes.{Message}
+use Rattle.ihex.specs.Codes.{Message, Numbers}
 use Rattle.ihex.specs.Entry.{records-of}
-use Rattle.ihex.specs.Entries.{Numbers, Wrote-text}
+use Rattle.ihex.specs.Entries.{Wrote-text}
 use Rattle.ihex.specs.Claims.{Ihex-checksum-unique, Ihex-read-record-unique, Ihex-next-unique, Ihex-to-record-string-unique, Ihex-create-object-file-representation-unique, Ihex-load-unique, List-examples}
 
 pub ihex-checksum-unique : Ihex-checksum-unique
-ihex-checksum-unique bytes r r′ x y = x .answer ∙ sym (y .answer)
+ihex-checksum-unique = checksum-unique
 
 same-numbers : {m : Message} {r a b c r′ a′ b′ c′ : ℕ} → Numbers m r a b c → Numbers m r′ a′ b′ c′ → (r ≡ r′) × (a ≡ a′) × (b ≡ b′) × (c ≡ c′)
 same-numbers x y = (x .code-is ∙ sym (y .code-is), x .a-is ∙ sym (y .a-is), x .b-is ∙ sym (y .b-is), x .c-is ∙ sym (y .c-is))

@@ -4,13 +4,10 @@ use mathlib.Core.Path.{_≡_, subst, ap}
 use Rattle.reader.specs.Told.{Told}
 use Rattle.ihex.specs.declared.Coded.{Coded}
 use Rattle.ihex.specs.Codes.{Message, reading, Coded-as}
-use Rattle.ihex.specs.Entries.{Numbers}
 
 -- the same, of an equal message
 pub coded : {m₁ m₂ : Message} {r : Coded} → m₁ ≡ m₂ → Coded-as m₁ r → Coded-as m₂ r
 coded {r = r} e k = subst (λ (m : Message). Coded-as m r) e k
 
-pub numbers : {t₁ t₂ : Told} {r : Coded} → t₁ ≡ t₂ → Coded-as (reading t₁) r → Numbers (reading t₂) (r .code) (r .a) (r .b) (r .c)
-numbers {r = r} e k =
-    let k′ = coded (ap reading e) k in
-    record { code-is = k′ .code-is; a-is = k′ .a-is; b-is = k′ .b-is; c-is = k′ .c-is }
+pub numbers : {t₁ t₂ : Told} {r : Coded} → t₁ ≡ t₂ → Coded-as (reading t₁) r → Coded-as (reading t₂) r
+numbers {r = r} e k = coded {r = r} (ap reading e) k

@@ -4,7 +4,7 @@ use Prim.Native.Nat.{ℕ}
 use mathlib.Core.Path.{_≡_}
 use mathlib.Core.Option.{none, some}
 use mathlib.Core.List.{List, [], _∷_, _++_}
-use Rattle.checksum.specs.Checksum.{Checksum}
+use Rattle.checksum.specs.Claims.{Checksum-unique}
 use Rattle.record.specs.declared.Record.the-variants.{Data, EndOfFile, StartSegmentAddress, StartLinearAddress}
 use Rattle.reader.specs.declared.State.{State}
 use Rattle.ihex.specs.Entry.{records-of}
@@ -13,7 +13,7 @@ use Rattle.ihex.specs.Entries.{IhexReadRecord, IhexNext, IhexToRecordStr
 -- ---- no second answer meets a contract
 
 abbrev pub Ihex-checksum-unique : Type 0
-Ihex-checksum-unique = (bytes : List ℕ) (r r′ : ℕ) → Checksum bytes r → Checksum bytes r′ → r ≡ r′
+Ihex-checksum-unique = Checksum-unique
 
 abbrev pub Ihex-read-record-unique : Type 0
 Ihex-read-record-unique =

@@ -54,11 +54,15 @@ abbrev pub line-at : Verdict → ℕ
 line-at (accepted tally) = 0
 line-at (refused r line) = line
 
-pub record Coded-as (m : Message) (r : Coded) : Type 0 where
-  pub code-is : r .code ≡ m .code
-  pub a-is : r .a ≡ value m 0
-  pub b-is : r .b ≡ value m 1
-  pub c-is : r .c ≡ value m 2
+-- an answer in four numbers
+pub record Numbers (m : Message) (r a b c : ℕ) : Type 0 where
+  pub code-is : r ≡ m .code
+  pub a-is : a ≡ value m 0
+  pub b-is : b ≡ value m 1
+  pub c-is : c ≡ value m 2
+
+abbrev pub Coded-as : Message → Coded → Type 0
+Coded-as m r = Numbers m (r .code) (r .a) (r .b) (r .c)
 
 -- ---- a state in numbers
 

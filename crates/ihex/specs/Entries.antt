@@ -15,15 +15,8 @@ use Rattle.writer.specs.Text.{Text, behind, within, placed}
 use Rattle.writer.specs.Line.{line-text}
 use Rattle.writer.specs.Object.{object}
 use Rattle.loader.specs.Load.{load}
-use Rattle.ihex.specs.Codes.{Message, value, reading, writing, loading, line-at, flags-of}
+use Rattle.ihex.specs.Codes.{value, Numbers, reading, writing, loading, line-at, flags-of}
 use Rattle.ihex.specs.Entry.{record-of, records-of}
-
--- an answer in four numbers
-pub record Numbers (m : Message) (r a b c : ℕ) : Type 0 where
-  pub code-is : r ≡ m .code
-  pub a-is : a ≡ value m 0
-  pub b-is : b ≡ value m 1
-  pub c-is : c ≡ value m 2
 
 pub record IhexReadRecord (line pool : List ℕ) (at r a b c : ℕ) (pool′ : List ℕ) : Type 0 where
   pub answer : Numbers (reading (answered (judge line) (length pool) at)) r a b c

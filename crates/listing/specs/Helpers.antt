@@ -8,9 +8,8 @@ use lib.ListN.{length}
 use Rattle.record.specs.Common.{text, pasted}
 use Rattle.record.specs.Refusals.{Refusal, refusal}
 use Rattle.record.specs.Written.{spelt}
-use Rattle.record.specs.Record.{meant}
+use Rattle.record.specs.Record.{meant, Inside}
 use Rattle.record.specs.declared.Record.{Record}
-use Rattle.record.specs.declared.Record.the-variants.{Data, EndOfFile, ExtendedSegmentAddress, StartSegmentAddress, ExtendedLinearAddress, StartLinearAddress}
 use Rattle.reader.specs.declared.Reply.{Reply}
 use Rattle.reader.specs.declared.Reply.the-variants.{Read, Refused, Done}
 use Rattle.reader.specs.Told.{refusal-of}
@@ -29,17 +28,8 @@ numbered character bytes = text "X" ++ (character ∷ []) ++ text " " ++ spelt b
 abbrev pub values-of : Refusal → List ℕ
 values-of (refusal number values) = values
 
--- a data record's payload lies in the pool
-abbrev pub In-pool : Record → (pool : List ℕ) → Type 0
-In-pool (Data offset at len) pool = at + len ≤ length pool
-In-pool EndOfFile pool = Unit
-In-pool (ExtendedSegmentAddress x) pool = Unit
-In-pool (StartSegmentAddress cs ip) pool = Unit
-In-pool (ExtendedLinearAddress x) pool = Unit
-In-pool (StartLinearAddress x) pool = Unit
-
 pub record Printable (given : Record) (pool out : List ℕ) (at : ℕ) : Type 0 where
-  pub lies : In-pool given pool
+  pub lies : Inside given (length pool)
   pub room : at + length (record-entry (meant given pool)) ≤ length out
 
 abbrev pub is-done : Reply → Bool
@@ -54,7 +44,7 @@ shown (Refused e) pool = ended (refusal-entry (refusal-of e))
 shown Done pool = []
 
 abbrev pub Lies : Reply → (pool : List ℕ) → Type 0
-Lies (Read r) pool = In-pool r pool
+Lies (Read r) pool = Inside r (length pool)
 Lies (Refused e) pool = Unit
 Lies Done pool = Unit
 

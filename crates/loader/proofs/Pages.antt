@@ -11,9 +11,10 @@ use mathlib.Core.List.{List, [], _∷_, _++_, map, zipWith, List·Memᴰ, List·
 use lib.ListN.{length, getD, set, replicate}
 use lib.Dec.{eqb}
 use borrow.Author.Tests.{eqb-true, eqb-false, eq-eqb, ne-eqb}
-use Rattle.record.specs.Common.{if_then_else_}
+use Rattle.record.specs.Common.{if_then_else_, or-else}
 use Rattle.loader.specs.Placing.{Placement}
-use Rattle.loader.specs.Load.{or-else, last-at, mark, painted, marked}
+use Rattle.record.proofs.Choices.{or-else-none, or-else-assoc}
+use Rattle.loader.specs.Load.{last-at, mark, painted, marked}
 use Rattle.loader.specs.Helpers.{as-mark}
 use Rattle.loader.specs.Claims.{Last-stated, Place}
 
@@ -68,7 +69,6 @@ Found address ps (some b) = Last-stated address b ps
 
 found-cons : (a : ℕ) (p : Placement) (ps : List Placement) (o : Option ℕ) (t : Bool) → eqb (p .address) a ≡ t → Found a ps o
     → Found a (p ∷ ps) (or-else o (if t then some (p .byte) else none))
-unfolding or-else
 found-cons a p ps (some b) t e f =
     record { before = p ∷ f .before; after = f .after; whole = ap (λ (l : List Placement). p ∷ l) (f .whole); none-later = f .none-later }
 found-cons a p ps none true e f =
@@ -91,16 +91,6 @@ found a (p ∷ ps) = found-cons a p ps (last-at a ps) (eqb (p .address) a) refl 
 
 -- ---- placements behind placements
 
-pub or-else-none : {A : Type 0} (o : Option A) → or-else o none ≡ o
-unfolding or-else
-or-else-none none = refl
-or-else-none (some b) = refl
-
-pub or-else-assoc : {A : Type 0} (o p q : Option A) → or-else (or-else o p) q ≡ or-else o (or-else p q)
-unfolding or-else
-or-else-assoc none p q = refl
-or-else-assoc (some b) p q = refl
-
 pub last-append : (a : ℕ) (ps qs : List Placement) → last-at a (ps ++ qs) ≡ or-else (last-at a qs) (last-at a ps)
 unfolding last-at
 last-append a [] qs = sym (or-else-none (last-at a qs))
@@ -109,12 +99,11 @@ last-append a (p ∷ ps) qs =
     ap (λ (o : Option ℕ). or-else o here) (last-append a ps qs) ∙ or-else-assoc (last-at a qs) (last-at a ps) here
 
 pub getD-or-else : {A : Type 0} (o p : Option A) (old : A) → Option·getD (or-else o p) old ≡ Option·getD o (Option·getD p old)
-unfolding or-else
 getD-or-else none p old = refl
 getD-or-else (some b) p old = refl
 
 mark-or-else : (o p : Option ℕ) → mark (or-else o p) ≡ max (mark p) (mark o)
-unfolding or-else mark
+unfolding mark
 mark-or-else none none = refl
 mark-or-else none (some b) = refl
 mark-or-else (some b) none = refl

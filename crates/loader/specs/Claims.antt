@@ -11,14 +11,14 @@ use mathlib.Core.Option.{Option, none, some, Option·getD}
 use mathlib.Core.List.{List, [], _∷_, _++_, List·Memᴰ}
 use lib.Dec.{eqb}
 use lib.ListN.{length, getD, replicate}
-use Rattle.record.specs.Common.{Every, text}
+use Rattle.record.specs.Common.{or-else, Every, text}
 use Rattle.record.specs.Refusals.{Refusal, number-of, missing-end-of-file-record, bad-window, outside-window}
 use Rattle.record.specs.Line.{Said, says, wrong, judge}
 use Rattle.record.specs.Meaning.{Meaning, data-at, end-of-file, extended-segment, start-segment, extended-linear, start-linear, meaning}
 use Rattle.reader.specs.Lines.{LF, lines, through}
 use Rattle.loader.specs.declared.Loading.{Loading}
 use Rattle.loader.specs.Placing.{Placement, Base, from-start, segment, linear, placed}
-use Rattle.loader.specs.Load.{Tally, Verdict, accepted, refused, by, within, or-else, outcome, Loaded, placements, load}
+use Rattle.loader.specs.Load.{Tally, Verdict, accepted, refused, by, within, outcome, Loaded, placements, load}
 use Rattle.loader.specs.Told.{told, Load}
 
 -- ---- two loads
@@ -107,7 +107,7 @@ sets (some (start-linear number)) = none
 
 -- the latest base that lines set: a later one, if there is one, and else the first line's
 unfoldable pub latest : List (List ℕ) → Option Base
-unfolding or-else sets said-record judge
+unfolding sets said-record judge
 latest [] = none
 latest (line ∷ ls) = or-else (latest ls) (sets (record-on line))
 

@@ -6,7 +6,7 @@ use mathlib.Core.Option.{Option, none, some, Option·getD}
 use mathlib.Core.List.{List, [], _∷_}
 use lib.ListN.{length}
 use lib.Dec.{eqb, leb, ltb}
-use Rattle.record.specs.Common.{if_then_else_}
+use Rattle.record.specs.Common.{if_then_else_, or-else}
 use Rattle.record.specs.Refusals.{Refusal, missing-end-of-file-record, bad-window, outside-window}
 use Rattle.reader.specs.Row.{row}
 use Rattle.reader.specs.Text.{default-options}
@@ -65,13 +65,8 @@ unfit first page marks = not (eqb page marks) || ltb 65536 page || ltb (2 ^ 32) 
 
 -- ---- page and marks
 
-unfoldable pub or-else : {A : Type 0} → Option A → Option A → Option A
-or-else (some x) other = some x
-or-else none other = other
-
 -- the byte that the last placement at an address states: a later one, if there is one, and else the first
 unfoldable pub last-at : (address : ℕ) → List Placement → Option ℕ
-unfolding or-else
 last-at address [] = none
 last-at address (p ∷ ps) = or-else (last-at address ps) (if eqb (p .address) address then some (p .byte) else none)
 

@@ -1,4 +1,5 @@
 pub mod Tests
+pub mod Choices
 pub mod Spelling
 pub mod Judging
 pub mod Standing

@@ -1,9 +1,10 @@
--- What every file of specs/ uses: a choice that reads as one, a property of each element, and texts in quotes.
+-- What every file of specs/ uses: choices that read as such, a property of each element, and texts in quotes.
 -- Assumes nothing.
 use Prim.Native.Nat.{ℕ, _+_, _<_}
 use Prim.Native.Char.{code}
 use Prim.Native.String.{String}
 use mathlib.Core.Bool.{Bool, true, false}
+use mathlib.Core.Option.{Option, none, some}
 use mathlib.Core.List.{List, [], _∷_, _++_}
 use lib.ListN.{length, take, drop}
 
@@ -11,6 +12,11 @@ infix 10 if_then_else_
 abbrev pub if_then_else_ {ℓ} : {X : Type ℓ} → Bool → X → X → X
 if true then x else y = x
 if false then x else y = y
+
+-- the first of two that there is
+abbrev pub or-else : {A : Type 0} → Option A → Option A → Option A
+or-else none other = other
+or-else (some x) other = some x
 
 -- each element has the property
 abbrev pub Every {ℓ} : {A : Type ℓ} → (A → Type 0) → List A → Type 0

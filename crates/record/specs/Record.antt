@@ -1,6 +1,6 @@
 -- The code's `Record`: its type, its numbers, and what it means over the pool that holds its payload.
 -- Assumes nothing.
-use Prim.Native.Nat.{ℕ}
+use Prim.Native.Nat.{ℕ, _+_, _≤_}
 use mathlib.Core.Path.{_≡_}
 use mathlib.Core.List.{List, [], _∷_}
 use lib.ListN.{take, drop}
@@ -32,6 +32,15 @@ meant (ExtendedSegmentAddress a) pool = extended-segment a
 meant (StartSegmentAddress cs ip) pool = start-segment cs ip
 meant (ExtendedLinearAddress a) pool = extended-linear a
 meant (StartLinearAddress a) pool = start-linear a
+
+-- the payload lies in a pool of n bytes
+abbrev pub Inside : Record → (n : ℕ) → Type 0
+Inside (Data offset at len) n = at + len ≤ n
+Inside EndOfFile n = Unit
+Inside (ExtendedSegmentAddress a) n = Unit
+Inside (StartSegmentAddress cs ip) n = Unit
+Inside (ExtendedLinearAddress a) n = Unit
+Inside (StartLinearAddress a) n = Unit
 
 -- the contract of `Record::record_type`
 pub record RecordType (record′ : Record) (r : ℕ) : Type 0 where

@@ -10,7 +10,7 @@ use borrow.Author.Tests.{le-leb}
 use Rattle.record.specs.Common.{Every, Byte}
 use Rattle.record.specs.declared.Record.{Record}
 use Rattle.record.specs.declared.Record.the-variants.{Data, EndOfFile, ExtendedSegmentAddress, StartSegmentAddress, ExtendedLinearAddress, StartLinearAddress}
-use Rattle.record.specs.Record.{meant}
+use Rattle.record.specs.Record.{Inside, meant}
 use Rattle.record.specs.Meaning.{Meaning}
 use Rattle.record.specs.Line.{says, judge}
 use Rattle.record.specs.Written.{written, kind-of, address-of, payload-of, line-of, Sayable}
@@ -19,7 +19,7 @@ use Rattle.record.proofs.Claims.{admits}
 use Rattle.record.proofs.Spelling.{spells-small}
 use Rattle.writer.specs.Line.{fault, line, ended-line}
 use Rattle.writer.specs.Object.{lines, object}
-use Rattle.writer.specs.Claims.{In-range, Inside, Line-in-format, Canonical, Line-injective, Line-plain, Object-injective, Examples}
+use Rattle.writer.specs.Claims.{In-range, Line-in-format, Canonical, Line-injective, Line-plain, Object-injective, Examples}
 use Rattle.writer.proofs.Measuring.{part-length}
 use Rattle.writer.proofs.Records.{fine-data}
 use Rattle.writer.proofs.Objects.{unless-chars, object-whole}

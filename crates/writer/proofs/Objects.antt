@@ -9,13 +9,14 @@ use native.Mathlib.Omega.{arith}
 use lib.Dec.{ltb}
 use lib.ListN.{length}
 use borrow.Author.Tests.{ltb-false}
-use Rattle.record.specs.Common.{if_then_else_, Every}
+use Rattle.record.specs.Common.{if_then_else_, or-else, Every}
 use Rattle.record.specs.Refusals.{Refusal, missing-end-of-file-record, multiple-end-of-file-records}
 use Rattle.record.specs.declared.Record.{Record}
 use Rattle.record.proofs.Tests.{branch}
+use Rattle.record.proofs.Choices.{or-else-none, or-else-assoc}
 use Rattle.writer.specs.Text.{chars, refused, unless}
 use Rattle.writer.specs.Line.{fault, ended-line}
-use Rattle.writer.specs.Object.{is-end, ends, ends-in-end, or-else, first-fault, lines, object}
+use Rattle.writer.specs.Object.{is-end, ends, ends-in-end, first-fault, lines, object}
 use Rattle.writer.specs.Claims.{Object-whole}
 
 pub ends-snoc : (rs : List Record) (r : Record) → ends (rs ++ (r ∷ [])) ≡ ends rs + (if is-end r then 1 else 0)
@@ -33,14 +34,6 @@ unfolding ends-in-end
 ends-in-end-snoc [] r = refl
 ends-in-end-snoc (q ∷ []) r = refl
 ends-in-end-snoc (q ∷ p ∷ rs) r = ends-in-end-snoc (p ∷ rs) r
-
-or-else-assoc : (f g h : Option Refusal) → or-else (or-else f g) h ≡ or-else f (or-else g h)
-or-else-assoc none g h = refl
-or-else-assoc (some r) g h = refl
-
-or-else-none : (f : Option Refusal) → or-else f none ≡ f
-or-else-none none = refl
-or-else-none (some r) = refl
 
 pub first-fault-snoc : (rs : List Record) (r : Record) (n : ℕ) → first-fault (rs ++ (r ∷ [])) n ≡ or-else (first-fault rs n) (fault r n)
 unfolding first-fault

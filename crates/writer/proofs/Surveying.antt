@@ -9,7 +9,7 @@ use native.Mathlib.Omega.{arith}
 use lib.Dec.{ltb}
 use lib.ListN.{length, length-append}
 use borrow.Author.Tests.{le-leb, lt-leb}
-use Rattle.record.specs.Common.{if_then_else_}
+use Rattle.record.specs.Common.{if_then_else_, or-else}
 use Rattle.record.specs.Refusals.{Refusal, missing-end-of-file-record, multiple-end-of-file-records}
 use Rattle.record.specs.declared.Record.{Record}
 use Rattle.record.proofs.Tests.{split}
@@ -17,7 +17,7 @@ use Rattle.writer.specs.declared.Survey.{Survey}
 use Rattle.writer.specs.Told.{Told, wrote, refuses, told}
 use Rattle.writer.specs.Text.{refused, unless, behind, within}
 use Rattle.writer.specs.Line.{fault, line, ended-line}
-use Rattle.writer.specs.Object.{is-end, ends, ends-in-end, or-else, first-fault, lines, object}
+use Rattle.writer.specs.Object.{is-end, ends, ends-in-end, first-fault, lines, object}
 use Rattle.writer.specs.Survey.{New, Add, most, cap, longer, surveyed}
 use Rattle.writer.specs.Claims.{Surveys, at-first, then-add, Survey-answers}
 use Rattle.writer.proofs.Objects.{ends-snoc, ends-most, ends-in-end-snoc, first-fault-snoc, lines-snoc}

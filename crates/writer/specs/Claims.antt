@@ -11,7 +11,7 @@ use Rattle.record.specs.Common.{if_then_else_, Every, Byte, text}
 use Rattle.record.specs.Refusals.{missing-end-of-file-record, multiple-end-of-file-records}
 use Rattle.record.specs.declared.Record.{Record}
 use Rattle.record.specs.declared.Record.the-variants.{Data, EndOfFile, ExtendedSegmentAddress, StartSegmentAddress, ExtendedLinearAddress, StartLinearAddress}
-use Rattle.record.specs.Record.{meant}
+use Rattle.record.specs.Record.{meant, Inside}
 use Rattle.record.specs.Meaning.{meaning}
 use Rattle.record.specs.Line.{says, judge}
 use Rattle.record.specs.Format.{Format}
@@ -36,15 +36,6 @@ In-range (ExtendedSegmentAddress a) = a < 65536
 In-range (StartSegmentAddress cs ip) = (cs < 65536) × (ip < 65536)
 In-range (ExtendedLinearAddress a) = a < 65536
 In-range (StartLinearAddress a) = a < 4294967296
-
--- the payload lies in a pool of n bytes
-abbrev pub Inside : Record → (n : ℕ) → Type 0
-Inside (Data offset at len) n = at + len ≤ n
-Inside EndOfFile n = Unit
-Inside (ExtendedSegmentAddress a) n = Unit
-Inside (StartSegmentAddress cs ip) n = Unit
-Inside (ExtendedLinearAddress a) n = Unit
-Inside (StartLinearAddress a) n = Unit
 
 -- a line is eleven characters, and two for each payload byte
 abbrev pub Line-length : Type 0

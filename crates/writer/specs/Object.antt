@@ -6,7 +6,7 @@ use mathlib.Core.Option.{Option, none, some}
 use mathlib.Core.List.{List, [], _∷_, _++_}
 use lib.Dec.{ltb, eqb}
 use lib.ListN.{length}
-use Rattle.record.specs.Common.{if_then_else_}
+use Rattle.record.specs.Common.{if_then_else_, or-else}
 use Rattle.record.specs.Refusals.{Refusal, missing-end-of-file-record, multiple-end-of-file-records}
 use Rattle.record.specs.declared.Record.{Record}
 use Rattle.record.specs.Record.{type-of}
@@ -27,10 +27,6 @@ unfoldable pub ends-in-end : List Record → Bool
 ends-in-end [] = false
 ends-in-end (r ∷ []) = is-end r
 ends-in-end (r ∷ q ∷ rs) = ends-in-end (q ∷ rs)
-
-abbrev pub or-else : Option Refusal → Option Refusal → Option Refusal
-or-else none f = f
-or-else (some r) f = some r
 
 -- why the first record without a line has none
 unfoldable pub first-fault : List Record → (n : ℕ) → Option Refusal

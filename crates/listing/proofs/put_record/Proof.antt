@@ -6,11 +6,11 @@ use native.Mathlib.Omega.{arith}
 use denote.Ref.{now}
 use lib.ListN.{length, take, drop}
 use Rattle.record.specs.declared.Record.{Record}
-use Rattle.record.specs.Record.{meant}
+use Rattle.record.specs.Record.{meant, Inside}
 use Rattle.record.specs.Meaning.{data-at}
 use Rattle.record.specs.Written.{spelt}
 use Rattle.listing.specs.Listing.{record-entry}
-use Rattle.listing.specs.Helpers.{In-pool, numbered}
+use Rattle.listing.specs.Helpers.{numbered}
 use Rattle.listing.proofs.Putting.{put-as}
 use borrow.Author.Needs.{needs}
 use Rattle.listing.proofs.put_record.Statement.{statement}
@@ -20,7 +20,7 @@ enum-known-given : tie.Need-enum-known-given
 enum-known-given c = search needs
 
 add-end : tie.Need-add-end
-add-end c = let l = subst (λ (x : Record). In-pool x (now (c .before .before .before .before .before .args .pool))) (c .before .given .given .1) (c .before .before .before .before .before .pre .lies) in omega (arith, l)
+add-end c = let l = subst (λ (x : Record). Inside x (length (now (c .before .before .before .before .before .args .pool)))) (c .before .given .given .1) (c .before .before .before .before .before .pre .lies) in omega (arith, l)
 
 sub-put-data : tie.Need-sub-put-data
 sub-put-data c = search needs
@@ -29,7 +29,7 @@ part-put-data-start : tie.Need-part-put-data-start
 part-put-data-start c = search needs
 
 part-put-data-end : tie.Need-part-put-data-end
-part-put-data-end c = subst (λ (x : Record). In-pool x (now (c .before .before .before .before .before .args .pool))) (c .before .given .given .1) (c .before .before .before .before .before .pre .lies)
+part-put-data-end c = subst (λ (x : Record). Inside x (length (now (c .before .before .before .before .before .args .pool)))) (c .before .given .given .1) (c .before .before .before .before .before .pre .lies)
 
 put-data-requires : tie.Need-put-data-requires
 put-data-requires c κs =
