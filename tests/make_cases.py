@@ -205,6 +205,17 @@ def text_case(text, answer=None, flags=3, pool=4):
     answers.append("; ".join([*shown, row[-1]]))
 
 
+def first_case(text, answer=None, pool=4):
+    """The first answer of a text alone, with both stops on."""
+    if isinstance(text, str):
+        text = text.encode("latin-1")
+    told, after = TextReader(text, True, True).next(bytes([POOL]) * pool)
+    if answer is not None and told != answer:
+        sys.exit(f"the model answers {told}, not {answer}, first to the text {text!r}")
+    cases.append(f"T 4 {pool:X} {text.hex().upper()}".rstrip())
+    answers.append(f"{told} | {after.hex().upper()}")
+
+
 def spelt(given):
     return " ".join(f"{x:X}" for x in given)
 
@@ -595,6 +606,15 @@ def of_texts():
     heading("texts: more than 40 answers")
     text_case("x\n" * 45, [f"! 1 @{i:X}" for i in range(1, 42)], flags=0)
     text_case(ended(END) * 45, [f"E @{i:X}" for i in range(1, 42)], flags=1)
+    heading("texts: the first answer alone, of a reader that was opened anew")
+    first_case("", "done")
+    first_case("\n\r\n\n", "done")
+    for line, said in zip(BAD, SAID):
+        first_case(ended("", line, END), said)
+    for line, said in zip(kinds.split("\n"), ["D 0005 0 1", "X2 1200", "X3 12345678", "X4 FFFF", "X5 000000CD", "E"]):
+        first_case(ended("", line, END), said)
+    first_case(ended(longest, END), "! 10", pool=254)
+    first_case(ended(longest, END), "D 0000 0 FF", pool=255)
     heading("texts: every text of up to four bytes of LF, CR, the colon and 0, with both stops off")
     for n in range(5):
         for i in range(4**n):

@@ -8,9 +8,9 @@ use Rattle.reader.specs.declared.State.{State}
 use Rattle.reader.specs.declared.Step.{Step}
 use Rattle.reader.specs.declared.Reply.{Reply}
 use Rattle.reader.specs.declared.Reader.{Reader}
-use Rattle.reader.specs.Text.{new-state, default-options, outcome}
+use Rattle.reader.specs.Text.{new-state}
 use Rattle.reader.specs.Calls.{Call, Given, Calls, no-more, one-more}
-use Rattle.reader.specs.Held.{Opened, Asks, asked-out, asked, Held-as-by-value, Held-rows, Held-in-order, First-record-says, Reader-new-unique, Reader-next-unique, First-record-unique}
+use Rattle.reader.specs.Held.{Opened, Asks, asked-out, asked, Held-as-by-value, Held-rows, Held-in-order, Reader-new-unique, Reader-next-unique}
 use Rattle.reader.proofs.Texts.{rows, in-order}
 use Rattle.reader.proofs.Stays.{next-unique}
 
@@ -50,12 +50,6 @@ pub held-in-order : Held-in-order
 held-in-order options text small h o calls givens room asks =
     in-order options (text .now) small calls givens room (by-value _ calls givens (subst (λ (x : Reader). Asks x calls givens) (opened o) asks))
 
-pub first-record-says : First-record-says
-first-record-says text pool at small r pool′ x =
-    let s = outcome (new-state default-options) text pool at .state in
-    let c : Call = record { pool = pool; at = at } in
-    (s .line, sym (rows default-options text small (c ∷ []) _ (one-more {call = c} (step r s) pool′ (record { answer = x .answer; state = refl; left = x .left }) no-more)))
-
 -- ---- one outcome each
 
 pub reader-new-with-options-unique : Reader-new-unique
@@ -69,10 +63,3 @@ reader-next-unique h pool at r₁ r₂ h₁ h₂ p₁ p₂ x y =
     let u = next-unique (h .state) (h .text .now) pool at (step r₁ (h₁ .state)) (step r₂ (h₂ .state)) p₁ p₂
     (record { answer = x .answer; state = x .stands; left = x .left }) (record { answer = y .answer; state = y .stands; left = y .left }) in
     (ap (λ (s : Step). s .reply) (u .0), ap₂ reader (x .holds ∙ sym (y .holds)) (x .stands ∙ sym (y .stands)), u .1)
-
-pub first-record-unique : First-record-unique
-first-record-unique text pool at r₁ r₂ p₁ p₂ x y =
-    let s = outcome (new-state default-options) text pool at .state in
-    let u = next-unique (new-state default-options) text pool at (step r₁ s) (step r₂ s) p₁ p₂
-    (record { answer = x .answer; state = refl; left = x .left }) (record { answer = y .answer; state = refl; left = y .left }) in
-    (ap (λ (s : Step). s .reply) (u .0), u .1)

@@ -15,5 +15,4 @@ pub mod Room
 pub mod Claims
 pub mod Texts
 pub mod Stays
-pub mod Local
 pub mod Held

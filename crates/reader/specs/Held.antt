@@ -34,11 +34,6 @@ pub record Asked (h : Reader) (pool : List ℕ) (at : ℕ) (r : Reply) (h′ : R
   pub holds : h′ .text ≡ h .text
   pub left : pool′ ≡ held h pool at .pool
 
--- of `first_record`
-pub record FirstRecord (text pool : List ℕ) (at : ℕ) (r : Reply) (pool′ : List ℕ) : Type 0 where
-  pub answer : told-reply r ≡ outcome (new-state default-options) text pool at .told
-  pub left : pool′ ≡ outcome (new-state default-options) text pool at .pool
-
 -- ---- rows
 
 -- calls of `Reader::next`, one after the other: all that is known of each is its contract
@@ -66,12 +61,6 @@ Held-in-order =
     → (h : Reader) → Opened text options h → (calls : List Call) (givens : List Given) → Every (λ (g : Given). is-full (g .told) ≡ false) givens
     → Asks h calls givens → givens ≡ one-by-one 0 (row options (text .now)) calls
 
--- `first_record` tells what the first line that has a byte says, or "done"
-abbrev pub First-record-says : Type 0
-First-record-says =
-    (text pool : List ℕ) (at : ℕ) → length text < 2 ^ 64 → (r : Reply) (pool′ : List ℕ) → FirstRecord text pool at r pool′
-    → (line : ℕ) × (replies default-options 0 (sayings 1 (lines text)) (record { pool = pool; at = at } ∷ []) ≡ record { told = told-reply r; pool = pool′; line = line } ∷ [])
-
 -- ---- one outcome each
 
 abbrev pub Reader-new-unique : Type 0
@@ -81,8 +70,3 @@ abbrev pub Reader-next-unique : Type 0
 Reader-next-unique =
     (h : Reader) (pool : List ℕ) (at : ℕ) (r₁ r₂ : Reply) (h₁ h₂ : Reader) (p₁ p₂ : List ℕ)
     → Asked h pool at r₁ h₁ p₁ → Asked h pool at r₂ h₂ p₂ → (r₁ ≡ r₂) × (h₁ ≡ h₂) × (p₁ ≡ p₂)
-
-abbrev pub First-record-unique : Type 0
-First-record-unique =
-    (text pool : List ℕ) (at : ℕ) (r₁ r₂ : Reply) (p₁ p₂ : List ℕ)
-    → FirstRecord text pool at r₁ p₁ → FirstRecord text pool at r₂ p₂ → (r₁ ≡ r₂) × (p₁ ≡ p₂)

@@ -16,7 +16,7 @@ ghost use Rattle.reader.specs.Told.{told};
 ghost use Rattle.reader.specs.Answer.{ReadRecord, Reads, word};
 ghost use Rattle.reader.specs.Lines.{rest};
 ghost use Rattle.reader.specs.Text.{FirstLine, Default, New, Next, Number, default-options, ends-row, at-end};
-ghost use Rattle.reader.specs.Held.{Opened, Asked, FirstRecord};
+ghost use Rattle.reader.specs.Held.{Opened, Asked};
 ghost use Rattle.reader.specs.Helpers.{NoFeed, FirstFeed, LineEnd, Spotted, Settled, IsTable, Lent, Decodable, Decoded, Special, Summed};
 
 // Why a line gives no record, in the crate's order.
@@ -573,10 +573,7 @@ impl<'a> Reader<'a> {
     pub fn new(text: &'a [u8]) -> Reader<'a>
         ensures { λ r. ⌜ Opened (text .entry) default-options r ⌝ }
     {
-        Reader {
-            text,
-            state: State::new(),
-        }
+        Reader::new_with_options(text, ReaderOptions::default())
     }
 
     // At the beginning of the text.
@@ -597,12 +594,4 @@ impl<'a> Reader<'a> {
         self.state = step.state;
         step.reply
     }
-}
-
-// The first answer of a text, with both stops on.
-pub fn first_record(text: &[u8], pool: &mut [u8], at: usize) -> Reply
-    ensures { λ r. ⌜ FirstRecord (now (text .entry)) (now (pool .entry)) at r (now (pool .exit)) ⌝ }
-{
-    let mut reader = Reader::new(text);
-    reader.next(pool, at)
 }

@@ -10,7 +10,9 @@
 //
 // A record is its type, two numbers, and the position and the length of its payload. The first number
 // is the offset of data and the number of types 02 to 05 (of 03: CS, and the second is IP). Bit 0 of
-// the flags is stop_after_first_error, bit 1 stop_after_eof.
+// the flags is stop_after_first_error, bit 1 stop_after_eof. With bit 2 the first answer alone is told,
+// with both stops on. Texts are read by a reader that holds them, and an object is written from a lent
+// list, of at most 64 records.
 //
 // A lent buffer holds one byte in each place before the call: pool EE, output DD, page CC, marks AA.
 // Behind an answer stand ` | ` and the whole buffer; behind one of M the page, and then the marks. A
@@ -27,8 +29,8 @@
 //
 // The answers of T stand in one line with `; ` between them, up to "done" or refusal 10, and at most
 // 40 of them. Behind ` @` stands the number of lines behind which the reader stands then. One more
-// call, with a pool of 4,096 bytes, is told at the end without its pool. Behind a refusal of M stand
-// ` @` and the number of its line.
+// call, with a pool of 4,096 bytes, is told at the end without its pool. A first answer alone has no
+// ` @`. Behind a refusal of M stand ` @` and the number of its line.
 //
 // The number of a refusal is in decimal, and every other number in hexadecimal with capitals. A
 // case that is none of these is answered by `?`. Each case ends in LF, and what a case has beyond
@@ -41,7 +43,6 @@ use reader::ReaderOptions;
 use reader::Reply;
 use reader::State;
 use record::Record;
-use writer::Survey;
 use writer::WriterError;
 use writer::Written;
 ghost use mathlib.Core.Path.{_≡_};
@@ -314,7 +315,7 @@ fn say_line(line: usize) {
 // One more call, with much room.
 fn read_more(text: &[u8], state: State) {
     let mut pool = io::buffer();
-    let step = state.next(text, &mut pool, 0);
+    let step = lent::next_of(text, state, &mut pool, 0);
     let reply = step.reply;
     let behind = step.state;
     say_reply(reply);
@@ -326,7 +327,7 @@ fn read_row(text: &[u8], pool: &mut [u8], start: State) -> State {
     let mut state = start;
     let mut turns: u64 = 40;
     while turns > 0 {
-        let step = state.next(text, pool, 0);
+        let step = lent::next_of(text, state, pool, 0);
         let reply = step.reply;
         let behind = step.state;
         let more = say_reply(reply);
@@ -343,8 +344,20 @@ fn read_row(text: &[u8], pool: &mut [u8], start: State) -> State {
     state
 }
 
+// The first answer of a text.
+fn read_first(text: &[u8], pool: &mut [u8]) {
+    let reply = lent::first_record(text, pool, 0);
+    say_reply(reply);
+    say(b" | ");
+    say_bytes(pool);
+}
+
 fn read_text(text: &[u8], pool: &mut [u8], flags: u64) {
     preset(pool, 0xEE);
+    if flags / 4 % 2 == 1 {
+        read_first(text, pool);
+        return;
+    }
     let state = read_row(text, pool, begin(flags));
     read_more(text, state);
 }
@@ -480,46 +493,23 @@ fn record_case(text: &[u8]) {
     write_into(r, front(&bytes, k), size.value as usize);
 }
 
-// The survey of the records from a place on. A case has no more of them than bytes.
-fn survey_all(text: &[u8], from: usize, pool: &[u8]) -> Survey {
-    let mut s = Survey::new();
-    let mut i = from;
-    let mut turns: u64 = 4096;
-    while turns > 0 {
-        if i >= text.len() {
-            break;
-        }
-        let g = record_at(text, i);
-        let r = g.record;
-        s = s.add(r, pool);
-        i = g.next;
-        turns -= 1;
-    }
-    s
-}
-
-// The records from a place on, a step each, behind what is done.
-fn write_steps(text: &[u8], from: usize, pool: &[u8], begun: Written, out: &mut [u8]) -> Written {
-    let mut done = begun;
-    let mut i = from;
-    let mut turns: u64 = 4096;
-    while turns > 0 {
-        if i >= text.len() {
-            break;
-        }
-        let g = record_at(text, i);
-        let r = g.record;
-        done = writer::write_next(done, r, pool, out);
-        i = g.next;
-        turns -= 1;
-    }
-    done
-}
-
+// The object of the records from a place on, as a lent list. A case has at most 64 of them.
 fn write_object(text: &[u8], from: usize, pool: &[u8], out: &mut [u8]) {
     preset(out, 0xDD);
-    let begun = survey_all(text, from, pool).begin(out.len());
-    let w = write_steps(text, from, pool, begun, out);
+    let mut records = [Record::EndOfFile; 64];
+    let mut n = 0;
+    let mut i = from;
+    while n < 64 {
+        if i >= text.len() {
+            break;
+        }
+        let g = record_at(text, i);
+        let r = g.record;
+        records[n] = r;
+        i = g.next;
+        n += 1;
+    }
+    let w = lent::object_of(records, n, pool, out);
     say_written(w);
     say(b" | ");
     say_bytes(out);

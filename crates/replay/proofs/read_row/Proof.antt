@@ -15,8 +15,8 @@ abbrev μ-loop : tie.MeasureT-loop
 loop-holds : tie.Need-loop-holds Inv-loop μ-loop
 loop-holds c = search needs
 
-next-requires : tie.Need-next-requires Inv-loop μ-loop
-next-requires c κs = search needs
+next-of-requires : tie.Need-next-of-requires Inv-loop μ-loop
+next-of-requires c κs = search needs
 
 say-reply-requires : tie.Need-say-reply-requires Inv-loop μ-loop
 say-reply-requires c κs = search needs
@@ -67,7 +67,7 @@ read-row-spec =
     Inv-loop
     μ-loop
     loop-holds
-    next-requires
+    next-of-requires
     say-reply-requires
     say-line-requires
     slice-aggregate-say

@@ -1,4 +1,4 @@
--- `reader::first_record` meets its contract: a walk of its MIR, by hand. The `Reader` that `new` returns is held in a local, which is lent by `&mut` to `next`, beside the pool. All that the proof knows of `Reader::new` and of `Reader::next` is that each meets its contract.
+-- `lent::first_record` meets its contract: a walk of its MIR, by hand. The `Reader` that `new` returns is held in a local, which is lent by `&mut` to `next`, beside the pool. All that the proof knows of `Reader::new` and of `Reader::next` is that each meets its contract.
 -- The loan is at the meet of 'a and a lifetime that the walk makes, since `next` asks that 'a outlives it (`Local.antt`). The pool goes to `next` at its own lifetime, share and name, and is given up for good (`gave-slice`).
 -- Assumes nothing.
 use mathlib.Core.Path.{_≡_, refl, ap, ap₂, subst}
@@ -44,28 +44,28 @@ use denote.Triple.Table.{entered, cited}
 use denote.Triple.Clauses.{Lasts, ensured, lasts}
 use denote.Triple.Walked.{says, Stays, stay-none-slice, stay-none, gave-slice, walkOf, goes-none-slice, goes-none, goes-gave-slice, Walks, ends-at, walked, walk-meets}
 use denote.Exit.{yes}
 use Rattle.reader.specs.Text.{new-state, default-options}
 use Rattle.reader.specs.Held.{Opened, Asked}
 use Rattle.reader.specs.declared.Reader.{Reader}
 use Rattle.reader.specs.declared.State.{State}
 use Rattle.reader.specs.declared.Reply.{Reply}
-use Rattle.reader.proofs.Local.{Back, below, local-in, local-out, ends, lends-local, local-back}
+use Rattle.lent.proofs.Local.{Back, below, local-in, local-out, ends, lends-local, local-back}
 use Rattle.reader.proofs.Reply as Rp
 use Rattle.reader.proofs.Reply.Laws as Rp′
 use Rattle.reader.proofs.Reader as T
 use Rattle.reader.proofs.Reader.Laws as T′
 use Rattle.reader.proofs.Reader.new as new
 use Rattle.reader.proofs.Reader.new.Symbol as new-def
 use Rattle.reader.proofs.Reader.new.Symbol.{name as #reader·Reader·new}
 use Rattle.reader.proofs.Reader.new.Met as new-thm
 use Rattle.reader.proofs.Reader.next as next
 use Rattle.reader.proofs.Reader.next.Symbol as next-def
 use Rattle.reader.proofs.Reader.next.Symbol.{name as #reader·Reader·next}
 use Rattle.reader.proofs.Reader.next.Met as next-thm
-use Rattle.reader.proofs.first_record.Key.{name as #reader·first-record}
-use Rattle.reader.proofs.first_record as first
-use Rattle.reader.proofs.first_record.Statement as stated
-use Rattle.reader.proofs.first_record.Code as code
+use Rattle.lent.proofs.first_record.Key.{name as #lent·first-record}
+use Rattle.lent.proofs.first_record as first
+use Rattle.lent.proofs.first_record.Statement as stated
+use Rattle.lent.proofs.first_record.Code as code
 
 -- a reader of its parts
 abbrev reader-of : RefT (List ℕ) → State → Reader
@@ -231,7 +231,7 @@ pub first-record-spec : {M : Type 1} → stated.statement M
 unfolding code.routine tablesOf
 first-record-spec 𝓤 H 𝓜 𝓖 𝓡 =
     entered 𝓤 H (tripleOf 𝓤 H (𝓖 .A) first.signature (first.spec 𝓤 H (𝓖 .A) (𝓜 .mem) (𝓡 .run)))
-    (tables 𝓤 H 𝓜 𝓡 code.env .C) (tables 𝓤 H 𝓜 𝓡 code.env .Λ) #reader·first-record code.function (code.unfolded 𝓤 H 𝓜 𝓡)
+    (tables 𝓤 H 𝓜 𝓡 code.env .C) (tables 𝓤 H 𝓜 𝓡 code.env .Λ) #lent·first-record code.function (code.unfolded 𝓤 H 𝓜 𝓡)
     (first-meets 𝓤 H (𝓖 .A) (givenOf 𝓤 H 𝓜 𝓖) (𝓜 .mem) (𝓡 .run) (tablesOf 𝓤 H 𝓜 (tables 𝓤 H 𝓜 𝓡 code.env))
     (cited 𝓤 H (New 𝓤 H (𝓖 .A) (𝓜 .mem) (𝓡 .run)) 𝓜 𝓡 code.env #reader·Reader·new new-def.routine code.calls-reader·Reader·new (new-thm.met 𝓤 H 𝓜 𝓖 𝓡))
     (cited 𝓤 H (Next 𝓤 H (𝓖 .A) (𝓜 .mem) (𝓡 .run)) 𝓜 𝓡 code.env #reader·Reader·next next-def.routine code.calls-reader·Reader·next (next-thm.met 𝓤 H 𝓜 𝓖 𝓡)))

@@ -1,0 +1,4 @@
+pub mod Local
+pub mod Lies
+pub mod Front
+pub mod Claims

@@ -1,0 +1,49 @@
+-- `lent::object_of` meets its contract: an array has 64 records, so its first 64 are the first n where n is more.
+-- Assumes nothing.
+use Prim.Native.Nat.{_≤_}
+use mathlib.Core.Path.{sym, _∙_, subst}
+use mathlib.Core.List.{List}
+use native.Mathlib.Omega.{arith}
+use lib.ListN.{length}
+use lib.Seq.{take-all}
+use denote.Ref.{now}
+use borrow.Author.Needs.{needs}
+use Rattle.record.specs.declared.Record.{Record}
+use Rattle.writer.specs.Object.{WriteObject}
+use Rattle.lent.proofs.object_of.Statement.{statement}
+use Rattle.lent.proofs.object_of.Tie as tie
+
+write-front-requires : tie.Need-write-front-requires
+write-front-requires c κs = search needs
+
+same-length : tie.Need-same-length
+same-length c = search needs
+
+returns : tie.Need-returns
+returns c =
+    let s = c .before .before .before .before .before .before .before in
+    let all = s .args .records in
+    let few : length all ≤ 64 = omega (arith, s .good .0) in
+    let w = c .before .before .write-front in
+    subst (λ (rs : List Record). WriteObject rs (now (s .args .pool)) (now (s .args .out)) (w .result) (w .last .1 .1 .1 .0))
+    (take-all 64 all few ∙ sym (take-all (s .args .n) all (omega (arith, c .before .before .before .before .if1 .taken)))) (w .ensures)
+
+write-front-requires-2 : tie.Need-write-front-requires-2
+write-front-requires-2 c κs = search needs
+
+same-length-2 : tie.Need-same-length-2
+same-length-2 c = search needs
+
+returns-2 : tie.Need-returns-2
+returns-2 c = search needs
+
+pub object-of-spec : {M : Type 1} → statement M
+object-of-spec =
+    tie.close
+    (tie.spec
+    write-front-requires
+    same-length
+    returns
+    write-front-requires-2
+    same-length-2
+    returns-2)
