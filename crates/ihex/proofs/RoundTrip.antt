@@ -32,7 +32,7 @@ use Rattle.reader.proofs.Gather.{and-true}
 use Rattle.reader.proofs.Cutting.{lines-closed, closed}
 use Rattle.reader.proofs.Texts.{lines-join, in-order}
 use Rattle.writer.specs.Text.{chars}
-use Rattle.writer.specs.Line.{fault, line, ended-line}
+use Rattle.writer.specs.Line.{line-refusal, line, ended-line}
 use Rattle.writer.specs.Object as object
 use Rattle.writer.specs.Claims.{In-range, Whole}
 use Rattle.writer.proofs.Objects.{one-at-least, object-whole}
@@ -65,11 +65,11 @@ one-line l h =
     not-nil (c ∷ l) e = nil≢cons (sym e)
 
 -- the lines of an object's text
-lines-of : (rs : List Record) (pool : List ℕ) → lines (object.lines rs pool) ≡ map (λ r. line r pool) rs
-unfolding lines object.lines
+lines-of : (rs : List Record) (pool : List ℕ) → lines (object.joined-lines rs pool) ≡ map (λ r. line r pool) rs
+unfolding lines object.joined-lines
 lines-of [] pool = refl
 lines-of (r ∷ rs) pool =
-    lines-closed (closed (line r pool)) (object.lines rs pool)
+    lines-closed (closed (line r pool)) (object.joined-lines rs pool)
     ∙ ap₂ (λ (xs ys : List (List ℕ)). xs ++ ys) (one-line (line r pool) (line-plain r pool)) (lines-of rs pool)
 
 -- ---- each line says its record
@@ -119,7 +119,7 @@ all-read n (r ∷ q ∷ rs) pool (h, hs) e o =
 
 -- ---- the row, and the calls
 
-every-sayable : (rs : List Record) (pool : List ℕ) → Every In-range rs → Every Byte pool → Every (λ r. fault r (length pool) ≡ none) rs → Every (λ r. Sayable (meant r pool)) rs
+every-sayable : (rs : List Record) (pool : List ℕ) → Every In-range rs → Every Byte pool → Every (λ r. line-refusal r (length pool) ≡ none) rs → Every (λ r. Sayable (meant r pool)) rs
 every-sayable [] pool i b f = tt
 every-sayable (r ∷ rs) pool (i, is) b (f, fs) = (sayable r pool i b f, every-sayable rs pool is b fs)
 

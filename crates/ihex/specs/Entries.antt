@@ -11,7 +11,7 @@ use Rattle.reader.specs.declared.State.{State}
 use Rattle.reader.specs.Answer.{answered, poured}
 use Rattle.reader.specs.Text.{outcome}
 use Rattle.writer.specs.Told.{Told as Told-written}
-use Rattle.writer.specs.Text.{Text, behind, within, placed}
+use Rattle.writer.specs.Text.{Text, place-behind, if-room, put-at}
 use Rattle.writer.specs.Line.{line-text}
 use Rattle.writer.specs.Object.{object}
 use Rattle.loader.specs.Load.{load}
@@ -32,12 +32,12 @@ pub record IhexNext (s : State) (text pool : List ℕ) (at r position line flags
 -- what is answered for a text that is to be written from the output's start on; there is none where what was given is no record
 abbrev pub told-of : Option Text → (room : ℕ) → Option Told-written
 told-of none room = none
-told-of (some t) room = some (within (behind t 0) room)
+told-of (some t) room = some (if-room (place-behind t 0) room)
 
 -- the output with that text, if it has the room
 abbrev pub output-with : Option Text → (out : List ℕ) → List ℕ
 output-with none out = out
-output-with (some t) out = placed t out 0
+output-with (some t) out = put-at t out 0
 
 -- a text, if there is one, was written: an answer in two numbers, and the output
 pub record Wrote-text (t : Option Text) (out : List ℕ) (r v : ℕ) (out′ : List ℕ) : Type 0 where

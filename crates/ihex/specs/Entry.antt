@@ -59,6 +59,6 @@ unfolding first-records
 records-of bytes = if eqb (length bytes % 24) 0 then first-records bytes (length bytes / 24) else none
 
 -- what the code makes of an entry
-abbrev pub given : Entry → Option Record
-given (Is r) = some r
-given Bad = none
+abbrev pub entry-of : Entry → Option Record
+entry-of (Is r) = some r
+entry-of Bad = none

@@ -20,13 +20,13 @@ pub record Good (bytes : List ℕ) (at : ℕ) : Type 0 where
   pub read : record-at bytes at ≡ some is
 
 -- bytes that are a list of records
-pub record Listed (bytes : List ℕ) : Type 0 where
+pub record Is-list (bytes : List ℕ) : Type 0 where
   pub records : List Record
   pub read : records-of bytes ≡ some records
 
 -- a survey of the bytes' records
 pub record Surveyed-whole (bytes pool : List ℕ) (s : Survey) : Type 0 where
-  pub listed : Listed bytes
+  pub listed : Is-list bytes
   pub surveys : Surveys pool (listed .records) s
 
 abbrev pub Surveyed-as : (bytes pool : List ℕ) → Surveyed → Type 0

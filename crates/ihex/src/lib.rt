@@ -21,8 +21,8 @@ ghost use Rattle.reader.specs.Text.{told-reply};
 ghost use Rattle.writer.specs.Told.{told as told-written, refusal-of as writer-refusal};
 ghost use Rattle.loader.specs.Told.{told as told-loading, refusal-by};
 ghost use Rattle.ihex.specs.Codes.{Coded-as, Flag, refused-with, reading, writing, loading, line-at, state-of, flags-of};
-ghost use Rattle.ihex.specs.Entry.{two-at, four-at, eight-at, record-of, record-at, given};
-ghost use Rattle.ihex.specs.Helpers.{Listed, Good, Surveyed-as, Stepped};
+ghost use Rattle.ihex.specs.Entry.{two-at, four-at, eight-at, record-of, record-at, entry-of};
+ghost use Rattle.ihex.specs.Helpers.{Is-list, Good, Surveyed-as, Stepped};
 ghost use Rattle.ihex.specs.Entries.{IhexReadRecord, IhexNext, IhexToRecordString, IhexCreateObjectFileRepresentation, IhexLoad};
 
 // What is given in numbers is no record.
@@ -212,7 +212,7 @@ enum Entry {
 
 // The record of a type and its numbers.
 fn record_from(kind: u8, number: u32, second: u16, at: usize, len: usize) -> Entry
-    ensures { λ r. ⌜ given r ≡ record-of kind number second at len ⌝ }
+    ensures { λ r. ⌜ entry-of r ≡ record-of kind number second at len ⌝ }
 {
     if kind == types::END_OF_FILE {
         return Entry::Is(Record::EndOfFile);
@@ -311,7 +311,7 @@ fn eight_at(list: &[u8], p: usize) -> usize
 // The record of the list's 24 bytes from a place on.
 fn entry_at(list: &[u8], p: usize) -> Entry
     requires { ⌜ p + 24 ≤ length (now list) ⌝ }
-    ensures { λ r. ⌜ given r ≡ record-at (now (list .entry)) p ⌝ }
+    ensures { λ r. ⌜ entry-of r ≡ record-at (now (list .entry)) p ⌝ }
 {
     let second = two_at(list, p + 2);
     let number = four_at(list, p + 4);
@@ -358,7 +358,7 @@ fn survey_list(list: &[u8], pool: &[u8]) -> Surveyed
 
 // Each record of a list, from a start on.
 fn write_list(list: &[u8], pool: &[u8], out: &mut [u8], start: Written) -> Written
-    requires { ⌜ Listed (now list) ⌝ }
+    requires { ⌜ Is-list (now list) ⌝ }
     ensures { λ r. ⌜ Stepped (now (list .entry)) (now (pool .entry)) (now (out .entry)) start r (now (out .exit)) ⌝ }
 {
     let mut done = start;
@@ -417,7 +417,7 @@ fn code_loading(answer: Loading) -> Coded
 }
 
 // The number of the line that a refusal names.
-fn line_of(answer: Loading) -> usize
+fn line_at(answer: Loading) -> usize
     ensures { λ r. ⌜ r ≡ line-at (told-loading answer) ⌝ }
 {
     match answer {
@@ -441,7 +441,7 @@ pub extern "C" fn ihex_load(
 {
     let answer = loader::load(text, first, page, marks);
     let told = code_loading(answer);
-    *line = line_of(answer);
+    *line = line_at(answer);
     *a = told.a;
     *b = told.b;
     told.code

@@ -14,7 +14,7 @@ use Rattle.reader.specs.declared.ReaderOptions.{ReaderOptions}
 use Rattle.reader.specs.Lines.{rest, lines, Ended, with-CRLF, with-LF, with-text, Cut, Joins, nothing, more}
 use Rattle.reader.specs.Row.{Numbered, on, sayings, stops, through-stop, row}
 use Rattle.reader.proofs.Texts.{lines-join, sayings-few}
-use Rattle.listing.specs.Listing.{entry, ended, entries, options, answers}
+use Rattle.listing.specs.Listing.{entry, ended, entries, listing-options, answers}
 use Rattle.listing.proofs.Entry.{entry-most}
 
 -- ---- the lines, one behind the other
@@ -82,8 +82,8 @@ stop-most o (on n said ∷ r) =
 
 pub answers-most : (input : List ℕ) → length (answers input) ≤ length input
 unfolding row
-answers-most input = omega (arith, stop-most options (sayings 1 (lines input)) .0, sayings-few 1 (lines input), lines-most (joins input))
+answers-most input = omega (arith, stop-most listing-options (sayings 1 (lines input)) .0, sayings-few 1 (lines input), lines-most (joins input))
 
 pub answers-room : (input : List ℕ) → length (entries (answers input)) ≤ 2 * length input + 2
 unfolding row
-answers-room input = omega (arith, stop-most options (sayings 1 (lines input)) .1, entries-most 1 (joins input))
+answers-room input = omega (arith, stop-most listing-options (sayings 1 (lines input)) .1, entries-most 1 (joins input))

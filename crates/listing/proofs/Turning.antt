@@ -32,7 +32,7 @@ use Rattle.reader.proofs.Claims.{told-apart}
 use Rattle.reader.specs.Along.{unread, Countable}
 use Rattle.reader.proofs.Along.{heard, ended as finished, unread-judged}
 use Rattle.reader.proofs.Stays.{never-done}
-use Rattle.listing.specs.Listing.{record-entry, refusal-entry, entry, ended, entries, options, answers}
+use Rattle.listing.specs.Listing.{record-entry, refusal-entry, entry, ended, entries, listing-options, answers}
 use Rattle.listing.specs.Helpers.{Puts, is-done, shown, Lies, Fits-in, EntriesPut}
 use Rattle.listing.proofs.Putting.{put-none, put-then, put-as}
 use Rattle.listing.proofs.Entry.{not-full}
@@ -43,7 +43,7 @@ use Rattle.reader.proofs.Texts.{lines-few}
 -- a reply that tells what is said, with the pool behind it: never PoolFull, shown as what is said, and as much the last
 pub record Spoken (said : Said) (n : ℕ) (reply : Reply) (pool′ : List ℕ) : Type 0 where
   pub taken : is-full (answered said n 0) ≡ false
-  pub last : ends-row options (answered said n 0) ≡ stops options said
+  pub last : ends-row listing-options (answered said n 0) ≡ stops listing-options said
   pub shows : shown reply pool′ ≡ ended (entry said)
   pub lies : Lies reply pool′
 
@@ -74,7 +74,7 @@ module _ (pool : List ℕ) (size : 255 ≤ length pool) (reply : Reply) (pool′
   -- a record, by what it means
   pub record Meant (m : Meaning) : Type 0 where
     pub taken : is-full (given m (length pool) 0) ≡ false
-    pub last : ends-row options (given m (length pool) 0) ≡ is-end m && true
+    pub last : ends-row listing-options (given m (length pool) 0) ≡ is-end m && true
     pub shows : shown reply pool′ ≡ ended (record-entry m)
     pub lies : Lies reply pool′
 
@@ -118,7 +118,7 @@ module _ (pool : List ℕ) (size : 255 ≤ length pool) (reply : Reply) (pool′
 
 -- what is left to be listed
 abbrev pub left : State → (input : List ℕ) → List Numbered
-left s input = through-stop options (unread s input)
+left s input = through-stop listing-options (unread s input)
 
 -- a call that answered: one saying is shown, and the rest is left
 pub record Shown (input : List ℕ) (s : State) (reply : Reply) (s′ : State) (pool′ : List ℕ) : Type 0 where
@@ -127,10 +127,10 @@ pub record Shown (input : List ℕ) (s : State) (reply : Reply) (s′ : State) (
   pub listed : left s input ≡ on n said ∷ left s′ input
   pub shows : shown reply pool′ ≡ ended (entry said)
   pub lies : Lies reply pool′
-  pub same-options : s′ .options ≡ options
+  pub same-options : s′ .options ≡ listing-options
   pub countable : Countable s′ input
 
-module _ (input : List ℕ) (s : State) (pool : List ℕ) (size : 255 ≤ length pool) (opts : s .options ≡ options) (small : Countable s input)
+module _ (input : List ℕ) (s : State) (pool : List ℕ) (size : 255 ≤ length pool) (opts : s .options ≡ listing-options) (small : Countable s input)
     (step : Step) (pool′ : List ℕ) (met : Meets (outcome s input pool 0) step pool′) where
   heard-said : (n : ℕ) (said : Said) (more : List Numbered) → unread s input ≡ on n said ∷ more → Shown input s (step .reply) (step .state) pool′
   unfolding through-stop
@@ -138,21 +138,21 @@ module _ (input : List ℕ) (s : State) (pool : List ℕ) (size : 255 ≤ length
       let h = heard s input pool 0 small n said more u in
       let j = unread-judged s input n said more u in
       let p = spoken pool size (step .reply) pool′ (j .0) said (j .1) (met .answer ∙ h .tells) (met .left ∙ h .poured-in) in
-      let rest : unread (step .state) input ≡ (if stops options said then [] else more) =
+      let rest : unread (step .state) input ≡ (if stops listing-options said then [] else more) =
       ap (λ (x : State). unread x input) (met .state) ∙ h .left (p .taken)
       ∙ ap (λ (o : _). if ends-row o (answered said (length pool) 0) then [] else more) opts
       ∙ ap (λ (b : Bool). if b then [] else more) (p .last) in
       record {
         said = said;
         n = n;
-        listed = ap (through-stop options) u ∙ ap (λ (l : List Numbered). on n said ∷ l) (stop-inside (stops options said) more ∙ sym (ap (through-stop options) rest));
+        listed = ap (through-stop listing-options) u ∙ ap (λ (l : List Numbered). on n said ∷ l) (stop-inside (stops listing-options said) more ∙ sym (ap (through-stop listing-options) rest));
         shows = p .shows;
         lies = p .lies;
         same-options = ap (λ (x : State). x .options) (met .state) ∙ h .options ∙ opts;
         countable = subst (λ (x : State). Countable x input) (sym (met .state)) (h .countable);
       }
     where
-      stop-inside : (b : Bool) (more : List Numbered) → (if b then [] else through-stop options more) ≡ through-stop options (if b then [] else more)
+      stop-inside : (b : Bool) (more : List Numbered) → (if b then [] else through-stop listing-options more) ≡ through-stop listing-options (if b then [] else more)
       stop-inside true more = refl
       stop-inside false more = refl
 
@@ -178,7 +178,7 @@ module _ (input : List ℕ) (s : State) (pool : List ℕ) (size : 255 ≤ length
       is-told Done d = refl
 
       go : (u : List Numbered) → unread s input ≡ u → left s input ≡ []
-      go [] u = ap (through-stop options) u
+      go [] u = ap (through-stop listing-options) u
       go (on n said ∷ more) u =
           absurd (never-done said (length pool) 0 (sym (heard s input pool 0 small n said more u .tells) ∙ sym (met .answer) ∙ is-told (step .reply) d))
 
@@ -190,12 +190,12 @@ pub record Turn (input out₀ : List ℕ) (at : ℕ) (out pool : List ℕ) (s : 
   pub puts : Puts out₀ at written place out
   pub whole : written ++ entries (left s input) ≡ entries (answers input)
   pub counted : count + length (left s input) ≡ length (answers input)
-  pub same-options : s .options ≡ options
+  pub same-options : s .options ≡ listing-options
   pub countable : Countable s input
   pub kept-length : length out ≡ length out₀
   pub pool-size : length pool ≡ 256
 
-pub turn-first : (input out : List ℕ) (at : ℕ) (pool : List ℕ) (s : State) → s ≡ new-state options → length pool ≡ 256 → length input < 2 ^ 64 → Turn input out at out pool s at 0
+pub turn-first : (input out : List ℕ) (at : ℕ) (pool : List ℕ) (s : State) → s ≡ new-state listing-options → length pool ≡ 256 → length input < 2 ^ 64 → Turn input out at out pool s at 0
 unfolding unread row entries
 turn-first input out at pool s e p h =
     rw e

@@ -65,11 +65,11 @@ entries [] = []
 entries (on n said ∷ answers) = ended (entry said) ++ entries answers
 
 -- a refused line stops the reader no more than a record; an end record does
-abbrev pub options : ReaderOptions
-options = record { «stop_after_first_error» = false; «stop_after_eof» = true }
+abbrev pub listing-options : ReaderOptions
+listing-options = record { «stop_after_first_error» = false; «stop_after_eof» = true }
 
 abbrev pub answers : (input : List ℕ) → List Numbered
-answers input = row options input
+answers input = row listing-options input
 
 unfoldable pub listing : (input : List ℕ) → List ℕ
 unfolding entries decimal row

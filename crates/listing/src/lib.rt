@@ -29,7 +29,7 @@ struct Entries {
 }
 
 // The capital digit of a value.
-fn digit(x: u8) -> u8
+fn capital_digit(x: u8) -> u8
     requires { ⌜ x < 16 ⌝ }
     ensures { λ r. ⌜ r ≡ capital-digit x ⌝ }
 {
@@ -53,8 +53,8 @@ fn put_byte(b: u8, out: &mut [u8], at: usize) -> usize
     requires { ⌜ at + 2 ≤ length (now out) ⌝ }
     ensures { λ r. ⌜ Puts (now (out .entry)) at (spelt (b ∷ [])) r (now (out .exit)) ⌝ }
 {
-    let low = put_char(digit(b / 16), out, at);
-    put_char(digit(b % 16), out, low)
+    let low = put_char(capital_digit(b / 16), out, at);
+    put_char(capital_digit(b % 16), out, low)
 }
 
 // Two bytes, high byte first.
@@ -99,10 +99,10 @@ fn put_decimal(n: usize, out: &mut [u8], at: usize) -> usize
     ensures { λ r. ⌜ Puts (now (out .entry)) at (decimal n) r (now (out .exit)) ⌝ }
 {
     if n < 10 {
-        return put_char(digit(n as u8), out, at);
+        return put_char(capital_digit(n as u8), out, at);
     }
     let last = put_decimal(n / 10, out, at);
-    put_char(digit((n % 10) as u8), out, last)
+    put_char(capital_digit((n % 10) as u8), out, last)
 }
 
 // A data record: no space behind its address where it has no payload.

@@ -28,7 +28,7 @@ use Rattle.loader.specs.declared.LoaderError.{LoaderError}
 use Rattle.loader.specs.declared.LoaderError.the-variants.{Line, MissingEndOfFileRecord, BadWindow, OutsideWindow}
 use Rattle.loader.specs.declared.Loading.{Loading}
 use Rattle.loader.specs.declared.Loading.the-variants.{Accepted, Refused}
-use Rattle.loader.specs.Load.{no-records, Verdict, accepted, refused, Decision, by, within, decision, verdict, unfit, placements, steps-of, outcome, load}
+use Rattle.loader.specs.Load.{no-records, Verdict, accepted, refused, Decision, by, within, decision, verdict, unfit, placements, steps-of, stopping, load}
 use Rattle.loader.specs.Told.{refusal-by, told}
 use Rattle.loader.specs.Claims.{Window, in-force, data-records, Stops, the-end, no-record, first-outside, Why, bad-one, no-end, at-line, Reasons, Among, Total, Told-apart, Load-unique, Examples}
 use Rattle.loader.proofs.Demand3.{good-window, load-answer}
@@ -46,7 +46,7 @@ no-window first page marks e w =
     true≢false (sym e ∙ rw (eq-eqb (length page) (length marks) (w .even), le-ltb 65536 (length page) (w .small), le-ltb (2 ^ 32) (first + length page) (w .below)))
 
 pub reasons : Reasons
-unfolding outcome placements row in-force data-records verdict
+unfolding stopping placements row in-force data-records verdict
 reasons text first page marks =
     rw (load-answer text first page marks) (go (unfit first (length page) (length marks)) refl)
   where

@@ -15,7 +15,7 @@ use Rattle.record.specs.Refusals.{bad-window}
 use Rattle.reader.specs.Lines.{lines, through}
 use Rattle.reader.specs.Row.{row}
 use Rattle.loader.specs.Placing.{Placement, from-start}
-use Rattle.loader.specs.Load.{Tally, no-records, Verdict, accepted, refused, Decision, by, verdict, within, decision, unfit, last-at, mark, painted, marked, store, steps-of, placements, outcome, load}
+use Rattle.loader.specs.Load.{Tally, no-records, Verdict, accepted, refused, Decision, by, verdict, within, decision, unfit, last-at, mark, painted, marked, store, steps-of, placements, stopping, load}
 use Rattle.loader.specs.Claims.{Window, Alike, Place, Non-interference, What-is-stored, Place-unique, Refusal-changes-nothing, Sizes-kept}
 use Rattle.record.proofs.Tests.{or-false}
 use Rattle.reader.proofs.Cutting.{Closed, Head, lines-closed, through-head}
@@ -80,15 +80,15 @@ behind head tail₁ tail₂ c inside n h =
 
 -- of page and marks the outcome sees the lengths alone
 pub sizes : (text : List ℕ) (first : ℕ) (page₁ marks₁ page₂ marks₂ : List ℕ) → length page₁ ≡ length page₂ → length marks₁ ≡ length marks₂
-    → outcome text first page₁ marks₁ ≡ outcome text first page₂ marks₂
-unfolding outcome
+    → stopping text first page₁ marks₁ ≡ stopping text first page₂ marks₂
+unfolding stopping
 sizes text first page₁ marks₁ page₂ marks₂ lp lm = rw (lp, lm)
 
 same-outcome : (text₁ text₂ head : List ℕ) (first : ℕ) (page marks : List ℕ) (n : ℕ) (v : Verdict)
-    → through n text₁ ≡ some head → through n text₂ ≡ some head → outcome text₁ first page marks ≡ some (by n v)
-    → (outcome text₂ first page marks ≡ some (by n v))
+    → through n text₁ ≡ some head → through n text₂ ≡ some head → stopping text₁ first page marks ≡ some (by n v)
+    → (stopping text₂ first page marks ≡ some (by n v))
     × ((k : Tally) → v ≡ accepted k → (placements text₁ ≡ placements text₂) × (length page ≡ length marks))
-unfolding outcome
+unfolding stopping
 same-outcome text₁ text₂ head first page marks n v t₁ t₂ = go (unfit first (length page) (length marks)) refl
   where
     h₁ : Head n text₁ head
@@ -111,7 +111,7 @@ unfolding load
 non-interference text₁ text₂ first page₁ marks₁ page₂ marks₂ lp lm n v e head t₁ t₂ =
     let (o, s) = same-outcome text₁ text₂ head first page₁ marks₁ n v t₁ t₂ e in
     alike first (placements text₁) (placements text₂) page₁ marks₁ page₂ marks₂
-    (verdict (outcome text₁ first page₁ marks₁)) (verdict (outcome text₂ first page₂ marks₂)) lp lm
+    (verdict (stopping text₁ first page₁ marks₁)) (verdict (stopping text₂ first page₂ marks₂)) lp lm
     (ap verdict (e ∙ sym o ∙ sizes text₂ first page₁ marks₁ page₂ marks₂ lp lm))
     (λ k h. s k (sym (ap verdict e) ∙ h))
 
@@ -123,9 +123,9 @@ stored-answer first ps page marks (accepted k) = refl
 stored-answer first ps page marks (refused r n) = refl
 
 pub load-answer : (text : List ℕ) (first : ℕ) (page marks : List ℕ)
-    → (load text first page marks) .answer ≡ verdict (outcome text first page marks)
+    → (load text first page marks) .answer ≡ verdict (stopping text first page marks)
 unfolding load
-load-answer text first page marks = stored-answer first (placements text) page marks (verdict (outcome text first page marks))
+load-answer text first page marks = stored-answer first (placements text) page marks (verdict (stopping text first page marks))
 
 pub accepted-window : (b : Bool) (d : Option Decision) (k : Tally) → verdict (if b then some (by 0 (refused bad-window 0)) else d) ≡ accepted k → b ≡ false
 unfolding verdict
@@ -151,7 +151,7 @@ place ps a old (some b) f =
     }
 
 -- what an accepted load leaves
-pub accepted-load : (text : List ℕ) (first : ℕ) (page marks : List ℕ) (k : Tally) → verdict (outcome text first page marks) ≡ accepted k
+pub accepted-load : (text : List ℕ) (first : ℕ) (page marks : List ℕ) (k : Tally) → verdict (stopping text first page marks) ≡ accepted k
     → load text first page marks
     ≡ record { answer = accepted k; page = painted first (placements text) page; marks = marked first (placements text) marks }
 unfolding load
@@ -161,7 +161,7 @@ pub what-is-stored : What-is-stored
 unfolding load
 what-is-stored text first page marks k e i h =
     let ps = placements text in
-    let v : verdict (outcome text first page marks) ≡ accepted k = sym (load-answer text first page marks) ∙ e in
+    let v : verdict (stopping text first page marks) ≡ accepted k = sym (load-answer text first page marks) ∙ e in
     let w = good-window first page marks (accepted-window (unfit first (length page) (length marks)) _ k v) in
     rw v (rw (marked-at first ps marks i (omega arith), painted-at first ps page i h) (place ps (first + i) (getD page i 0) (last-at (first + i) ps) (found (first + i) ps)))
 
@@ -174,7 +174,7 @@ place-unique ps a old m m′ b b′ x y =
 pub refusal-changes-nothing : Refusal-changes-nothing
 unfolding load
 refusal-changes-nothing text first page marks r n e =
-    let v : verdict (outcome text first page marks) ≡ refused r n = sym (load-answer text first page marks) ∙ e in
+    let v : verdict (stopping text first page marks) ≡ refused r n = sym (load-answer text first page marks) ∙ e in
     rw v (refl, refl)
 
 stored-sizes : (first : ℕ) (ps : List Placement) (page marks : List ℕ) (v : Verdict)
@@ -185,4 +185,4 @@ stored-sizes first ps page marks (refused r n) = (refl, refl)
 
 pub sizes-kept : Sizes-kept
 unfolding load
-sizes-kept text first page marks = stored-sizes first (placements text) page marks (verdict (outcome text first page marks))
+sizes-kept text first page marks = stored-sizes first (placements text) page marks (verdict (stopping text first page marks))

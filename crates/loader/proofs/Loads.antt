@@ -18,7 +18,7 @@ use Rattle.loader.specs.declared.Turn.{Turn}
 use Rattle.loader.specs.declared.Turn.the-variants.{On, Stop}
 use Rattle.loader.specs.declared.Walk.{Walk}
 use Rattle.loader.specs.Placing.{steps, stated}
-use Rattle.loader.specs.Load.{Tally, no-records, accepted, refused, Decision, by, within, decision, verdict, unfit, painted, Loaded, placements, steps-of, outcome, load}
+use Rattle.loader.specs.Load.{Tally, no-records, accepted, refused, Decision, by, within, decision, verdict, unfit, painted, Loaded, placements, steps-of, stopping, load}
 use Rattle.loader.specs.Told.{refusal-by, told, Load}
 use Rattle.loader.specs.Helpers.{as-mark, Painted, tally-of, ahead-of, Under-way, Few, Onward, Judged, Accepts, Ready, Wrote}
 use Rattle.loader.proofs.Pages.{painted-none, marked-painted}
@@ -119,20 +119,20 @@ by-line none t e = (0, cc)
 by-line (some (by m v)) t e = (m, cc)
 
 module _ (text : List ℕ) (first : ℕ) (page marks : List ℕ) where
-  refused-load : (r : Refusal) (n : ℕ) → verdict (outcome text first page marks) ≡ refused r n
+  refused-load : (r : Refusal) (n : ℕ) → verdict (stopping text first page marks) ≡ refused r n
       → load text first page marks ≡ record { answer = refused r n; page = page; marks = marks }
   unfolding load
   refused-load r n e = rw e
 
   pub load-unfit : unfit first (length page) (length marks) ≡ true → Load text first page marks (Refused BadWindow 0) page marks
-  unfolding outcome verdict
+  unfolding stopping verdict
   load-unfit e =
       let l = refused-load bad-window 0 (ap verdict (if-true (unfit first (length page) (length marks)) _ _ e)) in
       record { answer = ap (λ (x : Loaded). x .answer) (sym l); page = ap (λ (x : Loaded). x .page) (sym l); marks = ap (λ (x : Loaded). x .marks) (sym l) }
 
   module _ (fit : unfit first (length page) (length marks) ≡ false) (a : Loading) (h : told a ≡ verdict (decision (within first (length page)) no-records (steps-of text))) where
-    judged-so : verdict (outcome text first page marks) ≡ told a
-    unfolding outcome
+    judged-so : verdict (stopping text first page marks) ≡ told a
+    unfolding stopping
     judged-so = ap verdict (if-false (unfit first (length page) (length marks)) _ _ fit) ∙ sym h
 
     pub load-refused : (e : LoaderError) (n : ℕ) → a ≡ Refused e n → Load text first page marks a page marks

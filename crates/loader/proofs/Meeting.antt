@@ -17,7 +17,7 @@ use Rattle.loader.specs.declared.Base.the-variants.{Segment, Linear}
 use Rattle.loader.specs.declared.Reach.{Reach}
 use Rattle.loader.specs.declared.Reach.the-variants.{Inside, Outside}
 use Rattle.loader.specs.declared.Walk.{Walk}
-use Rattle.loader.specs.Placing.{Base, base-behind, placed, Step, step-at}
+use Rattle.loader.specs.Placing.{Base, base-behind, placed, Action, step-at}
 use Rattle.loader.specs.Load.{accepted, refused, outside, decision, verdict}
 use Rattle.loader.specs.Helpers.{based, reached, Painted, Fitting, stated-by, Behind, tally-of, Passed}
 use Rattle.loader.proofs.Pages.{painted-none}
@@ -84,14 +84,14 @@ module _ (inside : ℕ → Bool) (w : Walk) (records : ℕ) (x : Record) (pool :
 
   pub met-outside : (offset at len : ℕ) → x ≡ Data offset at len → (r : Reach)
       → reached r ≡ outside inside (placed (based (w .base)) offset 0 (take (at + len - at) (drop at pool))) → (address : ℕ) → r ≡ Outside address
-      → (rest : List Step) → refused (outside-window address) (w .state .line) ≡ verdict (decision inside (tally-of records) (step-at (w .state .line) (based (w .base)) (meant x pool) ++ rest))
+      → (rest : List Action) → refused (outside-window address) (w .state .line) ≡ verdict (decision inside (tally-of records) (step-at (w .state .line) (based (w .base)) (meant x pool) ++ rest))
   unfolding decision step-at verdict
   met-outside offset at len e r h address i rest =
       let o = surveyed offset at len r h (Outside address) i in
       rw (e, o)
 
   pub met-end : x ≡ EndOfFile
-      → (rest : List Step) → accepted (tally-of records) ≡ verdict (decision inside (tally-of records) (step-at (w .state .line) (based (w .base)) (meant x pool) ++ rest))
+      → (rest : List Action) → accepted (tally-of records) ≡ verdict (decision inside (tally-of records) (step-at (w .state .line) (based (w .base)) (meant x pool) ++ rest))
   unfolding decision step-at verdict
   met-end e rest = rw e
 

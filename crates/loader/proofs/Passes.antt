@@ -28,7 +28,7 @@ use Rattle.loader.specs.declared.Base.the-variants.{FromStart}
 use Rattle.loader.specs.declared.Turn.{Turn}
 use Rattle.loader.specs.declared.Turn.the-variants.{On, Stop}
 use Rattle.loader.specs.declared.Walk.{Walk}
-use Rattle.loader.specs.Placing.{Placement, Base, base-behind, placed, Step, step-at, steps, stated}
+use Rattle.loader.specs.Placing.{Placement, Base, base-behind, placed, Action, step-at, steps, stated}
 use Rattle.loader.specs.Load.{one-more, accepted, refused, by, within, outside, or-later, decision, verdict, painted, steps-of}
 use Rattle.loader.specs.Helpers.{based, as-mark, Painted, stated-by, Behind, tally-of, left, ahead-of, Under-way, Few, Met, Judged, Accepts, Wrote}
 use Rattle.loader.proofs.Pages.{painted-append, length-painted}
@@ -66,7 +66,7 @@ cut-shorter false more = omega arith
 
 module _ (inside : ℕ → Bool) (n : ℕ) (base : Base) where
   -- its bytes lie in the window
-  pub accepts-fit : (m : Meaning) (rest : List Step) → Accepts inside (step-at n base m ++ rest) → outside inside (stated-by base m) ≡ none
+  pub accepts-fit : (m : Meaning) (rest : List Action) → Accepts inside (step-at n base m ++ rest) → outside inside (stated-by base m) ≡ none
   unfolding decision step-at stated-by
   accepts-fit (data-at offset bytes) rest (tally, k, t, e) = go (outside inside (placed base offset 0 bytes)) e
     where
@@ -80,7 +80,7 @@ module _ (inside : ℕ → Bool) (n : ℕ) (base : Base) where
   accepts-fit (start-linear x) rest a = refl
 
   -- and unless it is the end, what is behind it is accepted
-  pub accepts-on : (m : Meaning) (rest : List Step) → is-end m ≡ false → Accepts inside (step-at n base m ++ rest) → Accepts inside rest
+  pub accepts-on : (m : Meaning) (rest : List Action) → is-end m ≡ false → Accepts inside (step-at n base m ++ rest) → Accepts inside rest
   unfolding decision step-at is-end
   accepts-on (data-at offset bytes) rest f (tally, k, t, e) = (one-more tally, k, t, go (outside inside (placed base offset 0 bytes)) e)
     where
@@ -94,7 +94,7 @@ module _ (inside : ℕ → Bool) (n : ℕ) (base : Base) where
   accepts-on (start-linear x) rest f a = a
 
 -- what it states comes ahead of what is behind it, which is nothing behind the end
-stated-step : (n : ℕ) (base : Base) (m : Meaning) (rest : List Step) → (is-end m ≡ true → rest ≡ []) → stated (step-at n base m ++ rest) ≡ stated-by base m ++ stated rest
+stated-step : (n : ℕ) (base : Base) (m : Meaning) (rest : List Action) → (is-end m ≡ true → rest ≡ []) → stated (step-at n base m ++ rest) ≡ stated-by base m ++ stated rest
 unfolding stated step-at stated-by is-end
 stated-step n base (data-at offset bytes) rest h = refl
 stated-step n base end-of-file rest h = ap stated (sym (h refl))
@@ -138,7 +138,7 @@ module _ (text : List ℕ) (w : Walk) (pool : List ℕ) (r : Reading) (pool′ :
         less = less;
       }
   judged-record inside records x one few (Stop l) h =
-      h (left (base-behind (based (w .base)) (meant x pool′)) (unread (r .state) text)) ∙ ap (λ (s : List Step). verdict (decision inside (tally-of records) s)) (sym (ahead-step x one))
+      h (left (base-behind (based (w .base)) (meant x pool′)) (unread (r .state) text)) ∙ ap (λ (s : List Action). verdict (decision inside (tally-of records) s)) (sym (ahead-step x one))
 
   pub judged-refused : (inside : ℕ → Bool) (records : ℕ) (e : ReaderError) (more : List Numbered) → unread (w .state) text ≡ on (r .state .line) (wrong (refusal-of e)) ∷ more
       → refused (refusal-of e) (r .state .line) ≡ verdict (decision inside (tally-of records) (ahead-of w text))
@@ -159,7 +159,7 @@ module _ (text : List ℕ) (w : Walk) (pool : List ℕ) (r : Reading) (pool′ :
     base : Base
     base = based (w .base)
 
-    behind : List Step
+    behind : List Action
     behind = left (base-behind base m) (unread (r .state) text)
 
     accepted-step : Accepts inside (step-at (r .state .line) base m ++ behind)

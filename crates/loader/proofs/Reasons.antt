@@ -13,7 +13,7 @@ use Rattle.record.specs.Line.{Said, says, wrong, judge}
 use Rattle.record.specs.Meaning.{Meaning, data-at, end-of-file, extended-segment, start-segment, extended-linear, start-linear, meaning}
 use Rattle.record.proofs.Choices.{or-else-none, or-else-assoc}
 use Rattle.reader.specs.Row.{Numbered, on, sayings, is-end, through-stop}
-use Rattle.loader.specs.Placing.{Placement, Base, segment, linear, base-behind, placed, Step, step-at, steps, stated}
+use Rattle.loader.specs.Placing.{Placement, Base, segment, linear, base-behind, placed, Action, step-at, steps, stated}
 use Rattle.loader.specs.Load.{Tally, one-more, Verdict, accepted, refused, Decision, by, outside, or-later, decision}
 use Rattle.loader.specs.Helpers.{left}
 use Rattle.loader.specs.Claims.{said-record, record-on, sets, latest, in-force, states, all-states, counts, data-records, Passes, is-empty, goes-on, All-pass, Stops, the-end, no-record, first-outside}
@@ -82,7 +82,7 @@ module _ (inside : ℕ → Bool) where
   -- ---- the line that decides
 
   -- of lines numbered from n on, behind others, whose steps are s: line m decides, and those ahead of it pass
-  pub record Found (ahead : List (List ℕ)) (s : List Step) (n : ℕ) (ls : List (List ℕ)) (m : ℕ) (v : Verdict) : Type 0 where
+  pub record Found (ahead : List (List ℕ)) (s : List Action) (n : ℕ) (ls : List (List ℕ)) (m : ℕ) (v : Verdict) : Type 0 where
     pub mid : List (List ℕ)
     pub line : List ℕ
     pub later : List (List ℕ)
@@ -92,12 +92,12 @@ module _ (inside : ℕ → Bool) where
     pub stops : Stops inside (ahead ++ mid) line m v
     pub states : (t : Tally) → v ≡ accepted t → stated s ≡ all-states ahead mid
 
-  abbrev pub Walked : (ahead : List (List ℕ)) → List Step → ℕ → List (List ℕ) → Option Decision → Type 0
+  abbrev pub Walked : (ahead : List (List ℕ)) → List Action → ℕ → List (List ℕ) → Option Decision → Type 0
   Walked ahead s n ls none = All-pass inside ahead ls
   Walked ahead s n ls (some (by m v)) = Found ahead s n ls m v
 
   -- a line that passes
-  past : (ahead : List (List ℕ)) (l : List ℕ) (s s′ : List Step) (n : ℕ) (ls : List (List ℕ)) → Passes inside ahead l
+  past : (ahead : List (List ℕ)) (l : List ℕ) (s s′ : List Action) (n : ℕ) (ls : List (List ℕ)) → Passes inside ahead l
       → stated s ≡ states ahead (record-on l) ++ stated s′
       → (d : Option Decision) → Walked (ahead ++ (l ∷ [])) s′ (suc n) ls d → Walked ahead s n (l ∷ ls) d
   unfolding all-states
@@ -115,7 +115,7 @@ module _ (inside : ℕ → Bool) where
       }
 
   -- a line that decides
-  here : (ahead : List (List ℕ)) (l : List ℕ) (s : List Step) (n : ℕ) (ls : List (List ℕ)) (v : Verdict) → Stops inside ahead l n v
+  here : (ahead : List (List ℕ)) (l : List ℕ) (s : List Action) (n : ℕ) (ls : List (List ℕ)) (v : Verdict) → Stops inside ahead l n v
       → ((t : Tally) → v ≡ accepted t → stated s ≡ []) → Found ahead s n (l ∷ ls) n v
   unfolding all-states
   here ahead l s n ls v w e =

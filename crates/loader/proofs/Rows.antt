@@ -12,7 +12,7 @@ use Rattle.record.specs.Line.{Said, says, wrong, judge}
 use Rattle.record.specs.Meaning.{Meaning, data-at, end-of-file, extended-segment, start-segment, extended-linear, start-linear, meaning}
 use Rattle.reader.specs.Row.{Numbered, on, sayings, is-end, through-stop}
 use Rattle.reader.specs.Text.{default-options}
-use Rattle.loader.specs.Placing.{Placement, Base, segment, linear, base-behind, placed, Step, step-at, steps, stated}
+use Rattle.loader.specs.Placing.{Placement, Base, segment, linear, base-behind, placed, Action, step-at, steps, stated}
 use Rattle.loader.specs.Helpers.{left}
 use Rattle.loader.specs.Load.{Tally, one-more, Verdict, accepted, Decision, by, outside, or-later, decision}
 
@@ -22,7 +22,7 @@ line-of none = 0
 line-of (some (by n v)) = n
 
 -- the steps at a record on line n and behind it
-abbrev pub from-record : (n : ℕ) → Base → Meaning → List Numbered → List Step
+abbrev pub from-record : (n : ℕ) → Base → Meaning → List Numbered → List Action
 from-record n base m row = step-at n base m ++ steps (base-behind base m) (if is-end m && true then [] else through-stop default-options row)
 
 -- what the sayings state
@@ -67,7 +67,7 @@ module _ (inside : ℕ → Bool) where
   -- ---- what stands behind the line that decides does not matter
 
   -- two lists of steps: where the first is decided by line m, so is the second, and if the decision accepts they state the same
-  abbrev pub Agree : ℕ → Tally → (s₁ s₂ : List Step) → Type 0
+  abbrev pub Agree : ℕ → Tally → (s₁ s₂ : List Action) → Type 0
   Agree m tally s₁ s₂ =
       (v : Verdict) → decision inside tally s₁ ≡ some (by m v)
       → (decision inside tally s₂ ≡ some (by m v)) × ((t : Tally) → v ≡ accepted t → stated s₁ ≡ stated s₂)

@@ -14,7 +14,7 @@ use lib.Seq.{drop-cons}
 use borrow.Author.Tests.{lt-ltb, le-ltb, ltb-true, ltb-false, leb-true, leb-false}
 use Rattle.record.specs.Common.{if_then_else_}
 use Rattle.record.proofs.Tests.{both}
-use Rattle.loader.specs.Placing.{Placement, Base, address-of, placed}
+use Rattle.loader.specs.Placing.{Placement, Base, byte-address, placed}
 use Rattle.loader.specs.Load.{within, outside, painted}
 use Rattle.loader.specs.Helpers.{as-mark, Painted, Fitting}
 use Rattle.loader.proofs.Pages.{painted-cons, painted-none}
@@ -58,7 +58,7 @@ module _ (base : Base) (offset : ℕ) (bytes : List ℕ) where
   bytes-from i = placed base offset i (drop i bytes)
 
   abbrev pub byte-at : ℕ → Placement
-  byte-at i = record { address = address-of base offset i; byte = getD bytes i 0 }
+  byte-at i = record { address = byte-address base offset i; byte = getD bytes i 0 }
 
   pub from-cons : (i : ℕ) → i < length bytes → bytes-from i ≡ byte-at i ∷ bytes-from (i + 1)
   unfolding placed
@@ -73,12 +73,12 @@ module _ (base : Base) (offset : ℕ) (bytes : List ℕ) where
     abbrev pub Sought : ℕ → Type 0
     Sought i = outside inside (bytes-from i) ≡ outside inside (bytes-from 0)
 
-    pub sought-more : (i : ℕ) → i < length bytes → inside (address-of base offset i) ≡ true → Sought i → Sought (i + 1)
+    pub sought-more : (i : ℕ) → i < length bytes → inside (byte-address base offset i) ≡ true → Sought i → Sought (i + 1)
     unfolding outside
     sought-more i h e s = sym (ap (outside inside) (from-cons i h) ∙ rw e) ∙ s
 
-    pub sought-found : (i : ℕ) → i < length bytes → inside (address-of base offset i) ≡ false → Sought i
-        → some (address-of base offset i) ≡ outside inside (bytes-from 0)
+    pub sought-found : (i : ℕ) → i < length bytes → inside (byte-address base offset i) ≡ false → Sought i
+        → some (byte-address base offset i) ≡ outside inside (bytes-from 0)
     unfolding outside
     sought-found i h e s = sym (ap (outside inside) (from-cons i h) ∙ rw e) ∙ s
 
@@ -101,16 +101,16 @@ module _ (base : Base) (offset : ℕ) (bytes : List ℕ) where
 
     -- the place of byte i
     pub left-place : (page marks : List ℕ) (i : ℕ) → Left page marks i → i < length bytes
-        → (first ≤ address-of base offset i) × (address-of base offset i < first + length page)
+        → (first ≤ byte-address base offset i) × (byte-address base offset i < first + length page)
     left-place page marks i l h =
-        within-true first (length page) (address-of base offset i)
+        within-true first (length page) (byte-address base offset i)
         (outside-none (within first (length page)) (byte-at i) (bytes-from (i + 1)) (rw (from-cons i h) at (l .fits .inside)) .0)
 
-    pub left-again : (page marks : List ℕ) (i place : ℕ) → Left page marks i → i < length bytes → place ≡ address-of base offset i - first
+    pub left-again : (page marks : List ℕ) (i place : ℕ) → Left page marks i → i < length bytes → place ≡ byte-address base offset i - first
         → Left (set page place (getD bytes i 0)) (set marks place 1) (i + 1)
     left-again page marks i place l h e =
         let (f, t) = left-place page marks i l h in
-        let n : address-of base offset i ≡ first + place = omega arith in
+        let n : byte-address base offset i ≡ first + place = omega arith in
         record {
           inside = omega arith;
           size = length-set page place (getD bytes i 0) ∙ l .size;

@@ -18,7 +18,7 @@ use Rattle.record.specs.Meaning.{Meaning, data-at, end-of-file, extended-segmen
 use Rattle.reader.specs.Lines.{LF, lines, through}
 use Rattle.loader.specs.declared.Loading.{Loading}
 use Rattle.loader.specs.Placing.{Placement, Base, from-start, segment, linear, placed}
-use Rattle.loader.specs.Load.{Tally, Verdict, accepted, refused, by, within, outcome, Loaded, placements, load}
+use Rattle.loader.specs.Load.{Tally, Verdict, accepted, refused, by, within, stopping, Loaded, placements, load}
 use Rattle.loader.specs.Told.{told, Load}
 
 -- ---- two loads
@@ -35,7 +35,7 @@ abbrev pub Non-interference : Type 0
 Non-interference =
     (text₁ text₂ : List ℕ) (first : ℕ) (page₁ marks₁ page₂ marks₂ : List ℕ)
     → length page₁ ≡ length page₂ → length marks₁ ≡ length marks₂
-    → (line : ℕ) (v : Verdict) → outcome text₁ first page₁ marks₁ ≡ some (by line v)
+    → (line : ℕ) (v : Verdict) → stopping text₁ first page₁ marks₁ ≡ some (by line v)
     → (head : List ℕ) → through line text₁ ≡ some head → through line text₂ ≡ some head
     → Alike (load text₁ first page₁ marks₁) (load text₂ first page₂ marks₂)
 
@@ -194,8 +194,8 @@ abbrev pub Reasons : Type 0
 Reasons = (text : List ℕ) (first : ℕ) (page marks : List ℕ) → Why text first page marks ((load text first page marks) .answer)
 
 -- the numbers of refusals that a load can give
-abbrev pub given : List ℕ
-given = 1 ∷ 2 ∷ 3 ∷ 4 ∷ 5 ∷ 6 ∷ 7 ∷ 8 ∷ 9 ∷ 13 ∷ 16 ∷ 17 ∷ []
+abbrev pub refusal-numbers : List ℕ
+refusal-numbers = 1 ∷ 2 ∷ 3 ∷ 4 ∷ 5 ∷ 6 ∷ 7 ∷ 8 ∷ 9 ∷ 13 ∷ 16 ∷ 17 ∷ []
 
 abbrev pub one-of : List ℕ → ℕ → Bool
 one-of [] n = false
@@ -203,7 +203,7 @@ one-of (x ∷ xs) n = eqb n x || one-of xs n
 
 abbrev pub Among : Verdict → Type 0
 Among (accepted tally) = Unit
-Among (refused r line) = one-of given (number-of r) ≡ true
+Among (refused r line) = one-of refusal-numbers (number-of r) ≡ true
 
 abbrev pub Total : Type 0
 Total = (text : List ℕ) (first : ℕ) (page marks : List ℕ) → Among ((load text first page marks) .answer)
@@ -237,5 +237,5 @@ pub record Examples : Type 0 where
         page = 9 ∷ 9 ∷ 9 ∷ 9 ∷ 9 ∷ 0x77 ∷ 9 ∷ 9 ∷ [];
         marks = 0 ∷ 0 ∷ 0 ∷ 0 ∷ 0 ∷ 1 ∷ 0 ∷ 0 ∷ [];
       }
-  pub below-it : outcome example 0x12006 (replicate 2 9) (replicate 2 7) ≡ some (by 2 (refused (outside-window 0x12005) 2))
+  pub below-it : stopping example 0x12006 (replicate 2 9) (replicate 2 7) ≡ some (by 2 (refused (outside-window 0x12005) 2))
   pub no-wrap : placements beyond ≡ record { address = 0xFFFF; byte = 0xAA } ∷ record { address = 0x10000; byte = 0xBB } ∷ []

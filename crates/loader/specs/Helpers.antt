@@ -20,7 +20,7 @@ use Rattle.loader.specs.declared.Reach.the-variants.{Inside, Outside}
 use Rattle.loader.specs.declared.Walk.{Walk}
 use Rattle.loader.specs.declared.Turn.{Turn}
 use Rattle.loader.specs.declared.Turn.the-variants.{On, Stop}
-use Rattle.loader.specs.Placing.{Placement, Base, from-start, segment, linear, base-behind, placed, Step, step-at, steps, stated}
+use Rattle.loader.specs.Placing.{Placement, Base, from-start, segment, linear, base-behind, placed, Action, step-at, steps, stated}
 use Rattle.loader.specs.Load.{Tally, accepted, by, within, outside, decision, verdict, painted}
 use Rattle.loader.specs.Told.{told}
 
@@ -78,11 +78,11 @@ abbrev pub tally-of : (records : ℕ) → Tally
 tally-of records = record { records = records }
 
 -- the steps of sayings through the stop, from a base on
-abbrev pub left : Base → List Numbered → List Step
+abbrev pub left : Base → List Numbered → List Action
 left base row = steps base (through-stop default-options row)
 
 -- the steps that a walk has still ahead of it
-abbrev pub ahead-of : Walk → (text : List ℕ) → List Step
+abbrev pub ahead-of : Walk → (text : List ℕ) → List Action
 ahead-of w text = left (based (w .base)) (unread (w .state) text)
 
 -- a walk along a text that was begun at its beginning
@@ -100,11 +100,11 @@ pub record Passed (inside : ℕ → Bool) (w : Walk) (records : ℕ) (m : Meanin
   pub base : based (w′ .base) ≡ base-behind (based (w .base)) m
   pub goes-on : is-end m ≡ false
   pub counted : records′ ≤ suc records
-  pub same : (rest : List Step) → decision inside (tally-of records′) rest ≡ decision inside (tally-of records) (step-at (w .state .line) (based (w .base)) m ++ rest)
+  pub same : (rest : List Action) → decision inside (tally-of records′) rest ≡ decision inside (tally-of records) (step-at (w .state .line) (based (w .base)) m ++ rest)
 
 abbrev pub Met : (inside : ℕ → Bool) (w : Walk) (records : ℕ) (m : Meaning) → Turn → Type 0
 Met inside w records m (On w′ records′) = Passed inside w records m w′ records′
-Met inside w records m (Stop l) = (rest : List Step) → told l ≡ verdict (decision inside (tally-of records) (step-at (w .state .line) (based (w .base)) m ++ rest))
+Met inside w records m (Stop l) = (rest : List Action) → told l ≡ verdict (decision inside (tally-of records) (step-at (w .state .line) (based (w .base)) m ++ rest))
 
 -- a line was judged: the decision on what is left is the decision on what was left, or it is told
 pub record Onward (inside : ℕ → Bool) (text : List ℕ) (w : Walk) (records : ℕ) (w′ : Walk) (records′ : ℕ) : Type 0 where
@@ -120,7 +120,7 @@ Judged inside text w records (Stop l) = told l ≡ verdict (decision inside (tal
 -- ---- the second pass
 
 -- these steps are accepted
-abbrev pub Accepts : (inside : ℕ → Bool) → List Step → Type 0
+abbrev pub Accepts : (inside : ℕ → Bool) → List Action → Type 0
 Accepts inside steps = (tally : Tally) × (n : ℕ) × (t : Tally) × (decision inside tally steps ≡ some (by n (accepted t)))
 
 -- what the second pass keeps up: page and marks have the window's size, and what is left is accepted

@@ -10,7 +10,7 @@ use Rattle.record.specs.Common.{if_then_else_, or-else}
 use Rattle.record.specs.Refusals.{Refusal, missing-end-of-file-record, bad-window, outside-window}
 use Rattle.reader.specs.Row.{row}
 use Rattle.reader.specs.Text.{default-options}
-use Rattle.loader.specs.Placing.{Placement, from-start, Step, places, finishes, fails, steps, stated}
+use Rattle.loader.specs.Placing.{Placement, from-start, Action, places, finishes, fails, steps, stated}
 
 -- ---- the answer
 
@@ -47,7 +47,7 @@ or-later n (some address) later = some (by n (refused (outside-window address) n
 or-later n none later = later
 
 -- the first step that decides, if one does, with this tally so far
-unfoldable pub decision : (inside : ℕ → Bool) → Tally → List Step → Option Decision
+unfoldable pub decision : (inside : ℕ → Bool) → Tally → List Action → Option Decision
 unfolding outside or-later
 decision inside tally [] = none
 decision inside tally (places n what ∷ steps) = or-later n (outside inside what) (decision inside (one-more tally) steps)
@@ -101,7 +101,7 @@ store first ps page marks (accepted tally) = record { answer = accepted tally; p
 store first ps page marks (refused r line) = record { answer = refused r line; page = page; marks = marks }
 
 -- a text's steps, as the reader reads it with both stops on
-unfoldable pub steps-of : List ℕ → List Step
+unfoldable pub steps-of : List ℕ → List Action
 unfolding steps row
 steps-of text = steps from-start (row default-options text)
 
@@ -111,12 +111,12 @@ unfolding stated steps-of
 placements text = stated (steps-of text)
 
 -- where and how the load stops: before the first line if the window is bad, else at the first line that decides, if one does
-unfoldable pub outcome : List ℕ → (first : ℕ) (page marks : List ℕ) → Option Decision
+unfoldable pub stopping : List ℕ → (first : ℕ) (page marks : List ℕ) → Option Decision
 unfolding unfit within decision steps-of
-outcome text first page marks =
+stopping text first page marks =
     if unfit first (length page) (length marks) then some (by 0 (refused bad-window 0)) else
     decision (within first (length page)) no-records (steps-of text)
 
 unfoldable pub load : List ℕ → (first : ℕ) (page marks : List ℕ) → Loaded
-unfolding store placements verdict outcome
-load text first page marks = store first (placements text) page marks (verdict (outcome text first page marks))
+unfolding store placements verdict stopping
+load text first page marks = store first (placements text) page marks (verdict (stopping text first page marks))

@@ -26,15 +26,15 @@ base-of (segment number) = 16 * number
 base-of (linear number) = 65536 * number
 
 -- byte i of a data record lies at (base + offset + i) modulo 2^32
-unfoldable pub address-of : Base → (offset i : ℕ) → ℕ
+unfoldable pub byte-address : Base → (offset i : ℕ) → ℕ
 unfolding base-of
-address-of base offset i = (base-of base + offset + i) % 2 ^ 32
+byte-address base offset i = (base-of base + offset + i) % 2 ^ 32
 
 -- the bytes of a data record from byte i on, each at its address
 unfoldable pub placed : Base → (offset i : ℕ) → List ℕ → List Placement
-unfolding address-of
+unfolding byte-address
 placed base offset i [] = []
-placed base offset i (b ∷ bytes) = record { address = address-of base offset i; byte = b } ∷ placed base offset (suc i) bytes
+placed base offset i (b ∷ bytes) = record { address = byte-address base offset i; byte = b } ∷ placed base offset (suc i) bytes
 
 -- the base behind a record: the latest of types 02 and 04 holds
 unfoldable pub base-behind : Base → Meaning → Base
@@ -48,13 +48,13 @@ base-behind base (start-linear number) = base
 -- ---- steps
 
 -- what a load does at a line: data at addresses, the end, a refusal
-pub data Step : Type 0 where
-  places : (line : ℕ) (what : List Placement) → Step
-  finishes : (line : ℕ) → Step
-  fails : (line : ℕ) (r : Refusal) → Step
+pub data Action : Type 0 where
+  places : (line : ℕ) (what : List Placement) → Action
+  finishes : (line : ℕ) → Action
+  fails : (line : ℕ) (r : Refusal) → Action
 
 -- the step at a record: extension and start records place nothing
-unfoldable pub step-at : (line : ℕ) → Base → Meaning → List Step
+unfoldable pub step-at : (line : ℕ) → Base → Meaning → List Action
 unfolding placed
 step-at n base (data-at offset bytes) = places n (placed base offset 0 bytes) ∷ []
 step-at n base end-of-file = finishes n ∷ []
@@ -64,7 +64,7 @@ step-at n base (extended-linear number) = []
 step-at n base (start-linear number) = []
 
 -- the steps of a row, from a base on
-unfoldable pub steps : Base → List Numbered → List Step
+unfoldable pub steps : Base → List Numbered → List Action
 unfolding step-at base-behind meaning
 steps base [] = []
 steps base (on n (says kind address payload) ∷ row) =
@@ -72,7 +72,7 @@ steps base (on n (says kind address payload) ∷ row) =
 steps base (on n (wrong r) ∷ row) = fails n r ∷ steps base row
 
 -- the placements ahead of the end record (and ahead of a refusal), in order
-unfoldable pub stated : List Step → List Placement
+unfoldable pub stated : List Action → List Placement
 stated [] = []
 stated (places n what ∷ steps) = what ++ stated steps
 stated (finishes n ∷ steps) = []

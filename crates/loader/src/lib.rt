@@ -10,7 +10,7 @@ ghost use Prim.Native.Nat.{_+_, _^_, _≤_, _<_};
 ghost use lib.ListN.{length, replicate};
 ghost use Rattle.record.specs.Record.{meant};
 ghost use Rattle.reader.specs.Text.{new-state, default-options};
-ghost use Rattle.loader.specs.Placing.{base-of, address-of, placed};
+ghost use Rattle.loader.specs.Placing.{base-of, byte-address, placed};
 ghost use Rattle.loader.specs.Load.{within, outside, decision, verdict, unfit, no-records, placements, steps-of};
 ghost use Rattle.loader.specs.Told.{told, Load};
 ghost use Rattle.loader.specs.Helpers.{based, reached, Painted, Fitting, stated-by, Lies-in, Behind, ahead-of, Under-way, Few, Met, Judged, Accepts, Ready, Wrote};
@@ -56,7 +56,7 @@ enum Turn {
     Stop(Loading),
 }
 
-fn number_of(base: Base) -> u32
+fn base_of(base: Base) -> u32
     ensures { λ r. ⌜ r ≡ base-of (based base) ⌝ }
 {
     match base {
@@ -67,11 +67,11 @@ fn number_of(base: Base) -> u32
 }
 
 // The address of byte i of a data record.
-fn address_of(base: Base, offset: u16, i: usize) -> u32
+fn byte_address(base: Base, offset: u16, i: usize) -> u32
     requires { ⌜ i < 65536 ⌝ }
-    ensures { λ r. ⌜ r ≡ address-of (based base) offset i ⌝ }
+    ensures { λ r. ⌜ r ≡ byte-address (based base) offset i ⌝ }
 {
-    let start = number_of(base) as u64;
+    let start = base_of(base) as u64;
     ((start + (offset as u64) + (i as u64)) % 4294967296) as u32
 }
 
@@ -108,7 +108,7 @@ fn survey(base: Base, offset: u16, bytes: &[u8], first: u32, size: usize) -> Rea
 {
     let mut i = 0;
     while i < bytes.len() {
-        let address = address_of(base, offset, i);
+        let address = byte_address(base, offset, i);
         if !holds(first, size, address) {
             return Reach::Outside(address);
         }
@@ -124,7 +124,7 @@ fn put(base: Base, offset: u16, bytes: &[u8], first: u32, page: &mut [u8], marks
 {
     let mut i = 0;
     while i < bytes.len() {
-        let place = (address_of(base, offset, i) - first) as usize;
+        let place = (byte_address(base, offset, i) - first) as usize;
         page[place] = bytes[i];
         marks[place] = 1;
         i += 1;

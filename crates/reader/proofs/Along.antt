@@ -14,12 +14,12 @@ use Rattle.record.specs.Common.{if_then_else_}
 use Rattle.record.specs.Line.{Said, judge}
 use Rattle.record.proofs.Tests.{both, both-ways}
 use Rattle.reader.specs.declared.State.{State}
-use Rattle.reader.specs.Lines.{LF, CR, at-LF, ends, first-line, rest, lines, later, Found, a-line, no-line, next-line}
+use Rattle.reader.specs.Lines.{LF, CR, at-LF, ends-line, first-line, rest, lines, later, Found, a-line, no-line, next-line}
 use Rattle.reader.specs.Row.{Numbered, on, sayings}
 use Rattle.reader.specs.Told.{Told, done}
 use Rattle.reader.specs.Answer.{answered, poured}
 use Rattle.reader.specs.Text.{is-full, ends-row, behind, at-end, next-number, Outcome, of-found, outcome}
-use Rattle.reader.specs.Along.{unread, Countable, Heard, Ended, Goes-along}
+use Rattle.reader.specs.Along.{unread, Countable, Heard, Ran-out, Goes-along}
 use Rattle.reader.proofs.Cutting.{at-LF-is, later-is, cut}
 use Rattle.reader.proofs.Reading.{if-true, if-false, full-keeps, outcome-finished, outcome-found}
 
@@ -158,17 +158,17 @@ module _ (s : State) (text pool : List ℕ) (at : ℕ) (small : Countable s text
           let p = says-found (suc (s .line)) 0 (drop (s .position) text) in
           found (next-line 0 (drop (s .position) text)) b refl (sym (p .0) ∙ ap (λ (k : ℕ). sayings k (lines (drop (s .position) text))) (add-zero (suc (s .line))) ∙ u) (p .1)
 
-  pub ended : unread s text ≡ [] → Ended s text pool (outcome s text pool at)
+  pub ended : unread s text ≡ [] → Ran-out s text pool (outcome s text pool at)
   unfolding unread from-found of-found
   ended u = running (s .finished) refl u
     where
       found : (f : Found) → s .finished ≡ false → next-line 0 (drop (s .position) text) ≡ f → from-found (suc (s .line)) f ≡ []
-          → Ended s text pool (outcome s text pool at)
+          → Ran-out s text pool (outcome s text pool at)
       found (a-line e line left) b q u = let z : _≡_ {A = ℕ} 0 1 = cc in absurd (omega arith)
       found (no-line e) b q u =
           rw (outcome-found s text pool at b (no-line e) q) (record { tells = refl; untouched = refl; line = refl; options = refl; left = refl; countable = small })
 
-      running : (b : Bool) → s .finished ≡ b → (if b then [] else sayings (suc (s .line)) (lines (drop (s .position) text))) ≡ [] → Ended s text pool (outcome s text pool at)
+      running : (b : Bool) → s .finished ≡ b → (if b then [] else sayings (suc (s .line)) (lines (drop (s .position) text))) ≡ [] → Ran-out s text pool (outcome s text pool at)
       running true b u =
           rw (outcome-finished s text pool at b) (record { tells = refl; untouched = refl; line = refl; options = refl; left = if-true (s .finished) _ _ b; countable = small })
       running false b u =

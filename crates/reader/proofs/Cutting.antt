@@ -12,7 +12,7 @@ use borrow.Author.Tests.{eqb-true, eqb-false, ne-eqb}
 use native.Mathlib.Omega.{arith}
 use Rattle.record.proofs.Tests.{both-ways, both as and-true, and-false}
 use Rattle.record.specs.Common.{if_then_else_}
-use Rattle.reader.specs.Lines.{LF, CR, at-LF, ends, first-line, rest, Ended, with-CRLF, with-LF, with-text, Cut, lines, later, through}
+use Rattle.reader.specs.Lines.{LF, CR, at-LF, ends-line, first-line, rest, Ended, with-CRLF, with-LF, with-text, Cut, lines, later, through}
 
 -- ---- first line and rest
 
@@ -42,8 +42,8 @@ at-LF-is [] e = let z : _≡_ {A = ℕ} 0 1 = cc in absurd (omega arith)
 at-LF-is (c ∷ t) e = (t, ap (λ (x : ℕ). x ∷ t) (eqb-true c LF e))
 
 -- a byte at which no line ends, before a cut text
-ended-cons : (c : ℕ) {line end rest : List ℕ} → ends c (line ++ (end ++ rest)) ≡ false → Ended line end rest → Ended (c ∷ line) end rest
-unfolding ends
+ended-cons : (c : ℕ) {line end rest : List ℕ} → ends-line c (line ++ (end ++ rest)) ≡ false → Ended line end rest → Ended (c ∷ line) end rest
+unfolding ends-line
 ended-cons c e with-CRLF = with-CRLF
 ended-cons c e with-text = with-text
 ended-cons c e (with-LF {line} {rest} h) = with-LF (λ front. go line front e h)
@@ -91,8 +91,8 @@ ended-tail with-CRLF = with-CRLF
 ended-tail {c} (with-LF h) = with-LF (λ front e. h (c ∷ front) (ap (λ (l : List ℕ). c ∷ l) e))
 ended-tail with-text = with-text
 
-not-ends : (c : ℕ) (line : List ℕ) {end rest : List ℕ} → ¬ List·Memᴰ LF (c ∷ line) → Ended (c ∷ line) end rest → ends c (line ++ (end ++ rest)) ≡ false
-unfolding ends
+not-ends : (c : ℕ) (line : List ℕ) {end rest : List ℕ} → ¬ List·Memᴰ LF (c ∷ line) → Ended (c ∷ line) end rest → ends-line c (line ++ (end ++ rest)) ≡ false
+unfolding ends-line
 not-ends c [] n with-CRLF = rw (ne-eqb c LF (λ e. n (List·Memᴰ·head (sym e)))) (and-false (eqb c CR))
 not-ends c [] n (with-LF h) = rw (ne-eqb c LF (λ e. n (List·Memᴰ·head (sym e))), ne-eqb c CR (λ e. h [] (ap (λ (x : ℕ). x ∷ []) e)))
 not-ends c [] n with-text = rw (ne-eqb c LF (λ e. n (List·Memᴰ·head (sym e)))) (and-false (eqb c CR))

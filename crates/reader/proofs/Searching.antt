@@ -12,7 +12,7 @@ use lib.ListN.{length, take, drop, length-append, length-drop}
 use lib.Seq.{drop-drop, take-length, take-at}
 use Rattle.record.specs.Common.{if_then_else_}
 use Rattle.record.proofs.Tests.{both}
-use Rattle.reader.specs.Lines.{LF, CR, at-LF, ends, first-line, rest, Found, a-line, no-line, next-line}
+use Rattle.reader.specs.Lines.{LF, CR, at-LF, ends-line, first-line, rest, Found, a-line, no-line, next-line}
 use Rattle.reader.specs.Text.{FirstLine}
 use Rattle.reader.specs.Helpers.{Ahead}
 use Rattle.reader.proofs.Cutting.{at-LF-is, cut}

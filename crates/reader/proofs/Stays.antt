@@ -34,7 +34,7 @@ use Rattle.reader.proofs.Claims.{untold, untold-told}
 use Rattle.reader.proofs.Cutting.{cut, cut-unique, lines-cons, lines-closed, Closed, Head, through-head}
 use Rattle.reader.proofs.Feeds.{rest-shorter}
 use Rattle.reader.proofs.Reading.{full-keeps, outcome-finished, outcome-found}
-use Rattle.reader.specs.Along.{unread, Countable, Heard, Ended}
+use Rattle.reader.specs.Along.{unread, Countable, Heard, Ran-out}
 use Rattle.reader.proofs.Along.{heard, ended}
 use Rattle.reader.proofs.Room.{never-full, ends-stops}
 

@@ -33,7 +33,7 @@ pub record Heard (s : State) (text pool : List ℕ) (at n : ℕ) (said : Said) (
   pub countable : Countable (o .state) text
 
 -- and one that has nothing
-pub record Ended (s : State) (text pool : List ℕ) (o : Outcome) : Type 0 where
+pub record Ran-out (s : State) (text pool : List ℕ) (o : Outcome) : Type 0 where
   pub tells : o .told ≡ done
   pub untouched : o .pool ≡ pool
   pub line : o .state .line ≡ s .line
@@ -46,4 +46,4 @@ abbrev pub Goes-along : Type 0
 Goes-along =
     (s : State) (text pool : List ℕ) (at : ℕ) → Countable s text
     → ((n : ℕ) (said : Said) (more : List Numbered) → unread s text ≡ on n said ∷ more → Heard s text pool at n said more (outcome s text pool at))
-    × (unread s text ≡ [] → Ended s text pool (outcome s text pool at))
+    × (unread s text ≡ [] → Ran-out s text pool (outcome s text pool at))

@@ -22,15 +22,15 @@ at-LF [] = false
 at-LF (c ∷ text) = eqb c LF
 
 -- Does a line end at the byte c, with `text` behind it? At LF, and at a CR directly before LF.
-unfoldable pub ends : ℕ → List ℕ → Bool
+unfoldable pub ends-line : ℕ → List ℕ → Bool
 unfolding at-LF
-ends c text = eqb c LF || (eqb c CR && at-LF text)
+ends-line c text = eqb c LF || (eqb c CR && at-LF text)
 
 -- A text's first line, without its end.
 unfoldable pub first-line : List ℕ → List ℕ
-unfolding ends
+unfolding ends-line
 first-line [] = []
-first-line (c ∷ text) = if ends c text then [] else c ∷ first-line text
+first-line (c ∷ text) = if ends-line c text then [] else c ∷ first-line text
 
 -- The text behind the first LF.
 unfoldable pub rest : List ℕ → List ℕ
@@ -80,9 +80,9 @@ pub data Found : Type 0 where
   no-line : (empties : ℕ) → Found
 
 unfoldable pub next-line : (empties : ℕ) → List ℕ → Found
-unfolding ends first-line rest
+unfolding ends-line first-line rest
 next-line n [] = no-line n
 next-line n (c ∷ text) =
     if eqb c LF then next-line (suc n) text else
-    if ends c text then next-line n text else
+    if ends-line c text then next-line n text else
     a-line n (first-line (c ∷ text)) (rest (c ∷ text))

@@ -9,7 +9,7 @@ use lib.Dec.{leb, ltb}
 use lib.ListN.{length}
 use borrow.Author.Tests.{lt-ltb, le-ltb, le-leb, lt-leb, ltb-true, ltb-false}
 use Rattle.record.specs.Common.{Every, Byte}
-use Rattle.record.specs.Digits.{within, digit, is-digit, all-digits, bytes}
+use Rattle.record.specs.Digits.{between, digit, is-digit, all-digits, bytes}
 use Rattle.record.specs.Format.{Hex, decimal, capital, small, Spells, none, more}
 use Rattle.record.specs.Faults.{Is-hex}
 use Rattle.record.proofs.Tests.{split, both, and-false}
@@ -17,16 +17,16 @@ use Rattle.record.proofs.Tests.{split, both, and-false}
 -- ---- one digit
 
 module _ (low high c : ℕ) where
-  inside : low ≤ c → c ≤ high → within low high c ≡ true
-  unfolding within
+  inside : low ≤ c → c ≤ high → between low high c ≡ true
+  unfolding between
   inside l h = rw (le-leb low c l, le-leb c high h)
 
-  under : c < low → within low high c ≡ false
-  unfolding within
+  under : c < low → between low high c ≡ false
+  unfolding between
   under l = rw (lt-leb low c l)
 
-  over : high < c → within low high c ≡ false
-  unfolding within
+  over : high < c → between low high c ≡ false
+  unfolding between
   over h = rw (lt-leb c high h) (and-false (leb low c))
 
 pub hex-digit : {c x : ℕ} → Hex c x → digit c ≡ x

@@ -6,16 +6,16 @@ use mathlib.Core.List.{List, [], _∷_}
 use lib.Dec.{leb, ltb}
 use Rattle.record.specs.Common.{if_then_else_}
 
-unfoldable pub within : (low high c : ℕ) → Bool
-within low high c = leb low c && leb c high
+unfoldable pub between : (low high c : ℕ) → Bool
+between low high c = leb low c && leb c high
 
 -- the value of a digit, 0 to 9, A to F or a to f; 16 for any other byte
 unfoldable pub digit : ℕ → ℕ
-unfolding within
+unfolding between
 digit c =
-    if within 48 57 c then c - 48 else
-    if within 65 70 c then c - 55 else
-    if within 97 102 c then c - 87 else
+    if between 48 57 c then c - 48 else
+    if between 65 70 c then c - 55 else
+    if between 97 102 c then c - 87 else
     16
 
 abbrev pub is-digit : ℕ → Bool

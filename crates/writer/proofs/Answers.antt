@@ -15,17 +15,17 @@ use Rattle.writer.specs.declared.WriterError.the-variants.{OutputFull}
 use Rattle.writer.specs.declared.Written.{Written}
 use Rattle.writer.specs.declared.Written.the-variants.{Wrote, Refused}
 use Rattle.writer.specs.Told.{wrote, refuses, refusal-of, told}
-use Rattle.writer.specs.Text.{chars, refused, unless, behind, Writes}
+use Rattle.writer.specs.Text.{chars, refused, unless, place-behind, Writes}
 use Rattle.writer.specs.Claims.{Refusal-changes-nothing, Rest-untouched}
 use Rattle.record.proofs.Pasting.{pasted-before, pasted-behind}
 
 -- a text that was measured: it is there, and as long as the answer
-pub there : (f : Option Refusal) (cs : List ℕ) (n : ℕ) → wrote n ≡ behind (unless f cs) 0 → (f ≡ none) × (n ≡ length cs)
+pub there : (f : Option Refusal) (cs : List ℕ) (n : ℕ) → wrote n ≡ place-behind (unless f cs) 0 → (f ≡ none) × (n ≡ length cs)
 there none cs n e = let z : n ≡ 0 + length cs = cc in (refl, omega arith)
 there (some r) cs n e = let z : _≡_ {A = ℕ} 0 1 = cc in absurd (omega arith)
 
 -- or it is refused, and so is the text that stands for it at any place
-pub not-there : (f : Option Refusal) (cs ds out : List ℕ) (at : ℕ) (e : WriterError) → refuses (refusal-of e) ≡ behind (unless f cs) 0
+pub not-there : (f : Option Refusal) (cs ds out : List ℕ) (at : ℕ) (e : WriterError) → refuses (refusal-of e) ≡ place-behind (unless f cs) 0
     → Writes (unless f ds) out at (Refused e) out
 not-there none cs ds out at e q = let z : _≡_ {A = ℕ} 0 1 = cc in absurd (omega arith)
 not-there (some r) cs ds out at e q = record { answer = q; left = refl }

@@ -17,8 +17,8 @@ use Rattle.record.specs.Written.{written, kind-of, address-of, payload-of, line
 use Rattle.record.proofs.Writing.{written-in-format, written-plain, writable, reads-back, said-is-sayable, fields-again, every-front}
 use Rattle.record.proofs.Claims.{admits}
 use Rattle.record.proofs.Spelling.{spells-small}
-use Rattle.writer.specs.Line.{fault, line, ended-line}
-use Rattle.writer.specs.Object.{lines, object}
+use Rattle.writer.specs.Line.{line-refusal, line, ended-line}
+use Rattle.writer.specs.Object.{joined-lines, object}
 use Rattle.writer.specs.Claims.{In-range, Line-in-format, Canonical, Line-injective, Line-plain, Object-injective, Examples}
 use Rattle.writer.proofs.Measuring.{part-length}
 use Rattle.writer.proofs.Records.{fine-data}
@@ -37,7 +37,7 @@ every-take (suc n) [] h = tt
 every-take (suc n) (x ∷ l) (h, hs) = (h, every-take n l hs)
 
 -- what has a line can be said in one
-pub sayable : (r : Record) (pool : List ℕ) → In-range r → Every Byte pool → fault r (length pool) ≡ none → Sayable (meant r pool)
+pub sayable : (r : Record) (pool : List ℕ) → In-range r → Every Byte pool → line-refusal r (length pool) ≡ none → Sayable (meant r pool)
 sayable (Data offset at len) pool i b f =
     let p = fine-data offset at len (length pool) f in
     let n = part-length pool at len (p .0) in
@@ -50,7 +50,7 @@ sayable (StartLinearAddress a) pool i b f = i
 
 pub line-in-format : Line-in-format
 line-in-format r pool cs i b e =
-    let p = unless-chars (fault r (length pool)) (line r pool) cs e in
+    let p = unless-chars (line-refusal r (length pool)) (line r pool) cs e in
     let m = meant r pool in
     rw (p .1) (written-in-format (kind-of m) (address-of m) (payload-of m) (writable m (sayable r pool i b (p .0))))
 
@@ -58,7 +58,7 @@ pub line-plain : Line-plain
 line-plain r pool = written-plain (kind-of (meant r pool)) (address-of (meant r pool)) (payload-of (meant r pool))
 
 -- a record inside the pool whose meaning a line can hold has no fault
-no-fault : (r : Record) (pool : List ℕ) → Inside r (length pool) → Sayable (meant r pool) → fault r (length pool) ≡ none
+no-fault : (r : Record) (pool : List ℕ) → Inside r (length pool) → Sayable (meant r pool) → line-refusal r (length pool) ≡ none
 no-fault (Data offset at len) pool i s =
     let n = part-length pool at len i in
     rw (le-leb (at + len) (length pool) i, le-leb len 255 (omega (arith, s .1)))
@@ -89,8 +89,8 @@ same-meaning m m′ s s′ e =
 
 pub line-injective : Line-injective
 line-injective r r′ pool pool′ cs i i′ b b′ e e′ =
-    let p = unless-chars (fault r (length pool)) (line r pool) cs e in
-    let p′ = unless-chars (fault r′ (length pool′)) (line r′ pool′) cs e′ in
+    let p = unless-chars (line-refusal r (length pool)) (line r pool) cs e in
+    let p′ = unless-chars (line-refusal r′ (length pool′)) (line r′ pool′) cs e′ in
     same-meaning (meant r pool) (meant r′ pool′) (sayable r pool i b (p .0)) (sayable r′ pool′ i′ b′ (p′ .0)) (sym (p .1) ∙ p′ .1)
 
 -- ---- an object
@@ -106,25 +106,25 @@ first-line (c ∷ l) (d ∷ l′) t t′ (k, h) (k′, h′) e =
     let p = first-line l l′ t t′ h h′ q in
     (ap₂ (λ (x : ℕ) (xs : List ℕ). x ∷ xs) z (p .0), p .1)
 
-not-none : (r : Record) (rs : List Record) (pool : List ℕ) → lines (r ∷ rs) pool ≡ [] → ⊥
-unfolding lines
+not-none : (r : Record) (rs : List Record) (pool : List ℕ) → joined-lines (r ∷ rs) pool ≡ [] → ⊥
+unfolding joined-lines
 not-none r rs pool e =
     let l = ap length e in
-    let m = length-append (ended-line r pool) (lines rs pool) in
+    let m = length-append (ended-line r pool) (joined-lines rs pool) in
     let n = length-append (line r pool) (10 ∷ []) in
     omega arith
 
 -- records that have their lines, and the same text
 same-lines : (rs rs′ : List Record) (pool pool′ : List ℕ) → Every In-range rs → Every In-range rs′ → Every Byte pool → Every Byte pool′
-    → Every (λ r. fault r (length pool) ≡ none) rs → Every (λ r. fault r (length pool′) ≡ none) rs′
-    → lines rs pool ≡ lines rs′ pool′ → map (λ r. meant r pool) rs ≡ map (λ r. meant r pool′) rs′
-unfolding lines
+    → Every (λ r. line-refusal r (length pool) ≡ none) rs → Every (λ r. line-refusal r (length pool′) ≡ none) rs′
+    → joined-lines rs pool ≡ joined-lines rs′ pool′ → map (λ r. meant r pool) rs ≡ map (λ r. meant r pool′) rs′
+unfolding joined-lines
 same-lines [] [] pool pool′ i i′ b b′ f f′ e = refl
 same-lines [] (r ∷ rs) pool pool′ i i′ b b′ f f′ e = absurd (not-none r rs pool′ (sym e))
 same-lines (r ∷ rs) [] pool pool′ i i′ b b′ f f′ e = absurd (not-none r rs pool e)
 same-lines (r ∷ rs) (r′ ∷ rs′) pool pool′ (i, is) (i′, is′) b b′ (f, fs) (f′, fs′) e =
-    let q = sym (append-assoc (line r pool) (10 ∷ []) (lines rs pool)) ∙ e ∙ append-assoc (line r′ pool′) (10 ∷ []) (lines rs′ pool′) in
-    let p = first-line (line r pool) (line r′ pool′) (lines rs pool) (lines rs′ pool′) (line-plain r pool) (line-plain r′ pool′) q in
+    let q = sym (append-assoc (line r pool) (10 ∷ []) (joined-lines rs pool)) ∙ e ∙ append-assoc (line r′ pool′) (10 ∷ []) (joined-lines rs′ pool′) in
+    let p = first-line (line r pool) (line r′ pool′) (joined-lines rs pool) (joined-lines rs′ pool′) (line-plain r pool) (line-plain r′ pool′) q in
     ap₂ (λ (m : Meaning) (ms : List Meaning). m ∷ ms)
     (same-meaning (meant r pool) (meant r′ pool′) (sayable r pool i b f) (sayable r′ pool′ i′ b′ f′) (p .0))
     (same-lines rs rs′ pool pool′ is is′ b b′ fs fs′ (p .1))

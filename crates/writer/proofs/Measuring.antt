@@ -13,7 +13,7 @@ use Rattle.record.specs.Record.{meant}
 use Rattle.record.specs.Written.{kind-of, address-of, payload-of}
 use Rattle.record.proofs.Writing.{written-length}
 use Rattle.writer.specs.Told.{wrote, refuses}
-use Rattle.writer.specs.Text.{behind}
+use Rattle.writer.specs.Text.{place-behind}
 use Rattle.writer.specs.Line.{line-text}
 use Rattle.writer.specs.Claims.{Line-length}
 
@@ -25,31 +25,31 @@ pub line-length : Line-length
 line-length r pool = written-length (kind-of (meant r pool)) (address-of (meant r pool)) (payload-of (meant r pool))
 
 module _ (offset at len : ℕ) (pool : List ℕ) where
-  pub outside : length pool < at + len → refuses payload-outside-pool ≡ behind (line-text (Data offset at len) pool) 0
+  pub outside : length pool < at + len → refuses payload-outside-pool ≡ place-behind (line-text (Data offset at len) pool) 0
   outside h = rw (lt-leb (at + len) (length pool) h)
 
   module _ (inside : at + len ≤ length pool) where
-    pub too-long : 255 < len → refuses (data-exceeds-maximum-length len) ≡ behind (line-text (Data offset at len) pool) 0
+    pub too-long : 255 < len → refuses (data-exceeds-maximum-length len) ≡ place-behind (line-text (Data offset at len) pool) 0
     too-long h = rw (le-leb (at + len) (length pool) inside, lt-leb len 255 h)
 
-    pub fits-line : len ≤ 255 → wrote (11 + 2 * len) ≡ behind (line-text (Data offset at len) pool) 0
+    pub fits-line : len ≤ 255 → wrote (11 + 2 * len) ≡ place-behind (line-text (Data offset at len) pool) 0
     fits-line h =
         let n = part-length pool at len inside in
         let l = line-length (Data offset at len) pool in
         rw (le-leb (at + len) (length pool) inside, le-leb len 255 h) (ap wrote (omega arith))
 
 -- the others are as long as their type says
-pub plain-end : (pool : List ℕ) → wrote 11 ≡ behind (line-text EndOfFile pool) 0
+pub plain-end : (pool : List ℕ) → wrote 11 ≡ place-behind (line-text EndOfFile pool) 0
 plain-end pool = ap wrote (let l = line-length EndOfFile pool in omega arith)
 
-pub plain-segment : (pool : List ℕ) (a : ℕ) → wrote 15 ≡ behind (line-text (ExtendedSegmentAddress a) pool) 0
+pub plain-segment : (pool : List ℕ) (a : ℕ) → wrote 15 ≡ place-behind (line-text (ExtendedSegmentAddress a) pool) 0
 plain-segment pool a = ap wrote (let l = line-length (ExtendedSegmentAddress a) pool in omega arith)
 
-pub plain-start : (pool : List ℕ) (cs ip : ℕ) → wrote 19 ≡ behind (line-text (StartSegmentAddress cs ip) pool) 0
+pub plain-start : (pool : List ℕ) (cs ip : ℕ) → wrote 19 ≡ place-behind (line-text (StartSegmentAddress cs ip) pool) 0
 plain-start pool cs ip = ap wrote (let l = line-length (StartSegmentAddress cs ip) pool in omega arith)
 
-pub plain-linear : (pool : List ℕ) (a : ℕ) → wrote 15 ≡ behind (line-text (ExtendedLinearAddress a) pool) 0
+pub plain-linear : (pool : List ℕ) (a : ℕ) → wrote 15 ≡ place-behind (line-text (ExtendedLinearAddress a) pool) 0
 plain-linear pool a = ap wrote (let l = line-length (ExtendedLinearAddress a) pool in omega arith)
 
-pub plain-long : (pool : List ℕ) (a : ℕ) → wrote 19 ≡ behind (line-text (StartLinearAddress a) pool) 0
+pub plain-long : (pool : List ℕ) (a : ℕ) → wrote 19 ≡ place-behind (line-text (StartLinearAddress a) pool) 0
 plain-long pool a = ap wrote (let l = line-length (StartLinearAddress a) pool in omega arith)

@@ -15,8 +15,8 @@ use Rattle.record.specs.declared.Record.{Record}
 use Rattle.record.proofs.Tests.{branch}
 use Rattle.record.proofs.Choices.{or-else-none, or-else-assoc}
 use Rattle.writer.specs.Text.{chars, refused, unless}
-use Rattle.writer.specs.Line.{fault, ended-line}
-use Rattle.writer.specs.Object.{is-end, ends, ends-in-end, first-fault, lines, object}
+use Rattle.writer.specs.Line.{line-refusal, ended-line}
+use Rattle.writer.specs.Object.{is-end, ends, ends-in-end, first-refusal, joined-lines, object}
 use Rattle.writer.specs.Claims.{Object-whole}
 
 pub ends-snoc : (rs : List Record) (r : Record) → ends (rs ++ (r ∷ [])) ≡ ends rs + (if is-end r then 1 else 0)
@@ -35,25 +35,25 @@ ends-in-end-snoc [] r = refl
 ends-in-end-snoc (q ∷ []) r = refl
 ends-in-end-snoc (q ∷ p ∷ rs) r = ends-in-end-snoc (p ∷ rs) r
 
-pub first-fault-snoc : (rs : List Record) (r : Record) (n : ℕ) → first-fault (rs ++ (r ∷ [])) n ≡ or-else (first-fault rs n) (fault r n)
-unfolding first-fault
-first-fault-snoc [] r n = or-else-none (fault r n)
-first-fault-snoc (q ∷ rs) r n = ap (or-else (fault q n)) (first-fault-snoc rs r n) ∙ sym (or-else-assoc (fault q n) (first-fault rs n) (fault r n))
+pub first-fault-snoc : (rs : List Record) (r : Record) (n : ℕ) → first-refusal (rs ++ (r ∷ [])) n ≡ or-else (first-refusal rs n) (line-refusal r n)
+unfolding first-refusal
+first-fault-snoc [] r n = or-else-none (line-refusal r n)
+first-fault-snoc (q ∷ rs) r n = ap (or-else (line-refusal q n)) (first-fault-snoc rs r n) ∙ sym (or-else-assoc (line-refusal q n) (first-refusal rs n) (line-refusal r n))
 
-pub lines-snoc : (rs : List Record) (r : Record) (pool : List ℕ) → lines (rs ++ (r ∷ [])) pool ≡ lines rs pool ++ ended-line r pool
-unfolding lines
+pub lines-snoc : (rs : List Record) (r : Record) (pool : List ℕ) → joined-lines (rs ++ (r ∷ [])) pool ≡ joined-lines rs pool ++ ended-line r pool
+unfolding joined-lines
 lines-snoc [] r pool = append-nil (ended-line r pool)
-lines-snoc (q ∷ rs) r pool = ap (λ (l : List ℕ). ended-line q pool ++ l) (lines-snoc rs r pool) ∙ sym (append-assoc (ended-line q pool) (lines rs pool) (ended-line r pool))
+lines-snoc (q ∷ rs) r pool = ap (λ (l : List ℕ). ended-line q pool ++ l) (lines-snoc rs r pool) ∙ sym (append-assoc (ended-line q pool) (joined-lines rs pool) (ended-line r pool))
 
 -- none of two faults is none of each
 pub or-else-both : (f g : Option Refusal) → or-else f g ≡ none → (f ≡ none) × (g ≡ none)
 or-else-both none g e = (refl, e)
 or-else-both (some r) g e = let z : _≡_ {A = ℕ} 0 1 = cc in absurd (omega arith)
 
-every-fine : (rs : List Record) (n : ℕ) → first-fault rs n ≡ none → Every (λ r. fault r n ≡ none) rs
-unfolding first-fault
+every-fine : (rs : List Record) (n : ℕ) → first-refusal rs n ≡ none → Every (λ r. line-refusal r n ≡ none) rs
+unfolding first-refusal
 every-fine [] n e = tt
-every-fine (r ∷ rs) n e = let p = or-else-both (fault r n) (first-fault rs n) e in (p .0, every-fine rs n (p .1))
+every-fine (r ∷ rs) n e = let p = or-else-both (line-refusal r n) (first-refusal rs n) e in (p .0, every-fine rs n (p .1))
 
 -- an object with a text
 pub unless-chars : (f : Option Refusal) (ds cs : List ℕ) → unless f ds ≡ chars cs → (f ≡ none) × (cs ≡ ds)
@@ -70,18 +70,18 @@ one-at-least (r ∷ q ∷ rs) e = let i = one-at-least (q ∷ rs) e in omega ari
 pub record Parts (rs : List Record) (pool cs : List ℕ) : Type 0 where
   pub ended : ends-in-end rs ≡ true
   pub few : ltb 1 (ends rs) ≡ false
-  pub fine : first-fault rs (length pool) ≡ none
-  pub lined : cs ≡ lines rs pool
+  pub fine : first-refusal rs (length pool) ≡ none
+  pub lined : cs ≡ joined-lines rs pool
 
 pub parts : (rs : List Record) (pool cs : List ℕ) → object rs pool ≡ chars cs → Parts rs pool cs
 unfolding object
 parts rs pool cs = go (ends-in-end rs) (ltb 1 (ends rs)) refl refl
   where
     go : (b c : Bool) → ends-in-end rs ≡ b → ltb 1 (ends rs) ≡ c
-        → (if b then (if c then refused (multiple-end-of-file-records (ends rs)) else unless (first-fault rs (length pool)) (lines rs pool)) else refused missing-end-of-file-record) ≡ chars cs
+        → (if b then (if c then refused (multiple-end-of-file-records (ends rs)) else unless (first-refusal rs (length pool)) (joined-lines rs pool)) else refused missing-end-of-file-record) ≡ chars cs
         → Parts rs pool cs
     go true true e f q = let z : _≡_ {A = ℕ} 0 1 = cc in absurd (omega arith)
-    go true false e f q = let p = unless-chars (first-fault rs (length pool)) (lines rs pool) cs q in record { ended = e; few = f; fine = p .0; lined = p .1 }
+    go true false e f q = let p = unless-chars (first-refusal rs (length pool)) (joined-lines rs pool) cs q in record { ended = e; few = f; fine = p .0; lined = p .1 }
     go false c e f q = let z : _≡_ {A = ℕ} 0 1 = cc in absurd (omega arith)
 
 pub object-whole : Object-whole

@@ -15,7 +15,7 @@ use Rattle.record.specs.declared.Record.{Record}
 use Rattle.record.specs.declared.Record.the-variants.{Data}
 use Rattle.record.specs.Record.{meant}
 use Rattle.record.specs.Written.{written, payload-of, two-bytes}
-use Rattle.writer.specs.Line.{fault, line}
+use Rattle.writer.specs.Line.{line-refusal, line}
 use Rattle.writer.specs.Helpers.{Fitting, Ready}
 use Rattle.writer.proofs.Measuring.{line-length}
 
@@ -25,7 +25,7 @@ both-hold true false r s e = let z : _≡_ {A = ℕ} 0 1 = cc in absurd (omega a
 both-hold false c r s e = let z : _≡_ {A = ℕ} 0 1 = cc in absurd (omega arith)
 
 -- the payload of a data record that has a line lies in the pool, and is not too long
-pub fine-data : (offset at len n : ℕ) → fault (Data offset at len) n ≡ none → (at + len ≤ n) × (len ≤ 255)
+pub fine-data : (offset at len n : ℕ) → line-refusal (Data offset at len) n ≡ none → (at + len ≤ n) × (len ≤ 255)
 fine-data offset at len n e =
     let p = both-hold (leb (at + len) n) (leb len 255) _ _ e in
     (leb-true (at + len) n (p .0), leb-true len 255 (p .1))

@@ -15,9 +15,9 @@ use Rattle.record.specs.declared.Record.{Record}
 use Rattle.writer.specs.declared.Written.{Written}
 use Rattle.writer.specs.declared.Written.the-variants.{Wrote, Refused}
 use Rattle.writer.specs.Told.{wrote, refuses, told}
-use Rattle.writer.specs.Text.{Text, chars, refused, unless, behind, within, Writes}
-use Rattle.writer.specs.Line.{fault, ended-line, WriteNext}
-use Rattle.writer.specs.Object.{first-fault, lines, object, WriteObject}
+use Rattle.writer.specs.Text.{Text, chars, refused, unless, place-behind, if-room, Writes}
+use Rattle.writer.specs.Line.{line-refusal, ended-line, WriteNext}
+use Rattle.writer.specs.Object.{first-refusal, joined-lines, object, WriteObject}
 use Rattle.writer.specs.Survey.{begun}
 use Rattle.writer.specs.Claims.{Steps, no-step, then-step, Object-written}
 use Rattle.record.proofs.Pasting.{pasted-none, pasted-length, pasted-on}
@@ -50,25 +50,25 @@ there-next none cs out at w out′ t h n =
     (rw e at (n .answer), rw e at (n .left))
 
 step-on : (w : Written) (x : Record) (pool out : List ℕ) (at : ℕ) (w′ : Written) (out′ : List ℕ)
-    → told w ≡ wrote at → fault x (length pool) ≡ none → at + length (ended-line x pool) ≤ length out
+    → told w ≡ wrote at → line-refusal x (length pool) ≡ none → at + length (ended-line x pool) ≤ length out
     → WriteNext w x pool out w′ out′ → (told w′ ≡ wrote (at + length (ended-line x pool))) × (out′ ≡ pasted out at (ended-line x pool))
 step-on (Wrote k) x pool out at w′ out′ e t h n =
     let same : k ≡ at = cc in
-    there-next (fault x (length pool)) (ended-line x pool) out at w′ out′ t h (subst (λ (m : ℕ). WriteNext (Wrote m) x pool out w′ out′) same n)
+    there-next (line-refusal x (length pool)) (ended-line x pool) out at w′ out′ t h (subst (λ (m : ℕ). WriteNext (Wrote m) x pool out w′ out′) same n)
 step-on (Refused q) x pool out at w′ out′ e t h n = let z : _≡_ {A = ℕ} 0 1 = cc in absurd (omega arith)
 
 -- the records so far are written
 abbrev Done : (rs : List Record) (pool out : List ℕ) (w : Written) (out′ : List ℕ) → Type 0
-Done rs pool out w out′ = (told w ≡ wrote (length (lines rs pool))) × (out′ ≡ pasted out 0 (lines rs pool))
+Done rs pool out w out′ = (told w ≡ wrote (length (joined-lines rs pool))) × (out′ ≡ pasted out 0 (joined-lines rs pool))
 
 done-more : (rs : List Record) (x : Record) (pool out : List ℕ) (w w′ : Written) (out₁ out₂ : List ℕ)
-    → Done rs pool out w out₁ → fault x (length pool) ≡ none → length (lines (rs ++ (x ∷ [])) pool) ≤ length out
+    → Done rs pool out w out₁ → line-refusal x (length pool) ≡ none → length (joined-lines (rs ++ (x ∷ [])) pool) ≤ length out
     → WriteNext w x pool out₁ w′ out₂ → Done (rs ++ (x ∷ [])) pool out w′ out₂
 done-more rs x pool out w w′ out₁ out₂ d t h n =
-    let cs = lines rs pool in
+    let cs = joined-lines rs pool in
     let ds = ended-line x pool in
     let l = lines-snoc rs x pool in
-    let m : length (lines (rs ++ (x ∷ [])) pool) ≡ length cs + length ds = ap length l ∙ length-append cs ds in
+    let m : length (joined-lines (rs ++ (x ∷ [])) pool) ≡ length cs + length ds = ap length l ∙ length-append cs ds in
     let room : 0 + length cs ≤ length out = omega arith in
     let same : length out₁ ≡ length out = ap length (d .1) ∙ pasted-length out 0 cs room in
     let s = step-on w x pool out₁ (length cs) w′ out₂ (d .0) t (omega arith) n in (
@@ -80,14 +80,14 @@ done-more rs x pool out w w′ out₁ out₂ d t h n =
     )
 
 gone : {rs : List Record} {w : Written} {out′ : List ℕ} (pool out : List ℕ) (start : Written) → told start ≡ wrote 0
-    → Steps pool out start rs w out′ → first-fault rs (length pool) ≡ none → length (lines rs pool) ≤ length out → Done rs pool out w out′
-unfolding lines
+    → Steps pool out start rs w out′ → first-refusal rs (length pool) ≡ none → length (joined-lines rs pool) ≤ length out → Done rs pool out w out′
+unfolding joined-lines
 gone pool out start e no-step f h = (e, sym (pasted-none out 0))
 gone pool out start e (then-step {rs} {whole} x {w} {w′} {out₁} out₂ v n q) f h =
-    let f′ : first-fault (rs ++ (x ∷ [])) (length pool) ≡ none = rw q at f in
-    let h′ : length (lines (rs ++ (x ∷ [])) pool) ≤ length out = rw q at h in
-    let p = or-else-both (first-fault rs (length pool)) (fault x (length pool)) (sym (first-fault-snoc rs x (length pool)) ∙ f′) in
-    let m = ap length (lines-snoc rs x pool) ∙ length-append (lines rs pool) (ended-line x pool) in
+    let f′ : first-refusal (rs ++ (x ∷ [])) (length pool) ≡ none = rw q at f in
+    let h′ : length (joined-lines (rs ++ (x ∷ [])) pool) ≤ length out = rw q at h in
+    let p = or-else-both (first-refusal rs (length pool)) (line-refusal x (length pool)) (sym (first-fault-snoc rs x (length pool)) ∙ f′) in
+    let m = ap length (lines-snoc rs x pool) ∙ length-append (joined-lines rs pool) (ended-line x pool) in
     rw q (done-more rs x pool out w w′ out₁ out₂ (gone pool out start e v (p .0) (omega arith)) (p .1) h′ n)
 
 -- ---- the whole
@@ -101,14 +101,14 @@ object-written rs pool out s start w out′ few small v b t =
     fits cs e true l q =
         let p = parts rs pool cs e in
         let k = leb-true (0 + length cs) (length out) l in
-        let n : length (lines rs pool) ≡ length cs = ap length (sym (p .lined)) in
+        let n : length (joined-lines rs pool) ≡ length cs = ap length (sym (p .lined)) in
         let d = gone pool out start q t (p .fine) (omega arith) in
-        let z : length (lines rs pool) ≡ 0 + length cs = omega arith in
+        let z : length (joined-lines rs pool) ≡ 0 + length cs = omega arith in
         rw e (record { answer = rw l (d .0 ∙ ap wrote z); left = rw l (d .1 ∙ ap (pasted out 0) (sym (p .lined))) })
     fits cs e false l q =
         let d = stuck pool out start output-full q t in
         rw e (record { answer = rw l (d .0); left = rw l (d .1) })
 
-    go : (x : Text) → object rs pool ≡ x → told start ≡ begun (within (behind x 0) (length out)) → WriteObject rs pool out w out′
+    go : (x : Text) → object rs pool ≡ x → told start ≡ begun (if-room (place-behind x 0) (length out)) → WriteObject rs pool out w out′
     go (chars cs) e q = fits cs e (leb (0 + length cs) (length out)) refl q
     go (refused r) e q = let d = stuck pool out start r q t in rw e (record { answer = d .0; left = d .1 })

@@ -15,10 +15,10 @@ use Rattle.record.specs.declared.Record.{Record}
 use Rattle.record.proofs.Tests.{split}
 use Rattle.writer.specs.declared.Survey.{Survey}
 use Rattle.writer.specs.Told.{Told, wrote, refuses, told}
-use Rattle.writer.specs.Text.{refused, unless, behind, within}
-use Rattle.writer.specs.Line.{fault, line, ended-line}
-use Rattle.writer.specs.Object.{is-end, ends, ends-in-end, first-fault, lines, object}
-use Rattle.writer.specs.Survey.{New, Add, most, cap, longer, surveyed}
+use Rattle.writer.specs.Text.{refused, unless, place-behind, if-room}
+use Rattle.writer.specs.Line.{line-refusal, line, ended-line}
+use Rattle.writer.specs.Object.{is-end, ends, ends-in-end, first-refusal, joined-lines, object}
+use Rattle.writer.specs.Survey.{SurveyNew, SurveyAdd, most, cap, longer, surveyed}
 use Rattle.writer.specs.Claims.{Surveys, at-first, then-add, Survey-answers}
 use Rattle.writer.proofs.Objects.{ends-snoc, ends-most, ends-in-end-snoc, first-fault-snoc, lines-snoc}
 
@@ -55,13 +55,13 @@ sized (some r) n = refuses r
 record Kept (rs : List Record) (pool : List ℕ) (s : Survey) : Type 0 where
   pub ends : s .ends ≡ cap (ends rs)
   pub ended : s .ended ≡ ends-in-end rs
-  pub total : told (s .total) ≡ sized (first-fault rs (length pool)) (length (lines rs pool))
+  pub total : told (s .total) ≡ sized (first-refusal rs (length pool)) (length (joined-lines rs pool))
 
 counted : (b : Bool) (k x : ℕ) → x ≡ cap k → (if b then cap (x + 1) else x) ≡ cap (k + (if b then 1 else 0))
 counted true k x e = ap (λ (y : ℕ). cap (y + 1)) e ∙ cap-first k 1
 counted false k x e = let z : k ≡ k + 0 = omega arith in e ∙ ap cap z
 
-lengthened : (f g : Option Refusal) (k : ℕ) (cs : List ℕ) → longer (sized f k) (behind (unless g cs) 0) ≡ sized (or-else f g) (k + (length cs + 1))
+lengthened : (f g : Option Refusal) (k : ℕ) (cs : List ℕ) → longer (sized f k) (place-behind (unless g cs) 0) ≡ sized (or-else f g) (k + (length cs + 1))
 unfolding longer
 lengthened none none k cs =
     let z : cap k + (0 + length cs + 1) ≡ cap k + (length cs + 1) = omega arith in
@@ -69,17 +69,17 @@ lengthened none none k cs =
 lengthened none (some r) k cs = refl
 lengthened (some r) g k cs = refl
 
-kept-none : (pool : List ℕ) (s : Survey) → New s → Kept [] pool s
-unfolding ends ends-in-end first-fault lines
+kept-none : (pool : List ℕ) (s : Survey) → SurveyNew s → Kept [] pool s
+unfolding ends ends-in-end first-refusal joined-lines
 kept-none pool s x =
     let z = cap-below 0 (omega arith) in
     record { ends = x .ends ∙ sym z; ended = x .ended; total = x .total ∙ ap wrote (sym z) }
 
-kept-more : (rs : List Record) (r : Record) (pool : List ℕ) (s t : Survey) → Kept rs pool s → Add s r pool t → Kept (rs ++ (r ∷ [])) pool t
+kept-more : (rs : List Record) (r : Record) (pool : List ℕ) (s t : Survey) → Kept rs pool s → SurveyAdd s r pool t → Kept (rs ++ (r ∷ [])) pool t
 kept-more rs r pool s t k a =
-    let n : length (lines rs pool) + (length (line r pool) + 1) ≡ length (lines (rs ++ (r ∷ [])) pool) =
+    let n : length (joined-lines rs pool) + (length (line r pool) + 1) ≡ length (joined-lines (rs ++ (r ∷ [])) pool) =
     let l = ap length (lines-snoc rs r pool) in
-    let m = length-append (lines rs pool) (ended-line r pool) in
+    let m = length-append (joined-lines rs pool) (ended-line r pool) in
     let o = length-append (line r pool) (10 ∷ []) in
     omega arith in
     record {
@@ -87,8 +87,8 @@ kept-more rs r pool s t k a =
       ended = a .ended ∙ sym (ends-in-end-snoc rs r);
       total =
           a .total
-          ∙ ap (λ (w : Told). longer w (behind (unless (fault r (length pool)) (line r pool)) 0)) (k .total)
-          ∙ lengthened (first-fault rs (length pool)) (fault r (length pool)) (length (lines rs pool)) (line r pool)
+          ∙ ap (λ (w : Told). longer w (place-behind (unless (line-refusal r (length pool)) (line r pool)) 0)) (k .total)
+          ∙ lengthened (first-refusal rs (length pool)) (line-refusal r (length pool)) (length (joined-lines rs pool)) (line r pool)
           ∙ rw (first-fault-snoc rs r (length pool), n);
     }
 
@@ -99,19 +99,19 @@ kept pool (then-add {rs} {whole} {r} {s} {t} v a e) = rw e (kept-more rs r pool 
 -- ---- what is answered
 
 -- a length that is capped does not fit where the length does not
-roomy : (n room : ℕ) → room < most → within (wrote (cap n)) room ≡ within (wrote n) room
+roomy : (n room : ℕ) → room < most → if-room (wrote (cap n)) room ≡ if-room (wrote n) room
 roomy n room h =
     split n most
-    (λ k. ap (λ (m : ℕ). within (wrote m) room) (cap-below n k))
-    (λ k. ap (λ (m : ℕ). within (wrote m) room) (cap-above n (omega arith)) ∙ rw (lt-leb most room h, lt-leb n room (omega arith)))
+    (λ k. ap (λ (m : ℕ). if-room (wrote m) room) (cap-below n k))
+    (λ k. ap (λ (m : ℕ). if-room (wrote m) room) (cap-above n (omega arith)) ∙ rw (lt-leb most room h, lt-leb n room (omega arith)))
 
-measured : (f : Option Refusal) (cs : List ℕ) (room : ℕ) → room < most → within (sized f (length cs)) room ≡ within (behind (unless f cs) 0) room
-measured none cs room h = let z : length cs ≡ 0 + length cs = omega arith in roomy (length cs) room h ∙ ap (λ (m : ℕ). within (wrote m) room) z
+measured : (f : Option Refusal) (cs : List ℕ) (room : ℕ) → room < most → if-room (sized f (length cs)) room ≡ if-room (place-behind (unless f cs) 0) room
+measured none cs room h = let z : length cs ≡ 0 + length cs = omega arith in roomy (length cs) room h ∙ ap (λ (m : ℕ). if-room (wrote m) room) z
 measured (some r) cs room h = refl
 
 -- the tests of the survey and of the object are the same
 pub answered : (rs : List Record) (pool : List ℕ) (s : Survey) (room : ℕ) → length rs ≤ most → room < most → Surveys pool rs s
-    → surveyed s room ≡ within (behind (object rs pool) 0) room
+    → surveyed s room ≡ if-room (place-behind (object rs pool) 0) room
 unfolding object
 answered rs pool s room few small v =
     let k = kept pool v in
@@ -119,10 +119,10 @@ answered rs pool s room few small v =
     rw (k .ended, n, k .total) (go (ends-in-end rs) (ltb 1 (ends rs)))
   where
     go : (b c : Bool)
-        → (if b then (if c then refuses (multiple-end-of-file-records (ends rs)) else within (sized (first-fault rs (length pool)) (length (lines rs pool))) room) else refuses missing-end-of-file-record)
-        ≡ within (behind (if b then (if c then refused (multiple-end-of-file-records (ends rs)) else unless (first-fault rs (length pool)) (lines rs pool)) else refused missing-end-of-file-record) 0) room
+        → (if b then (if c then refuses (multiple-end-of-file-records (ends rs)) else if-room (sized (first-refusal rs (length pool)) (length (joined-lines rs pool))) room) else refuses missing-end-of-file-record)
+        ≡ if-room (place-behind (if b then (if c then refused (multiple-end-of-file-records (ends rs)) else unless (first-refusal rs (length pool)) (joined-lines rs pool)) else refused missing-end-of-file-record) 0) room
     go true true = refl
-    go true false = measured (first-fault rs (length pool)) (lines rs pool) room small
+    go true false = measured (first-refusal rs (length pool)) (joined-lines rs pool) room small
     go false c = refl
 
 pub survey-answers : Survey-answers

@@ -21,10 +21,10 @@ use Rattle.writer.specs.declared.Written.{Written}
 use Rattle.writer.specs.declared.Written.the-variants.{Wrote, Refused}
 use Rattle.writer.specs.declared.Survey.{Survey}
 use Rattle.writer.specs.Told.{told}
-use Rattle.writer.specs.Text.{Text, chars, refused, behind, within, Writes}
-use Rattle.writer.specs.Line.{fault, line, line-text, ToRecordString, WriteStep, WriteNext}
-use Rattle.writer.specs.Object.{ends, ends-in-end, lines, object, WriteObject}
-use Rattle.writer.specs.Survey.{New, Add, Answer, Begin, most}
+use Rattle.writer.specs.Text.{Text, chars, refused, place-behind, if-room, Writes}
+use Rattle.writer.specs.Line.{line-refusal, line, line-text, ToRecordString, WriteStep, WriteNext}
+use Rattle.writer.specs.Object.{ends, ends-in-end, joined-lines, object, WriteObject}
+use Rattle.writer.specs.Survey.{SurveyNew, SurveyAdd, SurveyAnswer, SurveyBegin, most}
 
 -- ---- one record
 
@@ -80,8 +80,8 @@ Rest-untouched =
 
 -- an object that has a text: each record has its line, the text is the lines, each with its LF, and the one end is the last
 pub record Whole (rs : List Record) (pool cs : List ℕ) : Type 0 where
-  pub fine : Every (λ r. fault r (length pool) ≡ none) rs
-  pub lined : cs ≡ lines rs pool
+  pub fine : Every (λ r. line-refusal r (length pool) ≡ none) rs
+  pub lined : cs ≡ joined-lines rs pool
   pub ended : ends-in-end rs ≡ true
   pub one : ends rs ≡ 1
 
@@ -96,14 +96,14 @@ Object-injective =
 
 -- the survey that calls of `add` make of a list of records, in order
 pub data Surveys (pool : List ℕ) : List Record → Survey → Type 0 where
-  at-first : {s : Survey} → New s → Surveys pool [] s
-  then-add : {rs whole : List Record} {r : Record} {s t : Survey} → Surveys pool rs s → Add s r pool t → whole ≡ rs ++ (r ∷ []) → Surveys pool whole t
+  at-first : {s : Survey} → SurveyNew s → Surveys pool [] s
+  then-add : {rs whole : List Record} {r : Record} {s t : Survey} → Surveys pool rs s → SurveyAdd s r pool t → whole ≡ rs ++ (r ∷ []) → Surveys pool whole t
 
 -- it answers what the definition of an object says
 abbrev pub Survey-answers : Type 0
 Survey-answers =
     (rs : List Record) (pool : List ℕ) (s : Survey) (room : ℕ) (a : Written) → length rs ≤ most → room < most
-    → Surveys pool rs s → Answer s room a → told a ≡ within (behind (object rs pool) 0) room
+    → Surveys pool rs s → SurveyAnswer s room a → told a ≡ if-room (place-behind (object rs pool) 0) room
 
 -- what calls of `write_next` leave of an output, and their last answer
 pub data Steps (pool out : List ℕ) (start : Written) : List Record → Written → (out′ : List ℕ) → Type 0 where
@@ -115,7 +115,7 @@ pub data Steps (pool out : List ℕ) (start : Written) : List Record → Written
 abbrev pub Object-written : Type 0
 Object-written =
     (rs : List Record) (pool out : List ℕ) (s : Survey) (start w : Written) (out′ : List ℕ) → length rs ≤ most → length out < most
-    → Surveys pool rs s → Begin s (length out) start → Steps pool out start rs w out′ → WriteObject rs pool out w out′
+    → Surveys pool rs s → SurveyBegin s (length out) start → Steps pool out start rs w out′ → WriteObject rs pool out w out′
 
 -- ---- examples
 
@@ -146,16 +146,16 @@ Write-next-unique =
     → WriteNext done x pool out r o → WriteNext done x pool out r′ o′ → (r ≡ r′) × (o ≡ o′)
 
 abbrev pub New-unique : Type 0
-New-unique = (r r′ : Survey) → New r → New r′ → r ≡ r′
+New-unique = (r r′ : Survey) → SurveyNew r → SurveyNew r′ → r ≡ r′
 
 abbrev pub Add-unique : Type 0
-Add-unique = (s : Survey) (x : Record) (pool : List ℕ) (r r′ : Survey) → Add s x pool r → Add s x pool r′ → r ≡ r′
+Add-unique = (s : Survey) (x : Record) (pool : List ℕ) (r r′ : Survey) → SurveyAdd s x pool r → SurveyAdd s x pool r′ → r ≡ r′
 
 abbrev pub Answer-unique : Type 0
-Answer-unique = (s : Survey) (room : ℕ) (r r′ : Written) → Answer s room r → Answer s room r′ → r ≡ r′
+Answer-unique = (s : Survey) (room : ℕ) (r r′ : Written) → SurveyAnswer s room r → SurveyAnswer s room r′ → r ≡ r′
 
 abbrev pub Begin-unique : Type 0
-Begin-unique = (s : Survey) (room : ℕ) (r r′ : Written) → Begin s room r → Begin s room r′ → r ≡ r′
+Begin-unique = (s : Survey) (room : ℕ) (r r′ : Written) → SurveyBegin s room r → SurveyBegin s room r′ → r ≡ r′
 
 abbrev pub Create-object-file-representation-unique : Type 0
 Create-object-file-representation-unique =

@@ -9,7 +9,7 @@ use Rattle.checksum.specs.Checksum.{sum}
 use Rattle.record.specs.Common.{pasted}
 use Rattle.record.specs.declared.Record.{Record}
 use Rattle.record.specs.Written.{spelt}
-use Rattle.writer.specs.Line.{fault, line}
+use Rattle.writer.specs.Line.{line-refusal, line}
 
 -- the bytes of a line before its payload
 abbrev pub front : (n address kind : ℕ) → List ℕ
@@ -32,5 +32,5 @@ pub record Fitting (payload out : List ℕ) (at : ℕ) : Type 0 where
 
 -- a record that has a line, which fits at the place
 pub record Ready (r : Record) (pool out : List ℕ) (at : ℕ) : Type 0 where
-  pub fine : fault r (length pool) ≡ none
+  pub fine : line-refusal r (length pool) ≡ none
   pub room : at + length (line r pool) ≤ length out

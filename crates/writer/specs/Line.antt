@@ -17,16 +17,16 @@ use Rattle.writer.specs.Told.{refusal-of}
 use Rattle.writer.specs.Text.{Text, refused, unless, Writes}
 
 -- why a record has no line, over a pool of n bytes
-abbrev pub fault : Record → (n : ℕ) → Option Refusal
-fault (Data offset at len) n =
+abbrev pub line-refusal : Record → (n : ℕ) → Option Refusal
+line-refusal (Data offset at len) n =
     if leb (at + len) n
     then (if leb len 255 then none else some (data-exceeds-maximum-length len))
     else some payload-outside-pool
-fault EndOfFile n = none
-fault (ExtendedSegmentAddress a) n = none
-fault (StartSegmentAddress cs ip) n = none
-fault (ExtendedLinearAddress a) n = none
-fault (StartLinearAddress a) n = none
+line-refusal EndOfFile n = none
+line-refusal (ExtendedSegmentAddress a) n = none
+line-refusal (StartSegmentAddress cs ip) n = none
+line-refusal (ExtendedLinearAddress a) n = none
+line-refusal (StartLinearAddress a) n = none
 
 -- the line of a record whose payload lies in the pool
 abbrev pub line : Record → (pool : List ℕ) → List ℕ
@@ -37,10 +37,10 @@ abbrev pub ended-line : Record → (pool : List ℕ) → List ℕ
 ended-line r pool = line r pool ++ (10 ∷ [])
 
 abbrev pub line-text : Record → (pool : List ℕ) → Text
-line-text r pool = unless (fault r (length pool)) (line r pool)
+line-text r pool = unless (line-refusal r (length pool)) (line r pool)
 
 abbrev pub step-text : Record → (pool : List ℕ) → Text
-step-text r pool = unless (fault r (length pool)) (ended-line r pool)
+step-text r pool = unless (line-refusal r (length pool)) (ended-line r pool)
 
 -- the contract of `to_record_string`
 abbrev pub ToRecordString : Record → (pool out : List ℕ) → Written → (out′ : List ℕ) → Type 0

@@ -12,7 +12,7 @@ use Rattle.record.specs.declared.Record.{Record}
 use Rattle.record.specs.Record.{type-of}
 use Rattle.writer.specs.declared.Written.{Written}
 use Rattle.writer.specs.Text.{Text, refused, unless, Writes}
-use Rattle.writer.specs.Line.{fault, ended-line}
+use Rattle.writer.specs.Line.{line-refusal, ended-line}
 
 abbrev pub is-end : Record → Bool
 is-end r = eqb (type-of r) 1
@@ -29,21 +29,21 @@ ends-in-end (r ∷ []) = is-end r
 ends-in-end (r ∷ q ∷ rs) = ends-in-end (q ∷ rs)
 
 -- why the first record without a line has none
-unfoldable pub first-fault : List Record → (n : ℕ) → Option Refusal
-first-fault [] n = none
-first-fault (r ∷ rs) n = or-else (fault r n) (first-fault rs n)
+unfoldable pub first-refusal : List Record → (n : ℕ) → Option Refusal
+first-refusal [] n = none
+first-refusal (r ∷ rs) n = or-else (line-refusal r n) (first-refusal rs n)
 
 -- the lines of all records, each with its LF
-unfoldable pub lines : List Record → (pool : List ℕ) → List ℕ
-lines [] pool = []
-lines (r ∷ rs) pool = ended-line r pool ++ lines rs pool
+unfoldable pub joined-lines : List Record → (pool : List ℕ) → List ℕ
+joined-lines [] pool = []
+joined-lines (r ∷ rs) pool = ended-line r pool ++ joined-lines rs pool
 
 unfoldable pub object : List Record → (pool : List ℕ) → Text
-unfolding ends ends-in-end first-fault lines
+unfolding ends ends-in-end first-refusal joined-lines
 object rs pool =
     if ends-in-end rs
     then (if ltb 1 (ends rs) then refused (multiple-end-of-file-records (ends rs)) else
-    unless (first-fault rs (length pool)) (lines rs pool))
+    unless (first-refusal rs (length pool)) (joined-lines rs pool))
     else refused missing-end-of-file-record
 
 -- what a writer of an object answers, and leaves in the output

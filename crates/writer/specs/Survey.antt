@@ -11,7 +11,7 @@ use Rattle.record.specs.declared.Record.{Record}
 use Rattle.writer.specs.declared.Written.{Written}
 use Rattle.writer.specs.declared.Survey.{Survey}
 use Rattle.writer.specs.Told.{Told, wrote, refuses, told}
-use Rattle.writer.specs.Text.{behind, within}
+use Rattle.writer.specs.Text.{place-behind, if-room}
 use Rattle.writer.specs.Line.{line-text}
 use Rattle.writer.specs.Object.{is-end}
 
@@ -30,26 +30,26 @@ longer (wrote n) (refuses r) = refuses r
 longer (refuses r) line = refuses r
 
 -- the contract of `Survey::new`
-pub record New (r : Survey) : Type 0 where
+pub record SurveyNew (r : Survey) : Type 0 where
   pub ends : r .ends ≡ 0
   pub ended : r .ended ≡ false
   pub total : told (r .total) ≡ wrote 0
 
 -- the contract of `Survey::add`
-pub record Add (s : Survey) (record′ : Record) (pool : List ℕ) (r : Survey) : Type 0 where
+pub record SurveyAdd (s : Survey) (record′ : Record) (pool : List ℕ) (r : Survey) : Type 0 where
   pub ends : r .ends ≡ (if is-end record′ then cap (s .ends + 1) else s .ends)
   pub ended : r .ended ≡ is-end record′
-  pub total : told (r .total) ≡ longer (told (s .total)) (behind (line-text record′ pool) 0)
+  pub total : told (r .total) ≡ longer (told (s .total)) (place-behind (line-text record′ pool) 0)
 
 -- what a survey comes to, if an output has this much room
 abbrev pub surveyed : Survey → (room : ℕ) → Told
 surveyed s room =
     if s .ended
-    then (if ltb 1 (s .ends) then refuses (multiple-end-of-file-records (s .ends)) else within (told (s .total)) room)
+    then (if ltb 1 (s .ends) then refuses (multiple-end-of-file-records (s .ends)) else if-room (told (s .total)) room)
     else refuses missing-end-of-file-record
 
 -- the contract of `Survey::answer`
-pub record Answer (s : Survey) (room : ℕ) (r : Written) : Type 0 where
+pub record SurveyAnswer (s : Survey) (room : ℕ) (r : Written) : Type 0 where
   pub answer : told r ≡ surveyed s room
 
 -- where a writer begins, which writes all or nothing
@@ -58,5 +58,5 @@ begun (wrote place) = wrote 0
 begun (refuses r) = refuses r
 
 -- the contract of `Survey::begin`
-pub record Begin (s : Survey) (room : ℕ) (r : Written) : Type 0 where
+pub record SurveyBegin (s : Survey) (room : ℕ) (r : Written) : Type 0 where
   pub answer : told r ≡ begun (surveyed s room)

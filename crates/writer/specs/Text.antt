@@ -21,21 +21,21 @@ unless none cs = chars cs
 unless (some r) cs = refused r
 
 -- the place behind the text, if it starts at a place
-abbrev pub behind : Text → (at : ℕ) → Told
-behind (chars cs) at = wrote (at + length cs)
-behind (refused r) at = refuses r
+abbrev pub place-behind : Text → (at : ℕ) → Told
+place-behind (chars cs) at = wrote (at + length cs)
+place-behind (refused r) at = refuses r
 
 -- the same, where an output has this much room
-abbrev pub within : Told → (room : ℕ) → Told
-within (wrote place) room = if leb place room then wrote place else refuses output-full
-within (refuses r) room = refuses r
+abbrev pub if-room : Told → (room : ℕ) → Told
+if-room (wrote place) room = if leb place room then wrote place else refuses output-full
+if-room (refuses r) room = refuses r
 
 -- the output with the text at the place, if it has the room
-abbrev pub placed : Text → (out : List ℕ) (at : ℕ) → List ℕ
-placed (chars cs) out at = if leb (at + length cs) (length out) then pasted out at cs else out
-placed (refused r) out at = out
+abbrev pub put-at : Text → (out : List ℕ) (at : ℕ) → List ℕ
+put-at (chars cs) out at = if leb (at + length cs) (length out) then pasted out at cs else out
+put-at (refused r) out at = out
 
 -- what a writer of a text answers, and leaves in the output
 pub record Writes (text : Text) (out : List ℕ) (at : ℕ) (r : Written) (out′ : List ℕ) : Type 0 where
-  pub answer : told r ≡ within (behind text at) (length out)
-  pub left : out′ ≡ placed text out at
+  pub answer : told r ≡ if-room (place-behind text at) (length out)
+  pub left : out′ ≡ put-at text out at

@@ -8,10 +8,10 @@ ghost use lib.ListN.{length};
 ghost use Rattle.record.specs.Common.{if_then_else_, pasted};
 ghost use Rattle.record.specs.Written.{capital-digit, spelt, written};
 ghost use Rattle.writer.specs.Told.{told};
-ghost use Rattle.writer.specs.Text.{behind};
+ghost use Rattle.writer.specs.Text.{place-behind};
 ghost use Rattle.writer.specs.Line.{ToRecordString, WriteStep, WriteNext, line, line-text};
 ghost use Rattle.writer.specs.Object.{is-end, WriteObject};
-ghost use Rattle.writer.specs.Survey.{New, Add, Answer, Begin, cap, longer};
+ghost use Rattle.writer.specs.Survey.{SurveyNew, SurveyAdd, SurveyAnswer, SurveyBegin, cap, longer};
 ghost use Rattle.writer.specs.Helpers.{Head, Payload, Fitting, Ready};
 ghost use Rattle.writer.specs.Claims.{Surveys};
 
@@ -36,7 +36,7 @@ pub enum Written {
 }
 
 // The capital digit of a value below 16.
-fn digit(x: u8) -> u8
+fn capital_digit(x: u8) -> u8
     requires { ⌜ x < 16 ⌝ }
     ensures { λ r. ⌜ r ≡ capital-digit x ⌝ }
 {
@@ -48,8 +48,8 @@ fn put(byte: u8, out: &mut [u8], at: usize)
     requires { ⌜ at + 2 ≤ length (now out) ⌝ }
     ensures { λ _. ⌜ now (out .exit) ≡ pasted (now (out .entry)) at (spelt (byte ∷ [])) ⌝ }
 {
-    out[at] = digit(byte / 16);
-    out[at + 1] = digit(byte % 16);
+    out[at] = capital_digit(byte / 16);
+    out[at + 1] = capital_digit(byte % 16);
 }
 
 // The high byte of two.
@@ -152,7 +152,7 @@ fn put_record(record: Record, pool: &[u8], out: &mut [u8], at: usize)
 
 // The length of a record's line, or why it has none.
 fn measure(record: Record, pool: &[u8]) -> Written
-    ensures { λ r. ⌜ told r ≡ behind (line-text «record» (now (pool .entry))) 0 ⌝ }
+    ensures { λ r. ⌜ told r ≡ place-behind (line-text «record» (now (pool .entry))) 0 ⌝ }
 {
     match record {
         Record::Data { offset: _, at, len } => {
@@ -277,7 +277,7 @@ pub struct Survey {
 impl Survey {
     // Of no records.
     pub fn new() -> Survey
-        ensures { λ r. ⌜ New r ⌝ }
+        ensures { λ r. ⌜ SurveyNew r ⌝ }
     {
         Survey {
             ends: 0,
@@ -288,7 +288,7 @@ impl Survey {
 
     // With one record more.
     pub fn add(self, record: Record, pool: &[u8]) -> Survey
-        ensures { λ r. ⌜ Add self «record» (now (pool .entry)) r ⌝ }
+        ensures { λ r. ⌜ SurveyAdd self «record» (now (pool .entry)) r ⌝ }
     {
         let end = is_end(record);
         let ends = counted(self.ends, end);
@@ -303,7 +303,7 @@ impl Survey {
 
     // The answer for the whole, if the output has this much room: its length, or why it is not written.
     pub fn answer(self, room: usize) -> Written
-        ensures { λ r. ⌜ Answer self room r ⌝ }
+        ensures { λ r. ⌜ SurveyAnswer self room r ⌝ }
     {
         let ended = self.ended;
         let ends = self.ends;
@@ -327,7 +327,7 @@ impl Survey {
 
     // Where to begin to write: at the output's start, if the whole is written, and else the refusal.
     pub fn begin(self, room: usize) -> Written
-        ensures { λ r. ⌜ Begin self room r ⌝ }
+        ensures { λ r. ⌜ SurveyBegin self room r ⌝ }
     {
         match self.answer(room) {
             Written::Refused(why) => Written::Refused(why),

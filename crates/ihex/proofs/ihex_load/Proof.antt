@@ -13,8 +13,8 @@ load-requires c κs = search needs
 code-loading-requires : tie.Need-code-loading-requires
 code-loading-requires c κs = search needs
 
-line-of-requires : tie.Need-line-of-requires
-line-of-requires c κs = search needs
+line-at-requires : tie.Need-line-at-requires
+line-at-requires c κs = search needs
 
 same-length : tie.Need-same-length
 same-length c = search needs
@@ -28,7 +28,7 @@ returns c =
     let k = coded (ap loading (l .answer)) (c .before .code-loading .ensures) in
     record {
       code-is = k .code-is;
-      line-is = c .line-of .ensures ∙ ap line-at (l .answer);
+      line-is = c .line-at .ensures ∙ ap line-at (l .answer);
       a-is = k .a-is;
       b-is = k .b-is;
       page-is = l .page;
@@ -41,7 +41,7 @@ ihex-load-spec =
     (tie.spec
     load-requires
     code-loading-requires
-    line-of-requires
+    line-at-requires
     same-length
     same-length-2
     returns)

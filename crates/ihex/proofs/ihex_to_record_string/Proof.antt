@@ -4,7 +4,7 @@ use mathlib.Core.Path.{sym, _∙_, ap}
 use denote.Ref.{now}
 use Rattle.record.specs.declared.Record.{Record}
 use Rattle.writer.specs.Line.{line-text}
-use Rattle.ihex.specs.Entry.{record-of, given}
+use Rattle.ihex.specs.Entry.{record-of, entry-of}
 use Rattle.ihex.proofs.Texts.{not-given, wrote}
 use borrow.Author.Needs.{needs}
 use Rattle.ihex.proofs.ihex_to_record_string.Statement.{statement}
@@ -29,7 +29,7 @@ returns : tie.Need-returns
 returns c =
     let s = c .before .before .before .before .before .args in
     not-given (λ (x : Record). line-text x (now (s .pool))) (record-of (s .kind) (s .number) (s .second) (s .at) (s .len)) (now (s .out))
-    (sym (c .before .before .record-from .ensures) ∙ ap given (c .enum-told .given .1))
+    (sym (c .before .before .record-from .ensures) ∙ ap entry-of (c .enum-told .given .1))
 
 same-length : tie.Need-same-length
 same-length c = search needs
@@ -40,7 +40,7 @@ returns-2 c =
     let x = c .before .before .before .before .before .before .entry .given in
     let w = c .before .before .before .to-record-string in
     wrote (λ (x : Record). line-text x (now (s .pool))) (record-of (s .kind) (s .number) (s .second) (s .at) (s .len)) (now (s .out))
-    (x .0 .0) (w .result) (w .last .1 .1 .0) (c .code-written .result) (sym (c .before .before .before .before .before .before .before .before .record-from .ensures) ∙ ap given (x .1)) (w .ensures) (c .code-written .ensures)
+    (x .0 .0) (w .result) (w .last .1 .1 .0) (c .code-written .result) (sym (c .before .before .before .before .before .before .before .before .record-from .ensures) ∙ ap entry-of (x .1)) (w .ensures) (c .code-written .ensures)
 
 pub ihex-to-record-string-spec : {M : Type 1} → statement M
 ihex-to-record-string-spec =

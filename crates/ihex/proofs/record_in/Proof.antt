@@ -1,7 +1,7 @@
 -- `ihex::record_in` meets its contract: the entry is one that is a record.
 -- Assumes nothing.
 use mathlib.Core.Path.{sym, _∙_, ap}
-use Rattle.ihex.specs.Entry.{given}
+use Rattle.ihex.specs.Entry.{entry-of}
 use Rattle.ihex.proofs.Listing.{some-none}
 use borrow.Author.Needs.{needs}
 use Rattle.ihex.proofs.record_in.Statement.{statement}
@@ -17,10 +17,10 @@ enum-told : tie.Need-enum-told
 enum-told c = search needs
 
 returns : tie.Need-returns
-returns c = sym (c .before .before .before .entry-at .ensures) ∙ ap given (c .before .entry .given .1)
+returns c = sym (c .before .before .before .entry-at .ensures) ∙ ap entry-of (c .before .entry .given .1)
 
 returns-2 : tie.Need-returns-2
-returns-2 c = some-none (c .before .before .before .before .pre .read) (sym (c .before .before .entry-at .ensures) ∙ ap given (c .enum-told .given .1))
+returns-2 c = some-none (c .before .before .before .before .pre .read) (sym (c .before .before .entry-at .ensures) ∙ ap entry-of (c .enum-told .given .1))
 
 pub record-in-spec : {M : Type 1} → statement M
 record-in-spec =

@@ -8,7 +8,7 @@ use lib.ListN.{length}
 use denote.Ref.{now}
 use borrow.Author.Needs.{needs}
 use Rattle.writer.specs.Claims.{at-first, then-add}
-use Rattle.ihex.specs.Entry.{given}
+use Rattle.ihex.specs.Entry.{entry-of}
 use Rattle.ihex.proofs.Listing.{Surveying, uneven, passed-none, passed-room, passed-more, passed-all, passed-bad}
 use Rattle.ihex.proofs.survey_list.Statement.{statement}
 use Rattle.ihex.proofs.survey_list.Tie as tie
@@ -41,7 +41,7 @@ returns-2 : tie.Need-returns-2 Inv-loop μ-loop
 returns-2 c =
     let l = c .before .before .before .before .loop in
     passed-bad (now (c .before .before .before .before .before .before .before .before .before .args .list)) (l .p) (l .inv .rs) (l .inv .passed) (c .before .before .before .loop-test .taken)
-    (sym (c .before .before .entry-at .ensures) ∙ ap given (c .enum-told .given .1))
+    (sym (c .before .before .entry-at .ensures) ∙ ap entry-of (c .enum-told .given .1))
 
 add-requires : tie.Need-add-requires Inv-loop μ-loop
 add-requires c κs = search needs
@@ -60,7 +60,7 @@ loop-again c =
       rs = l .inv .rs ++ (x .0 .0 ∷ []);
       passed =
           passed-more (now (c .before .before .before .before .before .before .before .before .before .before .before .args .list)) (l .p) (l .inv .rs) (x .0 .0) (l .inv .passed) (c .before .before .before .before .before .loop-test .taken)
-          (sym (c .before .before .before .before .entry-at .ensures) ∙ ap given (x .1));
+          (sym (c .before .before .before .before .entry-at .ensures) ∙ ap entry-of (x .1));
       surveys = then-add (l .inv .surveys) (c .add .ensures) refl;
     }
 

@@ -16,7 +16,7 @@ use borrow.Fn.PlainCycle.{Measures, is, falls, and}
 use Rattle.listing.proofs.put_decimal.Reads as put-decimal
 use Rattle.listing.proofs.put_decimal.Kinds as put-decimal-kinds
 use Rattle.listing.proofs.+put_decimal.Lts-put_decimal as put-decimal-lts
-use Rattle.listing.proofs.digit.Reads as digit-reads
+use Rattle.listing.proofs.capital_digit.Reads as digit-reads
 use Rattle.listing.proofs.put_char.Reads as put-char-reads
 use Rattle.listing.proofs.+put_decimal.{statement}
 use Rattle.listing.proofs.+put_decimal.Tie.{close}
@@ -32,7 +32,7 @@ abbrev put-decimal-below : ℕ → In 1 put-decimal-kinds.ps
 put-decimal-below t =
     and 1 put-decimal-kinds.ps (falls 1 put-decimal-kinds.ps _<_ μ-put-decimal t) put-decimal.Pre
 
-put-decimal-cast-digit : (t : ℕ) → put-decimal-lts.Need-cast-digit (
+put-decimal-cast-capital-digit : (t : ℕ) → put-decimal-lts.Need-cast-capital-digit (
   digit-reads.Asked,
   digit-reads.Learnt,
   put-char-reads.Asked,
@@ -40,9 +40,9 @@ put-decimal-cast-digit : (t : ℕ) → put-decimal-lts.Need-cast-digit (
   put-decimal-below t,
   put-decimal.Post,
 ) (put-decimal-at t) put-decimal.Post
-put-decimal-cast-digit t c = search needs
+put-decimal-cast-capital-digit t c = search needs
 
-put-decimal-digit-requires : (t : ℕ) → put-decimal-lts.Need-digit-requires (
+put-decimal-digit-requires : (t : ℕ) → put-decimal-lts.Need-capital-digit-requires (
   digit-reads.Asked,
   digit-reads.Learnt,
   put-char-reads.Asked,
@@ -82,7 +82,7 @@ put-decimal-returns : (t : ℕ) → put-decimal-lts.Need-returns (
 ) (put-decimal-at t) put-decimal.Post
 put-decimal-returns t c =
     let a = c .before .before .before .before .before .before .before .args in
-    put-as (now (a .out)) (a .at) (ap (λ (x : ℕ). x ∷ []) (c .before .before .before .before .digit .ensures) ∙ sym (decimal-small (a .n) (c .before .before .before .before .before .if1 .taken))) (c .before .before .put-char .ensures)
+    put-as (now (a .out)) (a .at) (ap (λ (x : ℕ). x ∷ []) (c .before .before .before .before .capital-digit .ensures) ∙ sym (decimal-small (a .n) (c .before .before .before .before .before .if1 .taken))) (c .before .before .put-char .ensures)
 
 put-decimal-put-decimal-requires : (t : ℕ) → put-decimal-lts.Need-put-decimal-requires (
   digit-reads.Asked,
@@ -98,7 +98,7 @@ put-decimal-put-decimal-requires t c κs =
     let m = length-append (decimal (a .n / 10)) (capital-digit (a .n % 10) ∷ []) in
     (omega (arith, c .before .before .before .pre .0, c .before .if1 .left), omega (arith, c .before .before .before .pre .1))
 
-put-decimal-cast-digit-2 : (t : ℕ) → put-decimal-lts.Need-cast-digit-2 (
+put-decimal-cast-capital-digit-2 : (t : ℕ) → put-decimal-lts.Need-cast-capital-digit-2 (
   digit-reads.Asked,
   digit-reads.Learnt,
   put-char-reads.Asked,
@@ -106,9 +106,9 @@ put-decimal-cast-digit-2 : (t : ℕ) → put-decimal-lts.Need-cast-digit-2 (
   put-decimal-below t,
   put-decimal.Post,
 ) (put-decimal-at t) put-decimal.Post
-put-decimal-cast-digit-2 t c = search needs
+put-decimal-cast-capital-digit-2 t c = search needs
 
-put-decimal-digit-requires-2 : (t : ℕ) → put-decimal-lts.Need-digit-requires-2 (
+put-decimal-digit-requires-2 : (t : ℕ) → put-decimal-lts.Need-capital-digit-requires-2 (
   digit-reads.Asked,
   digit-reads.Learnt,
   put-char-reads.Asked,
@@ -154,7 +154,7 @@ put-decimal-returns-2 t c =
     let a = c .before .before .before .before .before .before .before .before .before .before .before .args in
     let l = ap length (decimal-more (a .n) (c .before .before .before .before .before .before .before .before .before .if1 .left)) in
     let m = length-append (decimal (a .n / 10)) (capital-digit (a .n % 10) ∷ []) in
-    put-as (now (a .out)) (a .at) (ap (λ (x : ℕ). decimal (a .n / 10) ++ (x ∷ [])) (c .before .before .before .before .digit2 .ensures) ∙ sym (decimal-more (a .n) (c .before .before .before .before .before .before .before .before .before .if1 .left)))
+    put-as (now (a .out)) (a .at) (ap (λ (x : ℕ). decimal (a .n / 10) ++ (x ∷ [])) (c .before .before .before .before .capital-digit2 .ensures) ∙ sym (decimal-more (a .n) (c .before .before .before .before .before .before .before .before .before .if1 .left)))
     (put-then (now (a .out)) (a .at) (omega (arith, c .before .before .before .before .before .before .before .before .before .before .before .pre .1)) (c .before .before .before .before .before .before .before .put-decimal .ensures) (c .before .before .put-char2 .ensures))
 
 pub +put-decimal-spec : {M : Type 1} → statement M
@@ -168,13 +168,13 @@ pub +put-decimal-spec : {M : Type 1} → statement M
 )
     (put-decimal-at t)
     put-decimal.Post
-    (put-decimal-cast-digit t)
+    (put-decimal-cast-capital-digit t)
     (put-decimal-digit-requires t)
     (put-decimal-put-char-requires t)
     (put-decimal-same-length t)
     (put-decimal-returns t)
     (put-decimal-put-decimal-requires t)
-    (put-decimal-cast-digit-2 t)
+    (put-decimal-cast-capital-digit-2 t)
     (put-decimal-digit-requires-2 t)
     (put-decimal-put-char-requires-2 t)
     (put-decimal-same-length-2 t)

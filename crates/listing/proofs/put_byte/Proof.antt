@@ -11,14 +11,14 @@ use borrow.Author.Needs.{needs}
 use Rattle.listing.proofs.put_byte.Statement.{statement}
 use Rattle.listing.proofs.put_byte.Tie as tie
 
-digit-requires : tie.Need-digit-requires
-digit-requires c κs = search needs
+capital-digit-requires : tie.Need-capital-digit-requires
+capital-digit-requires c κs = search needs
 
 put-char-requires : tie.Need-put-char-requires
 put-char-requires c κs = search needs
 
-digit-requires-2 : tie.Need-digit-requires-2
-digit-requires-2 c κs = search needs
+capital-digit-requires-2 : tie.Need-capital-digit-requires-2
+capital-digit-requires-2 c κs = search needs
 
 put-char-requires-2 : tie.Need-put-char-requires-2
 put-char-requires-2 c κs = search needs
@@ -30,16 +30,16 @@ returns : tie.Need-returns
 unfolding spelt
 returns c =
     let a = c .before .before .before .before .before .before .before .before .before .before .before .args in
-    put-as (now (a .out)) (a .at) (ap₂ (λ (x y : ℕ). x ∷ y ∷ []) (c .before .before .before .before .before .before .before .before .before .digit .ensures) (c .before .before .before .before .digit2 .ensures))
+    put-as (now (a .out)) (a .at) (ap₂ (λ (x y : ℕ). x ∷ y ∷ []) (c .before .before .before .before .before .before .before .before .before .capital-digit .ensures) (c .before .before .before .before .capital-digit2 .ensures))
     (put-then (now (a .out)) (a .at) (omega (arith, c .before .before .before .before .before .before .before .before .before .before .before .pre)) (c .before .before .before .before .before .before .before .put-char .ensures) (c .before .before .put-char2 .ensures))
 
 pub put-byte-spec : {M : Type 1} → statement M
 put-byte-spec =
     tie.close
     (tie.spec
-    digit-requires
+    capital-digit-requires
     put-char-requires
-    digit-requires-2
+    capital-digit-requires-2
     put-char-requires-2
     same-length
     returns)

@@ -1,7 +1,7 @@
 -- `loader::put` meets its contract: what is left, painted on the window as it is, is all of it painted on the window as it was.
 -- Assumes nothing.
 use denote.Ref.{now}
-use Rattle.loader.specs.Placing.{address-of}
+use Rattle.loader.specs.Placing.{byte-address}
 use mathlib.Core.Path.{ap}
 use Prim.Native.Nat.{ℕ, _+_, _-_, _≤_, _<_}
 use native.Mathlib.Omega.{arith}
@@ -22,7 +22,7 @@ abbrev μ-loop : tie.MeasureT-loop
 place : (c : tie.In-loop Inv-loop μ-loop)
     → let s = c .before .before .before .before .before .args in
     let l = c .before .loop in
-    (s .first ≤ address-of (based (s .base)) (s .offset) (l .i)) × (address-of (based (s .base)) (s .offset) (l .i) < s .first + length (l .page))
+    (s .first ≤ byte-address (based (s .base)) (s .offset) (l .i)) × (byte-address (based (s .base)) (s .offset) (l .i) < s .first + length (l .page))
 place c =
     let s = c .before .before .before .before .before .args in
     let l = c .before .loop in
@@ -33,23 +33,23 @@ loop-holds c =
     let s = c .before .before .before in
     left-start (based (s .args .base)) (s .args .offset) (now (s .args .bytes)) (s .args .first) (now (s .args .page)) (now (s .args .marks)) (s .pre .1)
 
-address-of-requires : tie.Need-address-of-requires Inv-loop μ-loop
-address-of-requires c κs = omega arith
+byte-address-requires : tie.Need-byte-address-requires Inv-loop μ-loop
+byte-address-requires c κs = omega arith
 
 sub-place : tie.Need-sub-place Inv-loop μ-loop
-sub-place c = omega (arith, c .address-of .ensures, place (c .before))
+sub-place c = omega (arith, c .byte-address .ensures, place (c .before))
 
 cast-place : tie.Need-cast-place Inv-loop μ-loop
-cast-place c = omega (arith, c .address-of .ok)
+cast-place c = omega (arith, c .byte-address .ok)
 
 shared-slice-read-page : tie.Need-shared-slice-read-page Inv-loop μ-loop
 shared-slice-read-page c = search needs
 
 slice-write-page : tie.Need-slice-write-page Inv-loop μ-loop
-slice-write-page c = omega (arith, c .before .address-of .ensures, place (c .before .before))
+slice-write-page c = omega (arith, c .before .byte-address .ensures, place (c .before .before))
 
 slice-write-marks : tie.Need-slice-write-marks Inv-loop μ-loop
-slice-write-marks c = omega (arith, c .before .address-of .ensures, place (c .before .before), c .before .before .before .loop .inv .fits .even)
+slice-write-marks c = omega (arith, c .before .byte-address .ensures, place (c .before .before), c .before .before .before .loop .inv .fits .even)
 
 add-i : tie.Need-add-i Inv-loop μ-loop
 add-i c = search needs
@@ -62,7 +62,7 @@ loop-again c =
     let s = c .before .before .before .before .before .before .before .args in
     let l = c .before .before .before .loop in
     left-again (based (s .base)) (s .offset) (now (s .bytes)) (s .first) (now (s .page)) (now (s .marks)) (l .page) (l .marks) (l .i) _ (l .inv)
-    (c .before .before .loop-test .taken) (ap (λ (x : ℕ). x - s .first) (c .before .address-of .ensures))
+    (c .before .before .loop-test .taken) (ap (λ (x : ℕ). x - s .first) (c .before .byte-address .ensures))
 
 same-length : tie.Need-same-length Inv-loop μ-loop
 same-length c = search needs
@@ -83,7 +83,7 @@ put-spec =
     Inv-loop
     μ-loop
     loop-holds
-    address-of-requires
+    byte-address-requires
     sub-place
     cast-place
     shared-slice-read-page

@@ -22,8 +22,8 @@ abbrev μ-loop : tie.MeasureT-loop
 loop-holds : tie.Need-loop-holds Inv-loop μ-loop
 loop-holds c = (omega arith, refl)
 
-address-of-requires : tie.Need-address-of-requires Inv-loop μ-loop
-address-of-requires c κs = omega arith
+byte-address-requires : tie.Need-byte-address-requires Inv-loop μ-loop
+byte-address-requires c κs = omega arith
 
 holds-requires : tie.Need-holds-requires Inv-loop μ-loop
 holds-requires c κs = search needs
@@ -32,7 +32,7 @@ returns : tie.Need-returns Inv-loop μ-loop
 returns c =
     let a = c .before .before .before .before .before .before .args in
     let l = c .before .before .before .before .loop in
-    let e = c .before .before .address-of .ensures in
+    let e = c .before .before .byte-address .ensures in
     let w = within (a .first) (a .size) in
     rw e (sought-found (based (a .base)) (a .offset) (now (a .bytes)) w (l .i) (c .before .before .before .loop-test .taken)
     (ap w (sym e) ∙ sym (c .before .holds .ensures) ∙ not-true (c .before .holds .result) (c .if1 .taken)) (l .inv .1))
@@ -47,7 +47,7 @@ loop-again : tie.Need-loop-again Inv-loop μ-loop
 loop-again c =
     let a = c .before .before .before .before .before .before .args in
     let l = c .before .before .before .before .loop in
-    let e = c .before .before .address-of .ensures in
+    let e = c .before .before .byte-address .ensures in
     let w = within (a .first) (a .size) in (
       omega arith,
       sought-more (based (a .base)) (a .offset) (now (a .bytes)) w (l .i) (c .before .before .before .loop-test .taken)
@@ -67,7 +67,7 @@ survey-spec =
     Inv-loop
     μ-loop
     loop-holds
-    address-of-requires
+    byte-address-requires
     holds-requires
     returns
     add-i

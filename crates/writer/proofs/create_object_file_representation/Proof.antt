@@ -59,7 +59,7 @@ use Rattle.writer.specs.declared.Written.{Written}
 use Rattle.writer.specs.declared.Survey.{Survey}
 use Rattle.writer.specs.Line.{WriteNext}
 use Rattle.writer.specs.Object.{WriteObject}
-use Rattle.writer.specs.Survey.{Begin}
+use Rattle.writer.specs.Survey.{SurveyBegin}
 use Rattle.writer.specs.Claims.{Surveys, Steps, no-step, then-step}
 use Rattle.writer.proofs.Stepping.{object-written}
 use Rattle.writer.proofs.Again.{LentAgain, lends-again, comes-back}
@@ -162,8 +162,8 @@ module _ {M : Type 1} (𝓤 : URA M) (H : Heap 𝓤) (A : Atoms 𝓤) (mem : Mem
       qed W [] ∵ nothing ! $ owned ! usize (Is usize) (uint-makes 𝓤 H A W w64) n _ (refl, g) $ fjoin ! $ owned ! U (Is U) (LL.makes Y.the-type Y′.the-plain 𝓤 H A) t _ is $ fjoin ! $
       nothing ! $ join ! $ frame ! $ done !
 
-  said-begin : (t : Survey) (n : ℕ) (w : Written) → ent 𝓤 (ensured 𝓤 H A opening.ended (opening.clauses 𝓤 H A mem run) tt (asked t n) tt w) (fact 𝓤 (Begin t n w))
-  said-begin t n w = exE 𝓤 _ (λ ws. snd∗ 𝓤 (sem 𝓤 H A (lasts opening.ended tt (asked t n) ws)) (fact 𝓤 (Begin t n w)))
+  said-begin : (t : Survey) (n : ℕ) (w : Written) → ent 𝓤 (ensured 𝓤 H A opening.ended (opening.clauses 𝓤 H A mem run) tt (asked t n) tt w) (fact 𝓤 (SurveyBegin t n w))
+  said-begin t n w = exE 𝓤 _ (λ ws. snd∗ 𝓤 (sem 𝓤 H A (lasts opening.ended tt (asked t n) ws)) (fact 𝓤 (SurveyBegin t n w)))
 
 module _ {M : Type 1} (𝓤 : URA M) (H : Heap 𝓤) (A : Atoms 𝓤) (W : Given 𝓤 H A) (mem : Memory → SProp 𝓤) (run : Routine → Fun 𝓤) (κ κ′ κ″ : Lft) (q q′ q″ : Share) (b o : ℕ) (γ : GName) (ys : List Record) (p : RefT (List ℕ)) (bo oo : ℕ) (γo : GName) (out : List ℕ) (room : Room R (length ys)) (roomP : Room u8 (length (p .now))) (roomO : Room u8 (length out)) where
   abbrev s : RefT (List Record)
@@ -257,7 +257,7 @@ module _ {M : Type 1} (𝓤 : URA M) (H : Heap 𝓤) (A : Atoms 𝓤) (W : Given
   abbrev Ends : Written → Type 0
   Ends w₀ = (w : Written) (l : List ℕ) → Steps (p .now) out w₀ ys w l → WriteObject ys (p .now) out w l
 
-  ends : (t : Survey) (w₀ : Written) → Surveys (p .now) ys t → Begin t (length out) w₀ → Ends w₀
+  ends : (t : Survey) (w₀ : Written) → Surveys (p .now) ys t → SurveyBegin t (length out) w₀ → Ends w₀
   ends t w₀ surveys begins w l steps = object-written ys (p .now) out t w₀ w l (omega (arith, room .0)) (omega (arith, roomO .1)) surveys begins steps
 
   module _ (w₀ : Written) (fine : Ends w₀) where
@@ -399,7 +399,7 @@ module _ {M : Type 1} (𝓤 : URA M) (H : Heap 𝓤) (A : Atoms 𝓤) (W : Given
       use0 W (raw (Begins 𝓤 H A mem run .pre (to-begin 𝓤 H A mem run t (length out)))) (goes-begin 𝓤 H A mem run W t (length out) (subst (Is U t) (LL.tells Y.the-type Y′.the-laws t _ is) is) (roomO .0)) $
       calls-at ! fm (Begins 𝓤 H A mem run) begins (to-begin 𝓤 H A mem run t (length out)) (and-then ! (load ! (from ! (stop !)) (look ! 22 refl)) (and-then ! (load ! (from ! (stop !)) (look ! 20 refl)) (no-more !))) (λ u′.
       use1 W (later (some (λ (w : Written). (‵ ftrue ⊛ ‵ (Q .own w (u′ ∷ []))) ⊛ raw (ensured 𝓤 H A opening.ended (opening.clauses 𝓤 H A mem run) tt (asked 𝓤 H A mem run t (length out)) tt w)))) (id⊢ 𝓤 _) $ await ! tt $ pick ! (λ w.
-      split ! $ move ! (1 ∷ []) $ use1 W (raw (fact 𝓤 (Begin t (length out) w))) (said-begin 𝓤 H A mem run t (length out) w) $ heard ! (Begin t (length out) w) (λ e′. split ! $ drop ! $
+      split ! $ move ! (1 ∷ []) $ use1 W (raw (fact 𝓤 (SurveyBegin t (length out) w))) (said-begin 𝓤 H A mem run t (length out) w) $ heard ! (SurveyBegin t (length out) w) (λ e′. split ! $ drop ! $
       peeks ! Q (Is Q) (shows 𝓤 H A Q) w (u′ ∷ []) (λ is′. drop ! $
       land ! (from ! (stop !)) (init ! 25 refl (EL.lawful S.the-type S′.the-laws 𝓤 H A W tt .typed w _ is′ .0)) $ rewrite ! 25 (λ (z : Val). ‵ (fat fullShare S′.mir l₄ 0 z)) (ap only (EL.tells S.the-type S′.the-laws w _ is′)) refl $
       assigns ! (of-opd ! (lit ! tt)) (from ! (stop !)) (init ! 23 refl (tt, record { fits = lit< tt })) $ forget ! 19 refl $ forget ! 21 refl $ split ! $ move ! (1 ∷ []) $ split ! $

@@ -10,14 +10,14 @@ use borrow.Author.Needs.{needs}
 use Rattle.writer.proofs.put.Statement.{statement}
 use Rattle.writer.proofs.put.Tie as tie
 
-digit-requires : tie.Need-digit-requires
-digit-requires c κs = search needs
+capital-digit-requires : tie.Need-capital-digit-requires
+capital-digit-requires c κs = search needs
 
 slice-write-out : tie.Need-slice-write-out
 slice-write-out c = search needs
 
-digit-requires-2 : tie.Need-digit-requires-2
-digit-requires-2 c κs = search needs
+capital-digit-requires-2 : tie.Need-capital-digit-requires-2
+capital-digit-requires-2 c κs = search needs
 
 add-out : tie.Need-add-out
 add-out c = search needs
@@ -32,16 +32,16 @@ returns : tie.Need-returns
 unfolding spelt
 returns c =
     let a = c .before .before .before .args in
-    rw (c .before .digit .ensures, c .digit2 .ensures)
+    rw (c .before .capital-digit .ensures, c .capital-digit2 .ensures)
     (pasted-two (now (a .out)) (a .at) (capital-digit (a .byte / 16)) (capital-digit (a .byte % 16)) (omega arith))
 
 pub put-spec : {M : Type 1} → statement M
 put-spec =
     tie.close
     (tie.spec
-    digit-requires
+    capital-digit-requires
     slice-write-out
-    digit-requires-2
+    capital-digit-requires-2
     add-out
     slice-write-out-2
     same-length

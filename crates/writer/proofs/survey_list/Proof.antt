@@ -54,7 +54,7 @@ use Rattle.record.specs.declared.Record.the-variants.{EndOfFile}
 use Rattle.record.proofs.Record as T
 use Rattle.record.proofs.Record.Laws as T′
 use Rattle.writer.specs.declared.Survey.{Survey}
-use Rattle.writer.specs.Survey.{New, Add}
+use Rattle.writer.specs.Survey.{SurveyNew, SurveyAdd}
 use Rattle.writer.specs.Claims.{Surveys, at-first, then-add}
 use Rattle.writer.proofs.Taking.{taken-more, taken-all}
 use Rattle.writer.proofs.Survey as S
@@ -120,8 +120,8 @@ module _ {M : Type 1} (𝓤 : URA M) (H : Heap 𝓤) (A : Atoms 𝓤) (mem : Mem
   goes-new : Given 𝓤 H A → ent 𝓤 (emp 𝓤) (Begins .pre to-new)
   goes-new W = qed W [] ∵ nothing ! $ nothing ! $ join ! $ frame ! $ done !
 
-  said-new : (t : Survey) → ent 𝓤 (ensured 𝓤 H A new.ended (new.clauses 𝓤 H A mem run) tt tt tt t) (fact 𝓤 (New t))
-  said-new t = exE 𝓤 _ (λ ws. snd∗ 𝓤 (sem 𝓤 H A (lasts new.ended tt tt ws)) (fact 𝓤 (New t)))
+  said-new : (t : Survey) → ent 𝓤 (ensured 𝓤 H A new.ended (new.clauses 𝓤 H A mem run) tt tt tt t) (fact 𝓤 (SurveyNew t))
+  said-new t = exE 𝓤 _ (λ ws. snd∗ 𝓤 (sem 𝓤 H A (lasts new.ended tt tt ws)) (fact 𝓤 (SurveyNew t)))
 
 module _ {M : Type 1} (𝓤 : URA M) (H : Heap 𝓤) (A : Atoms 𝓤) (W : Given 𝓤 H A) (mem : Memory → SProp 𝓤) (run : Routine → Fun 𝓤) (κ κ′ : Lft) (q q′ : Share) (b o : ℕ) (γ : GName) (ys : List Record) (p : RefT (List ℕ)) (room : Room R (length ys)) (roomP : Room u8 (length (p .now))) where
   abbrev s : RefT (List Record)
@@ -173,8 +173,8 @@ module _ {M : Type 1} (𝓤 : URA M) (H : Heap 𝓤) (A : Atoms 𝓤) (W : Given
       nothing ! $ move ! (2 ∷ 0 ∷ []) $ fjoin ! $ owned ! R (Is R) (EL.makes T.the-type T′.the-plain 𝓤 H A) r _ isr $ fjoin ! $ owned ! Q (Is Q) (LL.makes S.the-type S′.the-plain 𝓤 H A) t _ ist $ fjoin ! $
       move ! (1 ∷ 0 ∷ []) $ join ! $ frame ! $ done !
 
-  said-add : (t : Survey) (r : Record) (t′ : Survey) → ent 𝓤 (ensured 𝓤 H A add.ended (add.clauses 𝓤 H A mem run) (κ′, tt) (args t r) tt t′) (fact 𝓤 (Add t r (p .now) t′))
-  said-add t r t′ = exE 𝓤 _ (λ ws. snd∗ 𝓤 (sem 𝓤 H A (lasts add.ended (κ′, tt) (args t r) ws)) (fact 𝓤 (Add t r (p .now) t′)))
+  said-add : (t : Survey) (r : Record) (t′ : Survey) → ent 𝓤 (ensured 𝓤 H A add.ended (add.clauses 𝓤 H A mem run) (κ′, tt) (args t r) tt t′) (fact 𝓤 (SurveyAdd t r (p .now) t′))
+  said-add t r t′ = exE 𝓤 _ (λ ws. snd∗ 𝓤 (sem 𝓤 H A (lasts add.ended (κ′, tt) (args t r) ws)) (fact 𝓤 (SurveyAdd t r (p .now) t′)))
 
   abbrev Turn : Type 0
   Turn = State ys (p .now)
@@ -186,7 +186,7 @@ module _ {M : Type 1} (𝓤 : URA M) (H : Heap 𝓤) (A : Atoms 𝓤) (W : Given
   Nearer-wf = InvImage·wf (λ (x : Turn). length ys - x .i) (Nat·lt-wfRel .wf)
 
   -- the state after a turn
-  abbrev next : (x : Turn) (t : Survey) → x .i < length ys → Add (x .t) (getD ys (x .i) EndOfFile) (p .now) t → Is Q t (machQ t ∷ []) → Turn
+  abbrev next : (x : Turn) (t : Survey) → x .i < length ys → SurveyAdd (x .t) (getD ys (x .i) EndOfFile) (p .now) t → Is Q t (machQ t ∷ []) → Turn
   next x t l e is = record { i = x .i + 1; t = t; so-far = then-add (x .so-far) e (taken-more ys (x .i) EndOfFile l); is = is }
 
   module _ (𝓣 : Tables 𝓤 H) (fm : FmC 𝓤 H (W .laws) (𝓣 .C)) (adds : Triple 𝓤 (𝓣 .C #writer·Survey·add) (Adds 𝓤 H A mem run)) (l₀ l₁ l₂ l₃ l₄ l₅ l₆ l₇ l₈ : ℕ) where
@@ -229,7 +229,7 @@ module _ {M : Type 1} (𝓤 : URA M) (H : Heap 𝓤) (A : Atoms 𝓤) (W : Given
         move ! (22 ∷ 0 ∷ []) $ use2 W (raw (Adds 𝓤 H A mem run .pre (to-add (x .t) r))) (goes-add (x .t) r (x .is) is) $
         calls-at ! fm (Adds 𝓤 H A mem run) adds (to-add (x .t) r) (and-then ! (load ! (from ! (stop !)) (look ! 14 refl)) (and-then ! (load ! (from ! (stop !)) (look ! 4 refl)) (and-then ! (load ! (from ! (stop !)) (look ! 16 refl)) (no-more !)))) (λ u.
         use1 W (later (some (λ (t′ : Survey). ((‵ (flft κ′ q′) ⊛ ‵ ftrue) ⊛ ‵ (Q .own t′ (u ∷ []))) ⊛ raw (ensured 𝓤 H A add.ended (add.clauses 𝓤 H A mem run) (κ′, tt) (args (x .t) r) tt t′)))) (id⊢ 𝓤 _) $ await ! tt $ pick ! (λ t′.
-        split ! $ move ! (1 ∷ []) $ use1 W (raw (fact 𝓤 (Add (x .t) r (p .now) t′))) (said-add (x .t) r t′) $ heard ! (Add (x .t) r (p .now) t′) (λ e′. split ! $ move ! (1 ∷ []) $
+        split ! $ move ! (1 ∷ []) $ use1 W (raw (fact 𝓤 (SurveyAdd (x .t) r (p .now) t′))) (said-add (x .t) r t′) $ heard ! (SurveyAdd (x .t) r (p .now) t′) (λ e′. split ! $ move ! (1 ∷ []) $
         -- [the result; the pool's token; what the pool owns; the list's token; what the list owns; _8; …]
         peeks ! Q (Is Q) (shows 𝓤 H A Q) t′ (u ∷ []) (λ is′. drop ! $
         land ! (from ! (stop !)) (store ! 14 refl (LL.lawful S.the-type S′.the-laws 𝓤 H A W .typed t′ _ is′ .0)) $
@@ -259,10 +259,10 @@ module _ {M : Type 1} (𝓤 : URA M) (H : Heap 𝓤) (A : Atoms 𝓤) (W : Given
         by ! (exits (x .t) (x .is) (taken-all ys (λ (l : List Record). Surveys (p .now) l (x .t)) (x .i) (ltb-false (x .i) (length ys) e) (x .so-far)))
 
     -- the loop, and the rest of the body
-    abbrev start : (t : Survey) → New t → Is Q t (machQ t ∷ []) → Turn
+    abbrev start : (t : Survey) → SurveyNew t → Is Q t (machQ t ∷ []) → Turn
     start t e is = record { i = 0; t = t; so-far = at-first e; is = is }
 
-    looped : (t : Survey) (e : New t) (is : Is Q t (machQ t ∷ [])) → Sq W (At (start t e is)) (runs C Λ En mir.t-3 (atRet En Post))
+    looped : (t : Survey) (e : SurveyNew t) (is : Is Q t (machQ t ∷ [])) → Sq W (At (start t e is)) (runs C Λ En mir.t-3 (atRet En Post))
     looped t e is = first ! $ blocks ! $ loops ! 𝓣 Nearer Nearer-wf At (λ x. turn x _ refl) (start t e is)
 
   walk : (𝓣 : Tables 𝓤 H) → FmC 𝓤 H (W .laws) (𝓣 .C) → Triple 𝓤 (𝓣 .C #writer·Survey·new) (Begins 𝓤 H A mem run) → Triple 𝓤 (𝓣 .C #writer·Survey·add) (Adds 𝓤 H A mem run)
@@ -274,7 +274,7 @@ module _ {M : Type 1} (𝓤 : URA M) (H : Heap 𝓤) (A : Atoms 𝓤) (W : Given
       -- `new`
       use0 W (raw (Begins 𝓤 H A mem run .pre (to-new 𝓤 H A mem run))) (goes-new 𝓤 H A mem run W) $ calls-at ! fm (Begins 𝓤 H A mem run) begins (to-new 𝓤 H A mem run) (no-more !) (λ u.
       use1 W (later (some (λ (t : Survey). (‵ ftrue ⊛ ‵ (Q .own t (u ∷ []))) ⊛ raw (ensured 𝓤 H A new.ended (new.clauses 𝓤 H A mem run) tt tt tt t)))) (id⊢ 𝓤 _) $ await ! tt $ pick ! (λ t.
-      split ! $ move ! (1 ∷ []) $ use1 W (raw (fact 𝓤 (New t))) (said-new 𝓤 H A mem run t) $ heard ! (New t) (λ e. split ! $ drop ! $
+      split ! $ move ! (1 ∷ []) $ use1 W (raw (fact 𝓤 (SurveyNew t))) (said-new 𝓤 H A mem run t) $ heard ! (SurveyNew t) (λ e. split ! $ drop ! $
       peeks ! Q (Is Q) (shows 𝓤 H A Q) t (u ∷ []) (λ is. drop ! $
       land ! (from ! (stop !)) (init ! 10 refl (LL.lawful S.the-type S′.the-laws 𝓤 H A W .typed t _ is .0)) $ rewrite ! 10 (λ (w : Val). ‵ (fat fullShare S′.mir l₃ 0 w)) (ap only (LL.tells S.the-type S′.the-laws t _ is)) refl $
       assigns ! (of-opd ! (lit ! tt)) (from ! (stop !)) (init ! 8 refl (tt, record { fits = lit< tt })) $

@@ -6,7 +6,7 @@ use mathlib.Core.Option.{none}
 use denote.Ref.{now}
 use lib.ListN.{length}
 use Rattle.writer.specs.Told.{told}
-use Rattle.writer.specs.Line.{fault, line}
+use Rattle.writer.specs.Line.{line-refusal, line}
 use Rattle.writer.proofs.Answers.{there, not-there, full, written-there}
 use borrow.Author.Needs.{needs}
 use Rattle.writer.proofs.to_record_string.Statement.{statement}
@@ -15,10 +15,10 @@ use Rattle.writer.proofs.to_record_string.Tie as tie
 -- a measured line: it is there, and as long as it was measured
 measured : (c : tie.After-known-told2)
     → let a = c .before .before .before .before .before .before .args in
-    (fault (a .«record») (length (now (a .pool))) ≡ none) × (c .before .measured2 .given .0 .0 ≡ length (line (a .«record») (now (a .pool))))
+    (line-refusal (a .«record») (length (now (a .pool))) ≡ none) × (c .before .measured2 .given .0 .0 ≡ length (line (a .«record») (now (a .pool))))
 measured c =
     let a = c .before .before .before .before .before .before .args in
-    there (fault (a .«record») (length (now (a .pool)))) (line (a .«record») (now (a .pool))) (c .before .measured2 .given .0 .0)
+    there (line-refusal (a .«record») (length (now (a .pool)))) (line (a .«record») (now (a .pool))) (c .before .measured2 .given .0 .0)
     (sym (ap told (c .before .measured2 .given .1)) ∙ c .before .before .before .measure .ensures)
 
 measure-requires : tie.Need-measure-requires
@@ -34,7 +34,7 @@ returns : tie.Need-returns
 returns c =
     let a = c .before .before .before .before .before .before .before .args in
     let m = measured (c .before) in
-    full (fault (a .«record») (length (now (a .pool)))) (line (a .«record») (now (a .pool))) (now (a .out)) 0 (m .0) (omega arith)
+    full (line-refusal (a .«record») (length (now (a .pool)))) (line (a .«record») (now (a .pool))) (now (a .out)) 0 (m .0) (omega arith)
 
 put-record-requires : tie.Need-put-record-requires
 put-record-requires c κs = let m = measured (c .before .before) in record { fine = m .0; room = omega arith }
@@ -42,7 +42,7 @@ put-record-requires c κs = let m = measured (c .before .before) in record { fin
 returns-2 : tie.Need-returns-2
 returns-2 c =
     let a = c .before .before .before .before .before .before .args in
-    not-there (fault (a .«record») (length (now (a .pool)))) (line (a .«record») (now (a .pool))) (line (a .«record») (now (a .pool))) (now (a .out)) 0 (c .before .measured .given .0 .0)
+    not-there (line-refusal (a .«record») (length (now (a .pool)))) (line (a .«record») (now (a .pool))) (line (a .«record») (now (a .pool))) (now (a .out)) 0 (c .before .measured .given .0 .0)
     (sym (ap told (c .before .measured .given .1)) ∙ c .before .before .before .measure .ensures)
 
 same-length : tie.Need-same-length
@@ -52,7 +52,7 @@ returns-3 : tie.Need-returns-3
 returns-3 c =
     let a = c .before .before .before .before .before .before .before .before .before .before .before .args in
     let m = measured (c .before .before .before .before .before) in
-    written-there (fault (a .«record») (length (now (a .pool)))) (line (a .«record») (now (a .pool))) (now (a .out)) 0 (m .0)
+    written-there (line-refusal (a .«record») (length (now (a .pool)))) (line (a .«record») (now (a .pool))) (now (a .out)) 0 (m .0)
     (c .before .before .before .before .before .before .measured2 .given .0 .0) (c .before .before .put-record .last .1 .1 .0) (omega arith) (omega arith) (c .before .before .put-record .ensures)
 
 pub to-record-string-spec : {M : Type 1} → statement M

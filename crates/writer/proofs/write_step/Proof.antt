@@ -8,7 +8,7 @@ use lib.ListN.{length, set, length-append}
 use Rattle.writer.specs.Told.{told}
 use Prim.Native.Nat.{_+_}
 use mathlib.Core.List.{[], _∷_}
-use Rattle.writer.specs.Line.{fault, line, ended-line}
+use Rattle.writer.specs.Line.{line-refusal, line, ended-line}
 use Rattle.record.proofs.Pasting.{pasted-one, pasted-more}
 use Rattle.writer.proofs.Answers.{there, not-there, full, written-there}
 use borrow.Author.Needs.{needs}
@@ -18,10 +18,10 @@ use Rattle.writer.proofs.write_step.Tie as tie
 -- a measured line: it is there, and as long as it was measured
 measured : (c : tie.After-known-told2)
     → let a = c .before .before .before .before .before .before .args in
-    (fault (a .«record») (length (now (a .pool))) ≡ none) × (c .before .measured2 .given .0 .0 ≡ length (line (a .«record») (now (a .pool))))
+    (line-refusal (a .«record») (length (now (a .pool))) ≡ none) × (c .before .measured2 .given .0 .0 ≡ length (line (a .«record») (now (a .pool))))
 measured c =
     let a = c .before .before .before .before .before .before .args in
-    there (fault (a .«record») (length (now (a .pool)))) (line (a .«record») (now (a .pool))) (c .before .measured2 .given .0 .0)
+    there (line-refusal (a .«record») (length (now (a .pool)))) (line (a .«record») (now (a .pool))) (c .before .measured2 .given .0 .0)
     (sym (ap told (c .before .measured2 .given .1)) ∙ c .before .before .before .measure .ensures)
 
 measure-requires : tie.Need-measure-requires
@@ -37,7 +37,7 @@ returns : tie.Need-returns
 returns c =
     let a = c .before .before .before .before .before .before .before .args in
     let m = measured (c .before) in
-    full (fault (a .«record») (length (now (a .pool)))) (ended-line (a .«record») (now (a .pool))) (now (a .out)) (a .at) (m .0)
+    full (line-refusal (a .«record») (length (now (a .pool)))) (ended-line (a .«record») (now (a .pool))) (now (a .out)) (a .at) (m .0)
     (let l = length-append (line (a .«record») (now (a .pool))) (10 ∷ []) in omega arith)
 
 sub-if2 : tie.Need-sub-if2
@@ -47,7 +47,7 @@ returns-2 : tie.Need-returns-2
 returns-2 c =
     let a = c .before .before .before .before .before .before .before .before .args in
     let m = measured (c .before .before) in
-    full (fault (a .«record») (length (now (a .pool)))) (ended-line (a .«record») (now (a .pool))) (now (a .out)) (a .at) (m .0)
+    full (line-refusal (a .«record») (length (now (a .pool)))) (ended-line (a .«record») (now (a .pool))) (now (a .out)) (a .at) (m .0)
     (let l = length-append (line (a .«record») (now (a .pool))) (10 ∷ []) in omega arith)
 
 add-end : tie.Need-add-end
@@ -65,7 +65,7 @@ add-t10 c = search needs
 returns-3 : tie.Need-returns-3
 returns-3 c =
     let a = c .before .before .before .before .before .before .args in
-    not-there (fault (a .«record») (length (now (a .pool)))) (line (a .«record») (now (a .pool))) (ended-line (a .«record») (now (a .pool))) (now (a .out)) (a .at) (c .before .measured .given .0 .0)
+    not-there (line-refusal (a .«record») (length (now (a .pool)))) (line (a .«record») (now (a .pool))) (ended-line (a .«record») (now (a .pool))) (now (a .out)) (a .at) (c .before .measured .given .0 .0)
     (sym (ap told (c .before .measured .given .1)) ∙ c .before .before .before .measure .ensures)
 
 same-length : tie.Need-same-length
@@ -79,7 +79,7 @@ returns-4 c =
     let end = a .at + c .before .before .before .before .before .before .before .measured2 .given .0 .0 in
     let l = length-append (line (a .«record») (now (a .pool))) (10 ∷ []) in
     let k = p .kept .1 .1 .0 in
-    written-there (fault (a .«record») (length (now (a .pool)))) (ended-line (a .«record») (now (a .pool))) (now (a .out)) (a .at) (m .0)
+    written-there (line-refusal (a .«record») (length (now (a .pool)))) (ended-line (a .«record») (now (a .pool))) (now (a .out)) (a .at) (m .0)
     (end + 1) (set (p .last .1 .1 .0) end 10) (omega arith) (omega arith)
     (pasted-more (now (a .out)) (a .at) (line (a .«record») (now (a .pool))) (omega arith) (10 ∷ []) end (p .ensures) (omega arith)
     (pasted-one (p .last .1 .1 .0) end 10 (omega arith)))

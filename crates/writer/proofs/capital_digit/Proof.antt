@@ -1,10 +1,10 @@
--- `writer::digit` meets its contract: the test of the definition, and the same sums.
+-- `writer::capital_digit` meets its contract: the test of the definition, and the same sums.
 -- Assumes nothing.
 use borrow.Author.Tests.{lt-ltb, le-ltb}
 use Rattle.record.specs.Written.{capital-digit}
 use borrow.Author.Needs.{needs}
-use Rattle.writer.proofs.digit.Statement.{statement}
-use Rattle.writer.proofs.digit.Tie as tie
+use Rattle.writer.proofs.capital_digit.Statement.{statement}
+use Rattle.writer.proofs.capital_digit.Tie as tie
 
 add-result : tie.Need-add-result
 add-result c = search needs
@@ -20,5 +20,5 @@ returns-2 : tie.Need-returns-2
 unfolding capital-digit
 returns-2 c = rw (le-ltb (c .before .args .x) 10 (c .if1 .left))
 
-pub digit-spec : {M : Type 1} → statement M
-digit-spec = tie.close (tie.spec add-result add-result-2 returns returns-2)
+pub capital-digit-spec : {M : Type 1} → statement M
+capital-digit-spec = tie.close (tie.spec add-result add-result-2 returns returns-2)

@@ -1,9 +1,9 @@
--- `loader::number_of` meets its contract: each base stands for its own number.
+-- `loader::base_of` meets its contract: each base stands for its own number.
 -- Assumes nothing.
 use Rattle.loader.specs.Placing.{base-of}
 use borrow.Author.Needs.{needs}
-use Rattle.loader.proofs.number_of.Statement.{statement}
-use Rattle.loader.proofs.number_of.Tie as tie
+use Rattle.loader.proofs.base_of.Statement.{statement}
+use Rattle.loader.proofs.base_of.Tie as tie
 
 enum-told : tie.Need-enum-told
 enum-told c = search needs
@@ -38,8 +38,8 @@ returns-3 : tie.Need-returns-3
 unfolding base-of
 returns-3 c = rw (c .before .base2 .given .1)
 
-pub number-of-spec : {M : Type 1} → statement M
-number-of-spec =
+pub base-of-spec : {M : Type 1} → statement M
+base-of-spec =
     tie.close
     (tie.spec
     enum-told

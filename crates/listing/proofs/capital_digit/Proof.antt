@@ -1,10 +1,10 @@
--- `listing::digit` meets its contract, on either side of ten.
+-- `listing::capital_digit` meets its contract, on either side of ten.
 -- Assumes nothing.
 use borrow.Author.Needs.{needs}
 use borrow.Author.Tests.{lt-ltb, le-ltb}
 use Rattle.record.specs.Written.{capital-digit}
-use Rattle.listing.proofs.digit.Statement.{statement}
-use Rattle.listing.proofs.digit.Tie as tie
+use Rattle.listing.proofs.capital_digit.Statement.{statement}
+use Rattle.listing.proofs.capital_digit.Tie as tie
 
 add-result : tie.Need-add-result
 add-result c = search needs
@@ -20,5 +20,5 @@ returns-2 : tie.Need-returns-2
 unfolding capital-digit
 returns-2 c = rw (le-ltb (c .before .args .x) 10 (c .if1 .left))
 
-pub digit-spec : {M : Type 1} → statement M
-digit-spec = tie.close (tie.spec add-result returns add-result-2 returns-2)
+pub capital-digit-spec : {M : Type 1} → statement M
+capital-digit-spec = tie.close (tie.spec add-result returns add-result-2 returns-2)
