@@ -85,7 +85,7 @@ uint32_t ihex_read_record(const uint8_t *line, size_t line_len,
                           uint64_t *a, uint64_t *b, uint64_t *c);
 
 /* Reads the next line that has a byte as ihex_read_record does, or returns IHEX_DONE, and moves the state: position, line, flags.
- * A state begins with 0, 0 and the stops; line is the line's number. After IHEX_POOL_FULL the state is as it was. */
+ * A state begins with 0, 0 and the stops; line is the line's number. After IHEX_POOL_FULL position, line and the three flags are as they were. */
 uint32_t ihex_next(const uint8_t *text, size_t text_len,
                    uint8_t *pool, size_t pool_len, size_t at,
                    size_t *position, size_t *line, uint8_t *flags,
@@ -99,7 +99,7 @@ uint32_t ihex_to_record_string(uint8_t type, uint32_t number, uint16_t second, s
                                uint64_t *value);
 
 /* Writes a list of records, one LF behind each: returns 0 and the text's length as the value, or IHEX_BAD_RECORD for
- * bytes that are no list of ihex_record, or IHEX_REFUSED and 13, 14, the first record's 11 or 12, or 15, in this order. */
+ * bytes that are no list of ihex_record, or IHEX_REFUSED and 13, 14, the 11 or 12 of the first record that has one, or 15. */
 uint32_t ihex_create_object_file_representation(const void *list, size_t list_len,
                                                 const uint8_t *pool, size_t pool_len,
                                                 uint8_t *out, size_t out_len,

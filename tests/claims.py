@@ -13,7 +13,7 @@ for number, row in enumerate((repo / "docs" / "CLAIMS.md").read_text(encoding="u
     for cell in row.split("|")[2:-1]:
         text = None
         for name in re.findall(r"`([^`]+)`", cell):
-            if re.match(r"(crates|tests|docs)/\S+$", name):
+            if re.match(r"(crates|tests|docs|rust)/\S+$", name):
                 path = repo / name
                 text = path.read_text(encoding="utf-8") if path.is_file() else None
                 there = text is not None

@@ -142,6 +142,7 @@ examples =
       end-line = λ pool. refl;
       segment-line = λ pool. refl;
       start-line = λ pool. refl;
+      end-alone = λ pool. refl;
       thirteen-first = λ pool. refl;
       three-ends = λ pool. refl;
     }

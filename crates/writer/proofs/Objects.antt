@@ -17,7 +17,7 @@ use Rattle.record.proofs.Choices.{or-else-none, or-else-assoc}
 use Rattle.writer.specs.Text.{chars, refused, unless}
 use Rattle.writer.specs.Line.{line-refusal, ended-line}
 use Rattle.writer.specs.Object.{is-end, ends, ends-in-end, first-refusal, joined-lines, object}
-use Rattle.writer.specs.Claims.{Object-whole}
+use Rattle.writer.specs.Claims.{Object-whole, Whole-object}
 
 pub ends-snoc : (rs : List Record) (r : Record) → ends (rs ++ (r ∷ [])) ≡ ends rs + (if is-end r then 1 else 0)
 unfolding ends
@@ -35,17 +35,17 @@ ends-in-end-snoc [] r = refl
 ends-in-end-snoc (q ∷ []) r = refl
 ends-in-end-snoc (q ∷ p ∷ rs) r = ends-in-end-snoc (p ∷ rs) r
 
-pub first-fault-snoc : (rs : List Record) (r : Record) (n : ℕ) → first-refusal (rs ++ (r ∷ [])) n ≡ or-else (first-refusal rs n) (line-refusal r n)
+pub first-refusal-snoc : (rs : List Record) (r : Record) (n : ℕ) → first-refusal (rs ++ (r ∷ [])) n ≡ or-else (first-refusal rs n) (line-refusal r n)
 unfolding first-refusal
-first-fault-snoc [] r n = or-else-none (line-refusal r n)
-first-fault-snoc (q ∷ rs) r n = ap (or-else (line-refusal q n)) (first-fault-snoc rs r n) ∙ sym (or-else-assoc (line-refusal q n) (first-refusal rs n) (line-refusal r n))
+first-refusal-snoc [] r n = or-else-none (line-refusal r n)
+first-refusal-snoc (q ∷ rs) r n = ap (or-else (line-refusal q n)) (first-refusal-snoc rs r n) ∙ sym (or-else-assoc (line-refusal q n) (first-refusal rs n) (line-refusal r n))
 
 pub lines-snoc : (rs : List Record) (r : Record) (pool : List ℕ) → joined-lines (rs ++ (r ∷ [])) pool ≡ joined-lines rs pool ++ ended-line r pool
 unfolding joined-lines
 lines-snoc [] r pool = append-nil (ended-line r pool)
 lines-snoc (q ∷ rs) r pool = ap (λ (l : List ℕ). ended-line q pool ++ l) (lines-snoc rs r pool) ∙ sym (append-assoc (ended-line q pool) (joined-lines rs pool) (ended-line r pool))
 
--- none of two faults is none of each
+-- none of two refusals is none of each
 pub or-else-both : (f g : Option Refusal) → or-else f g ≡ none → (f ≡ none) × (g ≡ none)
 or-else-both none g e = (refl, e)
 or-else-both (some r) g e = let z : _≡_ {A = ℕ} 0 1 = cc in absurd (omega arith)
@@ -90,3 +90,14 @@ object-whole rs pool cs e =
     let least = one-at-least rs (p .ended) in
     let most = ltb-false 1 (ends rs) (p .few) in
     record { fine = every-fine rs (length pool) (p .fine); lined = p .lined; ended = p .ended; one = omega arith }
+
+none-refused : (rs : List Record) (n : ℕ) → Every (λ r. line-refusal r n ≡ none) rs → first-refusal rs n ≡ none
+unfolding first-refusal
+none-refused [] n f = refl
+none-refused (r ∷ rs) n (f, fs) = rw (f, none-refused rs n fs)
+
+pub whole-object : Whole-object
+unfolding object
+whole-object rs pool cs w =
+    let few : ltb 1 (ends rs) ≡ false = ap (ltb 1) (w .one) in
+    rw (w .ended, few, none-refused rs (length pool) (w .fine), w .lined)

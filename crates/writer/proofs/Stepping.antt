@@ -2,6 +2,7 @@
 -- Assumes nothing.
 use Prim.Native.Nat.{ℕ, _+_, _≤_}
 use mathlib.Core.Path.{_≡_, refl, sym, _∙_, ap, subst}
+use mathlib.Core.Logic.{inl}
 use mathlib.Core.Bool.{Bool, true, false}
 use mathlib.Core.Option.{Option, none, some}
 use mathlib.Core.List.{List, [], _∷_, _++_}
@@ -21,7 +22,7 @@ use Rattle.writer.specs.Object.{first-refusal, joined-lines, object, Wri
 use Rattle.writer.specs.Survey.{begun}
 use Rattle.writer.specs.Claims.{Steps, no-step, then-step, Object-written}
 use Rattle.record.proofs.Pasting.{pasted-none, pasted-length, pasted-on}
-use Rattle.writer.proofs.Objects.{first-fault-snoc, lines-snoc, or-else-both, parts}
+use Rattle.writer.proofs.Objects.{first-refusal-snoc, lines-snoc, or-else-both, parts}
 use Rattle.writer.proofs.Surveying.{answered}
 
 -- ---- a refusal stays, and nothing is written
@@ -86,7 +87,7 @@ gone pool out start e no-step f h = (e, sym (pasted-none out 0))
 gone pool out start e (then-step {rs} {whole} x {w} {w′} {out₁} out₂ v n q) f h =
     let f′ : first-refusal (rs ++ (x ∷ [])) (length pool) ≡ none = rw q at f in
     let h′ : length (joined-lines (rs ++ (x ∷ [])) pool) ≤ length out = rw q at h in
-    let p = or-else-both (first-refusal rs (length pool)) (line-refusal x (length pool)) (sym (first-fault-snoc rs x (length pool)) ∙ f′) in
+    let p = or-else-both (first-refusal rs (length pool)) (line-refusal x (length pool)) (sym (first-refusal-snoc rs x (length pool)) ∙ f′) in
     let m = ap length (lines-snoc rs x pool) ∙ length-append (joined-lines rs pool) (ended-line x pool) in
     rw q (done-more rs x pool out w w′ out₁ out₂ (gone pool out start e v (p .0) (omega arith)) (p .1) h′ n)
 
@@ -94,7 +95,7 @@ gone pool out start e (then-step {rs} {whole} x {w} {w′} {out₁} out₂ v n q
 
 pub object-written : Object-written
 object-written rs pool out s start w out′ few small v b t =
-    go (object rs pool) refl (b .answer ∙ ap begun (answered rs pool s (length out) few small v))
+    go (object rs pool) refl (b .answer ∙ ap begun (answered rs pool s (length out) few (inl small) v))
   where
     fits : (cs : List ℕ) → object rs pool ≡ chars cs → (c : Bool) → leb (0 + length cs) (length out) ≡ c
         → told start ≡ begun (if c then wrote (0 + length cs) else refuses output-full) → WriteObject rs pool out w out′

@@ -2,6 +2,7 @@
 -- Assumes nothing.
 use Prim.Native.Nat.{ℕ, _+_, _<_, _≤_}
 use mathlib.Core.Path.{_≡_, refl, sym, _∙_, ap}
+use mathlib.Core.Logic.{_⊎_, inl, inr}
 use mathlib.Core.Bool.{Bool, true, false}
 use mathlib.Core.Option.{Option, none, some}
 use mathlib.Core.List.{List, [], _∷_, _++_}
@@ -20,7 +21,7 @@ use Rattle.writer.specs.Line.{line-refusal, line, ended-line}
 use Rattle.writer.specs.Object.{is-end, ends, ends-in-end, first-refusal, joined-lines, object}
 use Rattle.writer.specs.Survey.{SurveyNew, SurveyAdd, most, cap, longer, surveyed}
 use Rattle.writer.specs.Claims.{Surveys, at-first, then-add, Survey-answers}
-use Rattle.writer.proofs.Objects.{ends-snoc, ends-most, ends-in-end-snoc, first-fault-snoc, lines-snoc}
+use Rattle.writer.proofs.Objects.{ends-snoc, ends-most, ends-in-end-snoc, first-refusal-snoc, lines-snoc}
 
 -- ---- numbers
 
@@ -47,7 +48,7 @@ cap-first n m =
 
 -- ---- what is kept
 
--- the length so far, or the first fault
+-- the length so far, or the first refusal
 abbrev sized : Option Refusal → (n : ℕ) → Told
 sized none n = wrote (cap n)
 sized (some r) n = refuses r
@@ -89,7 +90,7 @@ kept-more rs r pool s t k a =
           a .total
           ∙ ap (λ (w : Told). longer w (place-behind (unless (line-refusal r (length pool)) (line r pool)) 0)) (k .total)
           ∙ lengthened (first-refusal rs (length pool)) (line-refusal r (length pool)) (length (joined-lines rs pool)) (line r pool)
-          ∙ rw (first-fault-snoc rs r (length pool), n);
+          ∙ rw (first-refusal-snoc rs r (length pool), n);
     }
 
 kept : {rs : List Record} (pool : List ℕ) {s : Survey} → Surveys pool rs s → Kept rs pool s
@@ -99,18 +100,19 @@ kept pool (then-add {rs} {whole} {r} {s} {t} v a e) = rw e (kept-more rs r pool 
 -- ---- what is answered
 
 -- a length that is capped does not fit where the length does not
-roomy : (n room : ℕ) → room < most → if-room (wrote (cap n)) room ≡ if-room (wrote n) room
-roomy n room h =
+roomy : (n room : ℕ) → (room < most) ⊎ (n ≤ most) → if-room (wrote (cap n)) room ≡ if-room (wrote n) room
+roomy n room (inr k) = ap (λ (m : ℕ). if-room (wrote m) room) (cap-below n k)
+roomy n room (inl h) =
     split n most
     (λ k. ap (λ (m : ℕ). if-room (wrote m) room) (cap-below n k))
     (λ k. ap (λ (m : ℕ). if-room (wrote m) room) (cap-above n (omega arith)) ∙ rw (lt-leb most room h, lt-leb n room (omega arith)))
 
-measured : (f : Option Refusal) (cs : List ℕ) (room : ℕ) → room < most → if-room (sized f (length cs)) room ≡ if-room (place-behind (unless f cs) 0) room
+measured : (f : Option Refusal) (cs : List ℕ) (room : ℕ) → (room < most) ⊎ (length cs ≤ most) → if-room (sized f (length cs)) room ≡ if-room (place-behind (unless f cs) 0) room
 measured none cs room h = let z : length cs ≡ 0 + length cs = omega arith in roomy (length cs) room h ∙ ap (λ (m : ℕ). if-room (wrote m) room) z
 measured (some r) cs room h = refl
 
 -- the tests of the survey and of the object are the same
-pub answered : (rs : List Record) (pool : List ℕ) (s : Survey) (room : ℕ) → length rs ≤ most → room < most → Surveys pool rs s
+pub answered : (rs : List Record) (pool : List ℕ) (s : Survey) (room : ℕ) → length rs ≤ most → (room < most) ⊎ (length (joined-lines rs pool) ≤ most) → Surveys pool rs s
     → surveyed s room ≡ if-room (place-behind (object rs pool) 0) room
 unfolding object
 answered rs pool s room few small v =

@@ -2,6 +2,7 @@
 -- Assumes nothing.
 use Prim.Native.Nat.{ℕ, _+_, _*_, _<_, _≤_}
 use mathlib.Core.Path.{_≡_}
+use mathlib.Core.Logic.{_⊎_}
 use mathlib.Core.Bool.{true}
 use mathlib.Core.Option.{none}
 use mathlib.Core.List.{List, [], _∷_, _++_, map}
@@ -88,6 +89,10 @@ pub record Whole (rs : List Record) (pool cs : List ℕ) : Type 0 where
 abbrev pub Object-whole : Type 0
 Object-whole = (rs : List Record) (pool cs : List ℕ) → object rs pool ≡ chars cs → Whole rs pool cs
 
+-- and such a list has it: none of 11 to 14 is given otherwise
+abbrev pub Whole-object : Type 0
+Whole-object = (rs : List Record) (pool cs : List ℕ) → Whole rs pool cs → object rs pool ≡ chars cs
+
 -- two lists with the same text are the same, payloads and all
 abbrev pub Object-injective : Type 0
 Object-injective =
@@ -99,10 +104,10 @@ pub data Surveys (pool : List ℕ) : List Record → Survey → Type 0 where
   at-first : {s : Survey} → SurveyNew s → Surveys pool [] s
   then-add : {rs whole : List Record} {r : Record} {s t : Survey} → Surveys pool rs s → SurveyAdd s r pool t → whole ≡ rs ++ (r ∷ []) → Surveys pool whole t
 
--- it answers what the definition of an object says
+-- it answers what the definition of an object says, where the output, or else the text, is no longer than a number can say
 abbrev pub Survey-answers : Type 0
 Survey-answers =
-    (rs : List Record) (pool : List ℕ) (s : Survey) (room : ℕ) (a : Written) → length rs ≤ most → room < most
+    (rs : List Record) (pool : List ℕ) (s : Survey) (room : ℕ) (a : Written) → length rs ≤ most → (room < most) ⊎ (length (joined-lines rs pool) ≤ most)
     → Surveys pool rs s → SurveyAnswer s room a → told a ≡ if-room (place-behind (object rs pool) 0) room
 
 -- what calls of `write_next` leave of an output, and their last answer
@@ -123,6 +128,7 @@ pub record Examples : Type 0 where
   pub end-line : (pool : List ℕ) → line-text EndOfFile pool ≡ chars (text ":00000001FF")
   pub segment-line : (pool : List ℕ) → line-text (ExtendedSegmentAddress 0x1200) pool ≡ chars (text ":020000021200EA")
   pub start-line : (pool : List ℕ) → line-text (StartLinearAddress 0xCD) pool ≡ chars (text ":04000005000000CD2A")
+  pub end-alone : (pool : List ℕ) → object (EndOfFile ∷ []) pool ≡ chars (text ":00000001FF" ++ (10 ∷ []))
   -- list end, end, one empty data record: 13, not 14
   pub thirteen-first : (pool : List ℕ) → object (EndOfFile ∷ EndOfFile ∷ Data 0 0 0 ∷ []) pool ≡ refused missing-end-of-file-record
   -- the true count

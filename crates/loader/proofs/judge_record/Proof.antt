@@ -15,15 +15,12 @@ use borrow.Author.Needs.{needs}
 use Rattle.loader.proofs.judge_record.Statement.{statement}
 use Rattle.loader.proofs.judge_record.Tie as tie
 
--- src/rt:150:15
 base-behind-requires : tie.Need-base-behind-requires
 base-behind-requires c κs = search needs
 
--- src/rt:153:24
 enum-known-given : tie.Need-enum-known-given
 enum-known-given c = search needs
 
--- src/rt:154:23
 -- where the payload lies
 lies : (c : tie.After-known-told)
     → let g = c .before .given .given .0 in
@@ -36,58 +33,45 @@ lies c =
 add-end : tie.Need-add-end
 add-end c = omega (arith, lies c)
 
--- src/rt:155:40
 sub-survey : tie.Need-sub-survey
 sub-survey c = search needs
 
--- src/rt:155:40
 part-survey-start : tie.Need-part-survey-start
 part-survey-start c = search needs
 
--- src/rt:155:40
 part-survey-end : tie.Need-part-survey-end
 part-survey-end c = lies c .0
 
--- src/rt:155:19
 survey-requires : tie.Need-survey-requires
 survey-requires c κs =
     let s = c .before .before .before .before .before .before .before in
     let g = c .before .before .given .given .0 in
     (part-small (g .1 .0) (g .1 .1 .0) (now (s .args .pool)) (lies (c .before) .1), s .pre .2)
 
--- src/rt:156:50
 enum-told : tie.Need-enum-told
 enum-told c = search needs
 
--- src/rt:156:50
 add-t23 : tie.Need-add-t23
 add-t23 c = search needs
 
--- src/rt:157:32
 enum-known-address : tie.Need-enum-known-address
 enum-known-address c = search needs
 
--- src/rt:162:41
 enum-told-2 : tie.Need-enum-told-2
 enum-told-2 c = search needs
 
--- src/rt:163:46
 enum-told-3 : tie.Need-enum-told-3
 enum-told-3 c = search needs
 
--- src/rt:164:57
 enum-told-4 : tie.Need-enum-told-4
 enum-told-4 c = search needs
 
--- src/rt:165:45
 enum-told-5 : tie.Need-enum-told-5
 enum-told-5 c = search needs
 
--- src/rt:166:42
 enum-told-6 : tie.Need-enum-told-6
 enum-told-6 c = search needs
 
--- src/rt:135:1
 returns : tie.Need-returns
 returns c =
     let a = c .before .before .before .before .before .before .before .before .before .before .args in
@@ -96,7 +80,6 @@ returns c =
     met-inside (within (a .first) (a .size)) (a .w) (a .records) (a .given) (now (a .pool)) (g .0 .0) (g .0 .1 .0) (g .0 .1 .1 .0) (g .1)
     (c .before .before .survey .result) (c .before .before .survey .ensures) (c .enum-told .given .1) (b .result) (b .ensures)
 
--- src/rt:135:1
 returns-2 : tie.Need-returns-2
 returns-2 c =
     let a = c .before .before .before .before .before .before .before .before .before .before .before .args in
@@ -104,34 +87,29 @@ returns-2 c =
     met-outside (within (a .first) (a .size)) (a .w) (a .records) (a .given) (now (a .pool)) (g .0 .0) (g .0 .1 .0) (g .0 .1 .1 .0) (g .1)
     (c .before .before .before .survey .result) (c .before .before .before .survey .ensures) (c .before .address .given .0 .0) (c .before .address .given .1)
 
--- src/rt:135:1
 returns-3 : tie.Need-returns-3
 returns-3 c =
     let a = c .before .before .before .before .before .args in
     met-end (within (a .first) (a .size)) (a .w) (a .records) (a .given) (now (a .pool)) (c .enum-told2 .given .1)
 
--- src/rt:135:1
 returns-4 : tie.Need-returns-4
 unfolding step-at is-end
 returns-4 c =
     let a = c .before .before .before .before .before .args in
     met-quiet (within (a .first) (a .size)) (a .w) (a .records) (a .given) (now (a .pool)) (rw (c .enum-told3 .given .1)) (λ line base. rw (c .enum-told3 .given .1)) (c .before .before .base-behind .result) (c .before .before .base-behind .ensures)
 
--- src/rt:135:1
 returns-5 : tie.Need-returns-5
 unfolding step-at is-end
 returns-5 c =
     let a = c .before .before .before .before .before .args in
     met-quiet (within (a .first) (a .size)) (a .w) (a .records) (a .given) (now (a .pool)) (rw (c .enum-told4 .given .1)) (λ line base. rw (c .enum-told4 .given .1)) (c .before .before .base-behind .result) (c .before .before .base-behind .ensures)
 
--- src/rt:135:1
 returns-6 : tie.Need-returns-6
 unfolding step-at is-end
 returns-6 c =
     let a = c .before .before .before .before .before .args in
     met-quiet (within (a .first) (a .size)) (a .w) (a .records) (a .given) (now (a .pool)) (rw (c .enum-told5 .given .1)) (λ line base. rw (c .enum-told5 .given .1)) (c .before .before .base-behind .result) (c .before .before .base-behind .ensures)
 
--- src/rt:135:1
 returns-7 : tie.Need-returns-7
 unfolding step-at is-end
 returns-7 c =

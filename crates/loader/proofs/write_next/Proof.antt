@@ -10,7 +10,6 @@ use borrow.Author.Needs.{needs}
 use Rattle.loader.proofs.write_next.Statement.{statement}
 use Rattle.loader.proofs.write_next.Tie as tie
 
--- src/rt:249:9
 -- the record that was read
 one : (c : tie.After-reply)
     → let s = c .before .before .before .before .before .before .before .before .before .before .before .before in
@@ -24,11 +23,9 @@ one c =
 next-requires : tie.Need-next-requires
 next-requires c κs = search needs
 
--- src/rt:253:21
 enum-known-reply : tie.Need-enum-known-reply
 enum-known-reply c = search needs
 
--- src/rt:254:13
 write-record-requires : tie.Need-write-record-requires
 write-record-requires c κs =
     let s = c .before .before .before .before .before .before .before .before .before .before .before .before .before .before .before .before in
@@ -42,31 +39,24 @@ write-record-requires c κs =
       },
     )
 
--- src/rt:257:23
 base-behind-requires : tie.Need-base-behind-requires
 base-behind-requires c κs = search needs
 
--- src/rt:260:30
 enum-told : tie.Need-enum-told
 enum-told c = search needs
 
--- src/rt:261:24
 enum-told-2 : tie.Need-enum-told-2
 enum-told-2 c = search needs
 
--- src/rt:243:1
 same-length : tie.Need-same-length
 same-length c = search needs
 
--- src/rt:243:1
 same-length-2 : tie.Need-same-length-2
 same-length-2 c = search needs
 
--- src/rt:243:1
 same-length-3 : tie.Need-same-length-3
 same-length-3 c = search needs
 
--- src/rt:243:1
 returns : tie.Need-returns
 returns c =
     let s = c .before .before .before .before .before .before .before .before .before .before .before .before .before .before .before .before .before .before .before .before .before .before in
@@ -75,11 +65,9 @@ returns c =
     wrote (now (s .args .text)) (s .args .w) (now (s .args .pool)) (n .result) (n .last .1 .1 .0) (s .pre .under-way) (s .pre .pool-room) (n .ensures)
     (s .args .first) (now (s .args .page)) (now (s .args .marks)) _ _ _ (one (c .before .before .before .before .before .before .before .before .before .before)) (c .base-behind .result) (s .pre .accepts) (t .ensures) (c .base-behind .ensures)
 
--- src/rt:243:1
 same-length-4 : tie.Need-same-length-4
 same-length-4 c = search needs
 
--- src/rt:243:1
 returns-2 : tie.Need-returns-2
 returns-2 c =
     let s = c .before .before .before .before .before .before .before .before .before .before .before .before in
@@ -87,11 +75,9 @@ returns-2 c =
     let u = came-refused (s .args .w .state) (now (s .args .text)) (now (s .args .pool)) (n .result) (n .last .1 .1 .0) (s .pre .under-way .options) (s .pre .under-way .countable) (s .pre .pool-room) (n .ensures) (c .enum-told .given .0 .0) (c .enum-told .given .1) in
     absurd (no-refused (now (s .args .text)) (s .args .w) (now (s .args .pool)) (n .result) (n .last .1 .1 .0) (s .pre .under-way) (s .pre .pool-room) (n .ensures) (within (s .args .first) (length (now (s .args .page)))) (n .result .state .line) (c .enum-told .given .0 .0) (u .0) (u .1) (s .pre .accepts))
 
--- src/rt:243:1
 same-length-5 : tie.Need-same-length-5
 same-length-5 c = search needs
 
--- src/rt:243:1
 returns-3 : tie.Need-returns-3
 returns-3 c =
     let s = c .before .before .before .before .before .before .before .before .before .before .before .before in

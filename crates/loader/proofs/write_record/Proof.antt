@@ -12,11 +12,9 @@ use borrow.Author.Needs.{needs}
 use Rattle.loader.proofs.write_record.Statement.{statement}
 use Rattle.loader.proofs.write_record.Tie as tie
 
--- src/rt:230:24
 enum-known-given : tie.Need-enum-known-given
 enum-known-given c = search needs
 
--- src/rt:231:23
 -- where the payload lies
 lies : (c : tie.After-known-told)
     → let g = c .before .given .given .0 in
@@ -29,19 +27,15 @@ lies c =
 add-end : tie.Need-add-end
 add-end c = omega (arith, lies c)
 
--- src/rt:232:31
 sub-put : tie.Need-sub-put
 sub-put c = search needs
 
--- src/rt:232:31
 part-put-start : tie.Need-part-put-start
 part-put-start c = search needs
 
--- src/rt:232:31
 part-put-end : tie.Need-part-put-end
 part-put-end c = lies c .0
 
--- src/rt:232:13
 put-requires : tie.Need-put-requires
 put-requires c κs =
     let s = c .before .before .before .before .before .before .before .before .before in
@@ -65,15 +59,12 @@ enum-told-4 c = search needs
 enum-told-5 : tie.Need-enum-told-5
 enum-told-5 c = search needs
 
--- src/rt:225:1
 same-length : tie.Need-same-length
 same-length c = search needs
 
--- src/rt:225:1
 same-length-2 : tie.Need-same-length-2
 same-length-2 c = search needs
 
--- src/rt:225:1
 returns : tie.Need-returns
 returns c =
     let s = c .before .before .before .before .before .before .before .before .before .before .before .before .before .before in
@@ -81,35 +72,30 @@ returns c =
     let p = c .before .before .before .before .put in
     painted-data (s .args .first) (based (s .args .base)) (s .args .given) (now (s .args .pool)) (now (s .args .page)) (now (s .args .marks)) (g .0 .0) (g .0 .1 .0) (g .0 .1 .1 .0) _ _ (g .1) (p .ensures)
 
--- src/rt:225:1
 returns-2 : tie.Need-returns-2
 unfolding stated-by
 returns-2 c =
     let a = c .before .before .before .before .before .args in
     idle (a .first) (based (a .base)) (a .given) (now (a .pool)) (now (a .page)) (now (a .marks)) (rw (c .enum-told .given .1))
 
--- src/rt:225:1
 returns-3 : tie.Need-returns-3
 unfolding stated-by
 returns-3 c =
     let a = c .before .before .before .before .before .args in
     idle (a .first) (based (a .base)) (a .given) (now (a .pool)) (now (a .page)) (now (a .marks)) (rw (c .enum-told2 .given .1))
 
--- src/rt:225:1
 returns-4 : tie.Need-returns-4
 unfolding stated-by
 returns-4 c =
     let a = c .before .before .before .before .before .args in
     idle (a .first) (based (a .base)) (a .given) (now (a .pool)) (now (a .page)) (now (a .marks)) (rw (c .enum-told3 .given .1))
 
--- src/rt:225:1
 returns-5 : tie.Need-returns-5
 unfolding stated-by
 returns-5 c =
     let a = c .before .before .before .before .before .args in
     idle (a .first) (based (a .base)) (a .given) (now (a .pool)) (now (a .page)) (now (a .marks)) (rw (c .enum-told4 .given .1))
 
--- src/rt:225:1
 returns-6 : tie.Need-returns-6
 unfolding stated-by
 returns-6 c =
