@@ -3,6 +3,7 @@ pub mod Rows
 pub mod Demand3
 pub mod Reasons
 pub mod Claims
+pub mod OneReason
 pub mod Stores
 pub mod Calls
 pub mod Meeting

@@ -1,7 +1,7 @@
 -- What is claimed of a load. Demand 3: what stands behind the line at which a load stops, and what the buffers held before, can change no
 -- answer and no mark; a place is marked exactly when a data record ahead of the end record states it, and holds what the last such record
 -- states; every other place keeps its byte. Then why a load answers as it does, and that nothing else meets the contract.
--- Each is proved in `proofs/Demand3.antt` or `proofs/Claims.antt`.
+-- Each is proved in `proofs/Demand3.antt`, `proofs/Claims.antt` or `proofs/OneReason.antt`.
 -- Assumes nothing.
 use mathlib.Core.Path.{_≡_}
 use mathlib.Core.Logic.{_≢_, _↔_, _⊎_}
@@ -183,7 +183,7 @@ pub record Window (first : ℕ) (page marks : List ℕ) : Type 0 where
   pub small : length page ≤ 65536
   pub below : first + length page ≤ 2 ^ 32
 
--- the one reason for each answer
+-- a reason for an answer
 pub data Why (text : List ℕ) (first : ℕ) (page marks : List ℕ) : Verdict → Type 0 where
   bad-one : ¬ Window first page marks → Why text first page marks (refused bad-window 0)
   no-end : Window first page marks → All-pass (within first (length page)) [] (lines text)
@@ -192,6 +192,10 @@ pub data Why (text : List ℕ) (first : ℕ) (page marks : List ℕ) : Verdict �
 
 abbrev pub Reasons : Type 0
 Reasons = (text : List ℕ) (first : ℕ) (page marks : List ℕ) → Why text first page marks ((load text first page marks) .answer)
+
+-- and no other answer has one: each refusal is given exactly when its reason holds
+abbrev pub One-reason : Type 0
+One-reason = (text : List ℕ) (first : ℕ) (page marks : List ℕ) (v v′ : Verdict) → Why text first page marks v → Why text first page marks v′ → v ≡ v′
 
 -- the numbers of refusals that a load can give
 abbrev pub refusal-numbers : List ℕ
