@@ -1,4 +1,4 @@
--- A written object is read again: its lines are cut where they were joined, each says its record, and only the last stops the reader.
+-- A written object is read again: its lines are cut where they were joined, each says its record, and only the last stops the reader. What a writer left in the output is that text, and a call with room for its record is not told PoolFull.
 -- Assumes nothing.
 use Prim.Native.Nat.{ℕ, suc, _+_, _*_, _^_, _≤_, _<_}
 use mathlib.Core.Path.{_≡_, refl, sym, _∙_, ap, ap₂, subst}
@@ -8,9 +8,9 @@ use mathlib.Core.Option.{Option, none, some}
 use mathlib.Core.List.{List, [], _∷_, _++_, map, append-assoc, append-nil, nil≢cons, List·Memᴰ, List·Memᴰ·cases-cons, List·Memᴰ·not-nil, tail-eq-of-cons-eq, head-eq-of-cons-eq}
 use native.Mathlib.Omega.{arith}
 use lib.Dec.{leb, eqb}
-use lib.ListN.{length, take, drop, length-append}
+use lib.ListN.{length, take, drop, length-append, length-take}
 use lib.Seq.{take-at, drop-at, length-take-le}
-use borrow.Author.Tests.{leb-true}
+use borrow.Author.Tests.{le-leb, leb-true}
 use Rattle.record.specs.Common.{if_then_else_, Every, Byte, pasted}
 use Rattle.record.specs.Refusals.{pool-full}
 use Rattle.record.specs.declared.Record.{Record}
@@ -26,18 +26,19 @@ use Rattle.reader.specs.Told.{Told, gives, refuses, done, told}
 use Rattle.reader.specs.Answer.{room, given, kept, answered, poured}
 use Rattle.reader.specs.Lines.{LF, CR, Cut, Ended, with-LF, Joins, nothing, more, lines}
 use Rattle.reader.specs.Row.{Numbered, on, sayings, is-end, stops, through-stop, row}
-use Rattle.reader.specs.Text.{is-full, default-options, new-state}
-use Rattle.reader.specs.Calls.{Call, Given, Calls, one-by-one}
+use Rattle.reader.specs.Text.{is-full, ends-row, default-options, new-state}
+use Rattle.reader.specs.Calls.{Call, Given, Calls, replies, one-by-one}
 use Rattle.reader.proofs.Gather.{and-true}
 use Rattle.reader.proofs.Cutting.{lines-closed, closed}
-use Rattle.reader.proofs.Texts.{lines-join, in-order}
+use Rattle.reader.proofs.Texts.{lines-join, rows, in-order}
 use Rattle.writer.specs.Text.{chars}
 use Rattle.writer.specs.Line.{line-refusal, line, ended-line}
 use Rattle.writer.specs.Object as object
 use Rattle.writer.specs.Claims.{In-range, Whole}
+use Rattle.writer.proofs.Answers.{stands-there}
 use Rattle.writer.proofs.Objects.{one-at-least, object-whole}
 use Rattle.writer.proofs.Claims.{sayable, line-plain}
-use Rattle.ihex.specs.RoundTrip.{said-of, spoken, Same-row, Again, Round-trip}
+use Rattle.ihex.specs.RoundTrip.{said-of, spoken, Same-row, Again, Round-trip, Has-room, Written-reads-back}
 
 -- ---- a plain line with its LF is one line
 
@@ -123,15 +124,19 @@ every-sayable : (rs : List Record) (pool : List ℕ) → Every In-range rs → E
 every-sayable [] pool i b f = tt
 every-sayable (r ∷ rs) pool (i, is) b (f, fs) = (sayable r pool i b f, every-sayable rs pool is b fs)
 
+-- what the lines of an object's text say
+said-in : (rs : List Record) (pool cs : List ℕ) → Every (λ r. Sayable (meant r pool)) rs → cs ≡ object.joined-lines rs pool → sayings 1 (lines cs) ≡ spoken 1 rs pool
+said-in rs pool cs h e =
+    ap (λ (t : List ℕ). sayings 1 (lines t)) e
+    ∙ ap (sayings 1) (lines-of rs pool)
+    ∙ sayings-of 1 rs pool h
+
 pub same-row : Same-row
 unfolding row
 same-row rs pool cs i b e =
     let w = object-whole rs pool cs e in
     let h = every-sayable rs pool i b (w .fine) in
-    ap (λ (t : List ℕ). through-stop default-options (sayings 1 (lines t))) (w .lined)
-    ∙ ap (λ (l : List (List ℕ)). through-stop default-options (sayings 1 l)) (lines-of rs pool)
-    ∙ ap (through-stop default-options) (sayings-of 1 rs pool h)
-    ∙ all-read 1 rs pool h (w .ended) (w .one)
+    ap (through-stop default-options) (said-in rs pool cs h (w .lined)) ∙ all-read 1 rs pool h (w .ended) (w .one)
 
 -- the record that a call is given for a meaning, with its payload in the pool
 given-again : (m : Meaning) (pool : List ℕ) (at : ℕ) → is-full (given m (length pool) at) ≡ false
@@ -170,3 +175,50 @@ round-trip rs pool cs i b e small calls givens l c =
     let q : givens ≡ one-by-one 0 (spoken 1 rs pool) calls = in-order default-options cs small calls givens l c ∙ ap (λ (x : List Numbered). one-by-one 0 x calls) (same-row rs pool cs i b e) in
     subst (λ (gs : List Given). Again rs pool calls gs) (sym q)
     (again 0 1 rs pool calls (every-sayable rs pool i b (w .fine)) (subst (λ (gs : List Given). Every (λ (g : Given). is-full (g .told) ≡ false) gs) q l))
+
+-- ---- room in the pools
+
+given-fits : (m : Meaning) (n at : ℕ) → at + length (payload-of m) ≤ n → is-full (given m n at) ≡ false
+unfolding is-full given
+given-fits (data-at offset bytes) n at h = rw (le-leb (at + length bytes) n h)
+given-fits end-of-file n at h = refl
+given-fits (extended-segment number) n at h = refl
+given-fits (start-segment cs ip) n at h = refl
+given-fits (extended-linear number) n at h = refl
+given-fits (start-linear number) n at h = refl
+
+abbrev Not-full : List Given → Type 0
+Not-full givens = Every (λ (g : Given). is-full (g .told) ≡ false) givens
+
+done-fits : (last : ℕ) (calls : List Call) → Not-full (replies default-options last [] calls)
+unfolding replies is-full
+done-fits last [] = tt
+done-fits last (call ∷ calls) = (refl, done-fits last calls)
+
+-- the answer that ends the row leaves only "done", and the others leave the records behind
+all-fit : (last n : ℕ) (rs : List Record) (pool : List ℕ) (calls : List Call) → Every (λ r. Sayable (meant r pool)) rs → Has-room rs pool calls
+    → Not-full (replies default-options last (spoken n rs pool) calls)
+unfolding replies spoken answered
+all-fit last n [] pool [] h f = tt
+all-fit last n (r ∷ rs) pool [] h f = tt
+all-fit last n [] pool (call ∷ calls) h f = done-fits last (call ∷ calls)
+all-fit last n (r ∷ rs) pool (call ∷ calls) (h, hs) (f, fs) =
+    let m = meant r pool in
+    let g : is-full (answered (said-of m) (length (call .pool)) (call .at)) ≡ false =
+    ap (λ (x : Meaning). is-full (given x (length (call .pool)) (call .at))) (reads-back m h .means) ∙ given-fits m (length (call .pool)) (call .at) f in
+    rw g (
+      g,
+      both-ways (λ b. Not-full (replies default-options n (if b then [] else spoken (suc n) rs pool) calls))
+          (ends-row default-options (answered (said-of m) (length (call .pool)) (call .at))) (done-fits n calls) (all-fit n (suc n) rs pool calls hs fs),
+    )
+
+pub written-reads-back : Written-reads-back
+written-reads-back rs pool out n out′ i b small w calls givens room c =
+    let cs : List ℕ = take n out′ in
+    let (e, fits) = stands-there (object.object rs pool) out n out′ w in
+    let o = object-whole rs pool cs e in
+    let h = every-sayable rs pool i b (o .fine) in
+    let short : length cs < 2 ^ 64 = omega (arith, length-take n out′) in
+    let q : givens ≡ replies default-options 0 (spoken 1 rs pool) calls =
+    rows default-options cs short calls givens c ∙ ap (λ (x : List Numbered). replies default-options 0 x calls) (said-in rs pool cs h (o .lined)) in
+    round-trip rs pool cs i b e short calls givens (subst Not-full (sym q) (all-fit 0 1 rs pool calls h room)) c

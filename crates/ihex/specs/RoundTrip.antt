@@ -4,7 +4,7 @@ use Prim.Native.Nat.{ℕ, suc, _+_, _^_, _≤_, _<_}
 use mathlib.Core.Path.{_≡_}
 use mathlib.Core.Bool.{false}
 use mathlib.Core.List.{List, [], _∷_}
-use lib.ListN.{length}
+use lib.ListN.{length, take}
 use Rattle.record.specs.Common.{Every, Byte}
 use Rattle.record.specs.declared.Record.{Record}
 use Rattle.record.specs.Record.{meant}
@@ -16,8 +16,9 @@ use Rattle.reader.specs.Told.{done, told}
 use Rattle.reader.specs.Row.{Numbered, on, row}
 use Rattle.reader.specs.Text.{is-full, default-options, new-state}
 use Rattle.reader.specs.Calls.{Call, Given, Calls}
+use Rattle.writer.specs.declared.Written.the-variants.{Wrote}
 use Rattle.writer.specs.Text.{chars}
-use Rattle.writer.specs.Object.{object}
+use Rattle.writer.specs.Object.{object, WriteObject}
 use Rattle.writer.specs.Claims.{In-range}
 
 -- what a record's line says
@@ -50,3 +51,16 @@ Round-trip =
     (rs : List Record) (pool cs : List ℕ) → Every In-range rs → Every Byte pool → object rs pool ≡ chars cs → length cs < 2 ^ 64
     → (calls : List Call) (givens : List Given) → Every (λ (g : Given). is-full (g .told) ≡ false) givens
     → Calls cs (new-state default-options) calls givens → Again rs pool calls givens
+
+-- each call has room in its pool for the payload of its record
+abbrev pub Has-room : List Record → (pool : List ℕ) → List Call → Type 0
+Has-room rs pool [] = Unit
+Has-room [] pool (call ∷ calls) = Unit
+Has-room (r ∷ rs) pool (call ∷ calls) = (call .at + length (payload-of (meant r pool)) ≤ length (call .pool)) × Has-room rs pool calls
+
+-- what a writer of an object left in the output, read with both stops on and room in the pools: the same records with the same payloads, then "done"
+abbrev pub Written-reads-back : Type 0
+Written-reads-back =
+    (rs : List Record) (pool out : List ℕ) (n : ℕ) (out′ : List ℕ) → Every In-range rs → Every Byte pool → length out < 2 ^ 64 → WriteObject rs pool out (Wrote n) out′
+    → (calls : List Call) (givens : List Given) → Has-room rs pool calls
+    → Calls (take n out′) (new-state default-options) calls givens → Again rs pool calls givens

@@ -54,7 +54,7 @@ Held-rows =
     → (h : Reader) → Opened text options h → (calls : List Call) (givens : List Given) → Asks h calls givens
     → givens ≡ replies options 0 (sayings 1 (lines (text .now))) calls
 
--- and with room for the longest payload at each call: the row over its text, and then "done" for ever
+-- and where no call is told PoolFull: the row over its text, and then "done" for ever
 abbrev pub Held-in-order : Type 0
 Held-in-order =
     (options : ReaderOptions) (text : RefT (List ℕ)) → length (text .now) < 2 ^ 64

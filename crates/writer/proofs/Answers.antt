@@ -1,11 +1,12 @@
 -- Each answer, from the text that is to be written: what the code's `return` has to show.
 -- Assumes nothing.
 use Prim.Native.Nat.{ℕ, _+_, _<_, _≤_}
-use mathlib.Core.Path.{_≡_, refl, _∙_, ap}
+use mathlib.Core.Path.{_≡_, refl, sym, _∙_, ap}
 use mathlib.Core.Option.{Option, none, some}
 use mathlib.Core.List.{List}
 use native.Mathlib.Omega.{arith}
 use lib.ListN.{length, take, drop}
+use lib.Seq.{take-at}
 use borrow.Author.Tests.{le-leb, lt-leb}
 use Rattle.record.specs.Common.{pasted}
 use Rattle.record.specs.Refusals.{Refusal, output-full}
@@ -15,7 +16,7 @@ use Rattle.writer.specs.declared.WriterError.the-variants.{OutputFull}
 use Rattle.writer.specs.declared.Written.{Written}
 use Rattle.writer.specs.declared.Written.the-variants.{Wrote, Refused}
 use Rattle.writer.specs.Told.{wrote, refuses, refusal-of, told}
-use Rattle.writer.specs.Text.{chars, refused, unless, place-behind, Writes}
+use Rattle.writer.specs.Text.{Text, chars, refused, unless, place-behind, Writes}
 use Rattle.writer.specs.Claims.{Refusal-changes-nothing, Rest-untouched}
 use Rattle.record.proofs.Pasting.{pasted-before, pasted-behind}
 
@@ -59,3 +60,13 @@ rest-untouched (chars cs) out at n out′ w =
     (λ h a l. let e : n ≡ at + length cs = cc in (ap (take at) l ∙ pasted-before out at cs h, ap (drop n) l ∙ rw e (pasted-behind out at cs h)))
     (λ a l. let z : _≡_ {A = ℕ} 0 1 = cc in absurd (omega arith))
 rest-untouched (refused r) out at n out′ w = let a = w .answer in let z : _≡_ {A = ℕ} 0 1 = cc in absurd (omega arith)
+
+-- a text that was written at the beginning is what stands there, and no longer than the output
+pub stands-there : (t : Text) (out : List ℕ) (n : ℕ) (out′ : List ℕ) → Writes t out 0 (Wrote n) out′ → (t ≡ chars (take n out′)) × (n ≤ length out)
+stands-there (chars cs) out n out′ w =
+    either cs out 0 (Wrote n) out′ w
+    (λ h a l.
+    let e : n ≡ 0 + length cs = cc in
+    (ap chars (sym (ap (take n) l ∙ take-at cs (drop (0 + length cs) out) n (omega arith))), omega arith))
+    (λ a l. let z : _≡_ {A = ℕ} 0 1 = cc in absurd (omega arith))
+stands-there (refused r) out n out′ w = let a = w .answer in let z : _≡_ {A = ℕ} 0 1 = cc in absurd (omega arith)
