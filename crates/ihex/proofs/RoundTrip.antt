@@ -38,7 +38,7 @@ use Rattle.writer.specs.Claims.{In-range, Whole}
 use Rattle.writer.proofs.Answers.{stands-there}
 use Rattle.writer.proofs.Objects.{one-at-least, object-whole}
 use Rattle.writer.proofs.Claims.{sayable, line-plain}
-use Rattle.ihex.specs.RoundTrip.{said-of, spoken, Same-row, Again, Round-trip, Has-room, Written-reads-back}
+use Rattle.ihex.specs.RoundTrip.{said-of, spoken, Same-row, Again, Round-trip, Has-room, Written-reads-back, Room-for}
 
 -- ---- a plain line with its LF is one line
 
@@ -178,14 +178,14 @@ round-trip rs pool cs i b e small calls givens l c =
 
 -- ---- room in the pools
 
-given-fits : (m : Meaning) (n at : ℕ) → at + length (payload-of m) ≤ n → is-full (given m n at) ≡ false
+given-fits : (m : Meaning) (call : Call) → Room-for m call → is-full (given m (length (call .pool)) (call .at)) ≡ false
 unfolding is-full given
-given-fits (data-at offset bytes) n at h = rw (le-leb (at + length bytes) n h)
-given-fits end-of-file n at h = refl
-given-fits (extended-segment number) n at h = refl
-given-fits (start-segment cs ip) n at h = refl
-given-fits (extended-linear number) n at h = refl
-given-fits (start-linear number) n at h = refl
+given-fits (data-at offset bytes) call h = rw (le-leb (call .at + length bytes) (length (call .pool)) h)
+given-fits end-of-file call h = refl
+given-fits (extended-segment number) call h = refl
+given-fits (start-segment cs ip) call h = refl
+given-fits (extended-linear number) call h = refl
+given-fits (start-linear number) call h = refl
 
 abbrev Not-full : List Given → Type 0
 Not-full givens = Every (λ (g : Given). is-full (g .told) ≡ false) givens
@@ -205,7 +205,7 @@ all-fit last n [] pool (call ∷ calls) h f = done-fits last (call ∷ calls)
 all-fit last n (r ∷ rs) pool (call ∷ calls) (h, hs) (f, fs) =
     let m = meant r pool in
     let g : is-full (answered (said-of m) (length (call .pool)) (call .at)) ≡ false =
-    ap (λ (x : Meaning). is-full (given x (length (call .pool)) (call .at))) (reads-back m h .means) ∙ given-fits m (length (call .pool)) (call .at) f in
+    ap (λ (x : Meaning). is-full (given x (length (call .pool)) (call .at))) (reads-back m h .means) ∙ given-fits m call f in
     rw g (
       g,
       both-ways (λ b. Not-full (replies default-options n (if b then [] else spoken (suc n) rs pool) calls))

@@ -9,7 +9,7 @@ use Rattle.record.specs.Common.{Every, Byte}
 use Rattle.record.specs.declared.Record.{Record}
 use Rattle.record.specs.Record.{meant}
 use Rattle.record.specs.Line.{Said, says}
-use Rattle.record.specs.Meaning.{Meaning}
+use Rattle.record.specs.Meaning.{Meaning, data-at, end-of-file, extended-segment, start-segment, extended-linear, start-linear}
 use Rattle.record.specs.Written.{kind-of, address-of, payload-of}
 use Rattle.reader.specs.declared.Answer.the-variants.{Read}
 use Rattle.reader.specs.Told.{done, told}
@@ -52,11 +52,20 @@ Round-trip =
     → (calls : List Call) (givens : List Given) → Every (λ (g : Given). is-full (g .told) ≡ false) givens
     → Calls cs (new-state default-options) calls givens → Again rs pool calls givens
 
--- each call has room in its pool for the payload of its record
+-- a call has room in its pool for a record: only data go there
+abbrev pub Room-for : Meaning → Call → Type 0
+Room-for (data-at offset bytes) call = call .at + length bytes ≤ length (call .pool)
+Room-for end-of-file call = Unit
+Room-for (extended-segment number) call = Unit
+Room-for (start-segment cs ip) call = Unit
+Room-for (extended-linear number) call = Unit
+Room-for (start-linear number) call = Unit
+
+-- each call has room for its record
 abbrev pub Has-room : List Record → (pool : List ℕ) → List Call → Type 0
 Has-room rs pool [] = Unit
 Has-room [] pool (call ∷ calls) = Unit
-Has-room (r ∷ rs) pool (call ∷ calls) = (call .at + length (payload-of (meant r pool)) ≤ length (call .pool)) × Has-room rs pool calls
+Has-room (r ∷ rs) pool (call ∷ calls) = Room-for (meant r pool) call × Has-room rs pool calls
 
 -- what a writer of an object left in the output, read with both stops on and room in the pools: the same records with the same payloads, then "done"
 abbrev pub Written-reads-back : Type 0
