@@ -48,7 +48,8 @@ impl Case for LineCase {
     }
 }
 
-/// The answer as a pool of this length makes it, and whether it is changed by that.
+/// The answer as a pool of this length makes it: refusal 10 where the payload has no room at the
+/// position.
 pub fn in_pool(answer: Told, pool: usize, at: usize) -> Told {
     let room = pool.checked_sub(answer.payload.len());
     if answer.code == 0 && room.map_or(true, |room| at > room) {

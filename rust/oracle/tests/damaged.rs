@@ -1,10 +1,14 @@
 //! The Rust face on the oracle's inputs, good and damaged, in the build that checks every sum: it
 //! answers as the crate does, and never panics. The oracle itself does the same in release.
 
+use oracle::domain::at_hand;
 use oracle::kinds::{of_face, Plan};
 
 #[test]
 fn the_face_answers_as_the_crate_does() {
+    if !at_hand("damaged") {
+        return;
+    }
     let plan = Plan {
         seed: 2,
         times: 1,
