@@ -7,7 +7,7 @@ use std::path::PathBuf;
 use std::str::{self, Split};
 use std::time::Instant;
 
-use ihex_sys::{DONE, REFUSED};
+use ihex_sys::{DONE, REFUSED, STOP_AFTER_EOF, STOP_AFTER_FIRST_ERROR};
 use original::{ReaderError, Record};
 
 use crate::domain::{rows, Place};
@@ -15,6 +15,7 @@ use crate::inputs::digits;
 use crate::kinds::Report;
 use crate::lines::{self, in_pool, pour, LineCase};
 use crate::loads::{self, LoadCase};
+use crate::shrink::Case;
 use crate::sums::SumCase;
 use crate::texts::TextCase;
 use crate::told::{by_crate, pool_full, told, Entry, Told};
@@ -27,18 +28,25 @@ const PAGE: u8 = 0xCC;
 const MARKS: u8 = 0xAA;
 
 /// The most bytes that `replay` takes of a case, or lends as a pool or an output.
-const MOST: usize = 4096;
+pub const MOST: usize = 4096;
 /// The most bytes that it lends as a page or as marks.
 const MOST_PAGE: usize = 65_537;
 /// The most answers of a text that it tells, but for the last.
 const MOST_ANSWERS: usize = 40;
+/// The most records of an object.
+pub const MOST_RECORDS: usize = 64;
+/// The flag with which the first answer of a text alone is told.
+const FIRST: u8 = 4;
 
 /// A heading, or a case that the crate, with the oracle's rules, has an answer to.
-enum Given {
+#[derive(Clone)]
+pub enum Given {
     Heading(String),
     Sum(SumCase),
     Line(LineCase),
     Text(TextCase),
+    /// A text whose first answer alone is told, with both stops on. Its flags are 0.
+    First(TextCase),
     Record(RecordCase),
     Object(ObjectCase),
     Load(LoadCase),
@@ -108,10 +116,14 @@ fn line_of(mut words: Words) -> Option<LineCase> {
     })
 }
 
-fn text_of(mut words: Words) -> Option<TextCase> {
-    let flags = words.up_to(3)? as u8;
+fn text_of(mut words: Words) -> Option<Given> {
+    let flags = words.up_to(FIRST.into())? as u8;
     let pool = words.up_to(MOST)?;
-    Some(TextCase::new(words.last_bytes()?, pool, flags))
+    let text = words.last_bytes()?;
+    Some(match flags {
+        FIRST => Given::First(TextCase::new(text, pool, 0)),
+        _ => Given::Text(TextCase::new(text, pool, flags)),
+    })
 }
 
 fn record_of(mut words: Words) -> Option<RecordCase> {
@@ -126,7 +138,9 @@ fn object_of(mut words: Words) -> Option<ObjectCase> {
     Some(ObjectCase {
         out: words.up_to(MOST)?,
         pool: words.bytes()?,
-        entries: words.entries()?,
+        entries: words
+            .entries()
+            .filter(|entries| entries.len() <= MOST_RECORDS)?,
         spare: 0,
         tail: 0,
     })
@@ -141,16 +155,38 @@ fn load_of(mut words: Words) -> Option<LoadCase> {
     })
 }
 
+/// A record as the words of a case.
+fn entry_told(entry: &Entry) -> String {
+    let Entry {
+        kind,
+        number,
+        second,
+        at,
+        len,
+    } = entry;
+    format!("{kind:X} {number:X} {second:X} {at:X} {len:X}")
+}
+
+fn text_told(case: &TextCase, flags: u8) -> String {
+    format!("T {flags:X} {:X} {}", case.pool, spelt(&case.text))
+}
+
+fn object_told(case: &ObjectCase) -> String {
+    let entries = case.entries.iter().map(entry_told);
+    let words: Vec<String> = [spelt(&case.pool)].into_iter().chain(entries).collect();
+    format!("O {:X} {}", case.out, words.join(" "))
+}
+
 impl Given {
     /// What a stored line is, if it is a heading or a case.
-    fn of(line: &str) -> Option<Self> {
+    pub fn of(line: &str) -> Option<Self> {
         let mut words = Words(line.split(' '));
         match words.0.next()? {
             _ if line.len() > MOST => None,
             "#" => Some(Given::Heading(line.into())),
             "C" => words.last_bytes().map(SumCase).map(Given::Sum),
             "L" => line_of(words).map(Given::Line),
-            "T" => text_of(words).map(Given::Text),
+            "T" => text_of(words),
             "W" => record_of(words).map(Given::Record),
             "O" => object_of(words).map(Given::Object),
             "M" => load_of(words).map(Given::Load),
@@ -158,12 +194,35 @@ impl Given {
         }
     }
 
-    fn answer(&self) -> String {
+    /// The line of a heading or a case: `of` makes the same of it.
+    pub fn line(&self) -> String {
+        let line = match self {
+            Given::Heading(line) => return line.clone(),
+            Given::Sum(case) => format!("C {}", spelt(&case.0)),
+            Given::Line(case) => format!("L {:X} {:X} {}", case.pool, case.at, spelt(&case.line)),
+            Given::Text(case) => text_told(case, case.state.flags),
+            Given::First(case) => text_told(case, FIRST),
+            Given::Record(case) => {
+                let entry = entry_told(&case.entry);
+                format!("W {entry} {:X} {}", case.out, spelt(&case.pool))
+            }
+            Given::Object(case) => return object_told(case),
+            Given::Load(case) => {
+                let (first, page, marks) = (case.first, case.page, case.marks);
+                format!("M {first:X} {page:X} {marks:X} {}", spelt(&case.text))
+            }
+        };
+        line.trim_end().into()
+    }
+
+    /// The crate's answer, told as `replay` tells its own.
+    pub fn answer(&self) -> String {
         match self {
             Given::Heading(line) => line.clone(),
             Given::Sum(case) => format!("{:02X}", original::checksum(&case.0)),
             Given::Line(case) => line(case),
             Given::Text(case) => text(case),
+            Given::First(case) => first(case),
             Given::Record(case) => written(&writes::record(case), case.out),
             Given::Object(case) => written(&writes::object(case), case.out),
             Given::Load(case) => load(case),
@@ -175,11 +234,39 @@ impl Given {
     fn is_no_string(&self) -> bool {
         let read = match self {
             Given::Line(case) => &case.line,
-            Given::Text(case) => &case.text,
+            Given::Text(case) | Given::First(case) => &case.text,
             Given::Load(case) => &case.text,
             _ => return false,
         };
         str::from_utf8(read).is_err()
+    }
+}
+
+/// The cases that are smaller than one, each as what is given.
+fn smaller<C: Case>(case: &C, given: fn(C) -> Given) -> Vec<Given> {
+    case.smaller().into_iter().map(given).collect()
+}
+
+impl Case for Given {
+    fn smaller(&self) -> Vec<Self> {
+        match self {
+            Given::Heading(_) => vec![],
+            Given::Sum(case) => smaller(case, Given::Sum),
+            Given::Line(case) => smaller(case, Given::Line),
+            Given::Text(case) => smaller(case, Given::Text),
+            Given::First(case) => smaller(case, Given::First),
+            Given::Record(case) => smaller(case, Given::Record),
+            Given::Object(case) => smaller(case, Given::Object),
+            Given::Load(case) => smaller(case, Given::Load),
+        }
+    }
+
+    fn size(&self) -> usize {
+        self.line().len()
+    }
+
+    fn show(&self) -> String {
+        self.line()
     }
 }
 
@@ -220,11 +307,15 @@ fn reply(answer: &Told) -> String {
     }
 }
 
+/// One answer, and the pool of this length behind it.
+fn with_pool(answer: &Told, pool: usize, at: usize) -> String {
+    let mut pool = vec![POOL; pool];
+    pour(answer, &mut pool, at);
+    format!("{} | {}", reply(answer), spelt(&pool))
+}
+
 fn line(case: &LineCase) -> String {
-    let answer = lines::answer(case);
-    let mut pool = vec![POOL; case.pool];
-    pour(&answer, &mut pool, case.at);
-    format!("{} | {}", reply(&answer), spelt(&pool))
+    with_pool(&lines::answer(case), case.pool, case.at)
 }
 
 /// The answer to the call behind so many lines that were used up, with room in the pool, and the
@@ -258,6 +349,13 @@ fn text(case: &TextCase) -> String {
     }
     let (answer, behind) = call(&rows, used);
     all + &format!("{} @{behind:X}", reply(&answer))
+}
+
+/// The first answer alone, with both stops on.
+fn first(case: &TextCase) -> String {
+    let rows = rows(&case.text, STOP_AFTER_FIRST_ERROR | STOP_AFTER_EOF);
+    let (answer, _) = call(&rows, 0);
+    with_pool(&in_pool(answer, case.pool, 0), case.pool, 0)
 }
 
 fn written(answer: &Written, out: usize) -> String {

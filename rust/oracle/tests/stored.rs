@@ -1,9 +1,11 @@
 //! A small stored list, with a case of each form: right answers agree, a wrong one is found and
 //! written anew, and what is no case is passed over and kept.
 
-use oracle::stored::List;
+use std::io;
 
-const HEADINGS_AND_CASES: [(&str, &str); 9] = [
+use oracle::stored::{Given, List};
+
+const HEADINGS_AND_CASES: [(&str, &str); 12] = [
     ("# a heading", "# a heading"),
     ("C 01", "FF"),
     ("C", "00"),
@@ -13,6 +15,9 @@ const HEADINGS_AND_CASES: [(&str, &str); 9] = [
         "T 3 1 3A303030303030303146460A0A30",
         "E @1 | EE; done @1 | EE; done @1",
     ),
+    ("T 4 1 3A303030303030303146460A0A30", "E | EE"),
+    ("T 4 2 0A3A303130303035303037373833", "D 0005 0 1 | 77EE"),
+    ("T 4 0 3A303130303035303037373833", "! 10 | "),
     ("W 1 0 0 0 0 C", "W B | 3A30303030303030314646DD"),
     ("O C  1 0 0 0 0", "W C | 3A303030303030303146460A"),
     ("M 0 2 41 3A30303030303030314646", "! 16 @0 | CCCC | AA<41"),
@@ -26,7 +31,7 @@ const PASSED_OVER: [&str; 9] = [
     "C 0a",
     "C 01 02",
     "L 1001 0 3A",
-    "T 4 1 3A",
+    "T 5 1 3A",
     "W 6 0 0 0 0 C",
     "O C 00 1 0 0 0",
 ];
@@ -46,11 +51,11 @@ fn right_answers_agree() {
     assert_eq!(outcome.report.smallest, None);
     assert_eq!(
         (outcome.report.inputs, outcome.report.disagreements),
-        (8, 0)
+        (11, 0)
     );
     assert_eq!(
         outcome.told,
-        "2 C, 2 L, 1 T, 1 W, 1 O, 1 M; 1 of them no UTF-8, answered by the rule for bytes; 0 passed over"
+        "2 C, 2 L, 4 T, 1 W, 1 O, 1 M; 1 of them no UTF-8, answered by the rule for bytes; 0 passed over"
     );
 }
 
@@ -71,15 +76,37 @@ fn each_wrong_answer_is_found_and_written_anew() {
 #[test]
 fn what_is_no_case_is_passed_over_and_kept() {
     let mut list = list();
-    for case in PASSED_OVER {
+    let too_long = format!("O C {}", " 1 0 0 0 0".repeat(65));
+    for case in PASSED_OVER.iter().copied().chain([too_long.as_str()]) {
         list.cases.push(case.into());
         list.answers.push("as it was".into());
     }
     let outcome = list.compare();
     assert_eq!(
         (outcome.report.inputs, outcome.report.disagreements),
-        (8, 0)
+        (11, 0)
     );
-    assert!(outcome.told.ends_with("; 9 passed over"));
+    assert!(outcome.told.ends_with("; 10 passed over"));
     assert_eq!(list.answered().answers, list.answers);
+}
+
+#[test]
+fn each_stored_case_is_told_as_its_line() -> io::Result<()> {
+    let cases = List::read_cases()?.cases;
+    let again = cases
+        .iter()
+        .filter_map(|case| Some((case, Given::of(case)?)));
+    for (case, given) in again {
+        assert_eq!(given.line(), *case);
+    }
+    Ok(())
+}
+
+#[test]
+fn an_object_has_up_to_64_records() {
+    let list = |n| format!("O C {}", " 1 0 0 0 0".repeat(n));
+    let answer = |n| Given::of(&list(n)).map(|given| given.answer());
+    let refused = "! 14 40 | DDDDDDDDDDDDDDDDDDDDDDDD";
+    assert_eq!(answer(64).as_deref(), Some(refused));
+    assert_eq!(answer(65), None);
 }
