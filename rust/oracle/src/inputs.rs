@@ -3,6 +3,7 @@
 use crate::chance::Chance;
 use crate::lines::LineCase;
 use crate::loads::LoadCase;
+use crate::stored::{MOST, MOST_RECORDS};
 use crate::texts::{State, TextCase};
 use crate::told::Entry;
 use crate::writes::{ObjectCase, RecordCase};
@@ -301,6 +302,41 @@ pub fn pool_for(text: &[u8], chance: &mut Chance) -> usize {
     }
 }
 
+/// The most bytes of a text in a case of `replay`, two digits each behind the flags and the pool.
+const LENT_TEXT: usize = MOST / 2 - 8;
+
+/// Lines of a few characters, about as many as `replay` tells answers.
+fn short_lines(chance: &mut Chance) -> Vec<u8> {
+    let mut text = Vec::new();
+    for _ in 0..chance.from_to(36, 44) {
+        let n = chance.from_to(1, 3);
+        text.extend((0..n).map(|_| chance.one_of(&TELLING)));
+        text.push(b'\n');
+    }
+    text
+}
+
+/// A text for a reader that holds it, within the limits of `replay`, and a pool: narrow, or such that
+/// the longest payload fits, or just does not.
+pub fn lent_text(flags: u8, chance: &mut Chance) -> TextCase {
+    let mut text = if chance.once_in(32) {
+        short_lines(chance)
+    } else {
+        text(chance)
+    };
+    text.truncate(LENT_TEXT);
+    let lines = text.split(|&byte| byte == b'\n');
+    let payload = |line: &[u8]| line.len().saturating_sub(11) / 2;
+    let longest = lines.map(payload).max().unwrap_or(0);
+    let pool = match chance.under(8) {
+        0 => chance.under(4),
+        1 | 2 => chance.under(64),
+        3 => text.len() / 2,
+        _ => (longest + chance.under(4)).saturating_sub(1),
+    };
+    TextCase::new(text, pool, flags)
+}
+
 /// A text with a state that no call need have left.
 pub fn by_hand(chance: &mut Chance) -> TextCase {
     let text = text(chance);
@@ -377,6 +413,34 @@ pub fn record(chance: &mut Chance) -> RecordCase {
     RecordCase { entry, pool, out }
 }
 
+/// Makes a record that is no end of an entry that is an end or no record.
+fn make_record(one: &mut Entry) {
+    if one.kind == 1 || !one.is_record() {
+        one.kind %= 6;
+        one.kind -= one.kind % 2;
+        one.number &= 0xFFFF;
+    }
+}
+
+/// Puts an end behind a list; with a flaw none to three, anywhere.
+fn put_ends(entries: &mut Vec<Entry>, flaw: bool, chance: &mut Chance) {
+    let end = Entry {
+        kind: 1,
+        number: 0,
+        second: 0,
+        at: 0,
+        len: 0,
+    };
+    for _ in 0..if flaw { chance.under(4) } else { 1 } {
+        let at = if flaw && chance.once_in(2) {
+            chance.under(entries.len() + 1)
+        } else {
+            entries.len()
+        };
+        entries.insert(at, end.clone());
+    }
+}
+
 /// A list of records with up to three ends. A third are as they should be, the others have a flaw:
 /// ends too few, too many or in the wrong place, payloads too long or outside the pool, or entries
 /// that are no records.
@@ -388,10 +452,8 @@ pub fn object(chance: &mut Chance) -> ObjectCase {
     let mut entries = Vec::new();
     for _ in 0..chance.under(10) {
         let mut one = entry(pool.len(), chance);
-        if !strangers && (one.kind == 1 || !one.is_record()) {
-            one.kind %= 6;
-            one.kind -= one.kind % 2;
-            one.number &= 0xFFFF;
+        if !strangers {
+            make_record(&mut one);
         }
         if !payloads && one.kind == 0 && (one.payload(&pool).is_none() || one.len > 255) {
             one.at = 0;
@@ -399,21 +461,7 @@ pub fn object(chance: &mut Chance) -> ObjectCase {
         }
         entries.push(one);
     }
-    let end = Entry {
-        kind: 1,
-        number: 0,
-        second: 0,
-        at: 0,
-        len: 0,
-    };
-    for _ in 0..if ends { chance.under(4) } else { 1 } {
-        let at = if ends && chance.once_in(2) {
-            chance.under(entries.len() + 1)
-        } else {
-            entries.len()
-        };
-        entries.insert(at, end.clone());
-    }
+    put_ends(&mut entries, ends, chance);
     let full: usize = entries.iter().map(|one| 12 + 2 * one.len.min(300)).sum();
     let out = match chance.under(6) {
         0 => chance.under(full + 2),
@@ -430,6 +478,44 @@ pub fn object(chance: &mut Chance) -> ObjectCase {
         } else {
             0
         },
+    }
+}
+
+/// A list of up to 64 records that is lent, within the limits of `replay`, and an output that it fills,
+/// or that is a byte or much shorter or longer. Half are as they should be, the others have too few
+/// ends, too many or in the wrong place, or payloads too long or outside the pool.
+pub fn lent_list(chance: &mut Chance) -> ObjectCase {
+    let n = chance.one_of(&[0, 1, 40, 255, 300, 320]);
+    let pool = chance.bytes(n);
+    let flaw = chance.under(6);
+    let (ends, payloads) = (flaw < 2, flaw == 1 || flaw == 2);
+    let (few, most) = chance.one_of(&[(0, 4), (0, 16), (0, MOST_RECORDS), (60, MOST_RECORDS - 1)]);
+    let mut entries = Vec::new();
+    for _ in 0..chance.from_to(few, most) {
+        let mut one = entry(pool.len(), chance);
+        make_record(&mut one);
+        let good = one.len <= 255 && one.payload(&pool).is_some();
+        if one.kind == 0 && !good && !(payloads && chance.once_in(4)) {
+            one.at = 0;
+            one.len = chance.under(34).min(pool.len());
+        }
+        entries.push(one);
+    }
+    put_ends(&mut entries, ends, chance);
+    entries.truncate(MOST_RECORDS);
+    let full: usize = entries.iter().map(|one| one.written().min(700)).sum();
+    let out = match chance.under(8) {
+        0 => chance.under(full + 1),
+        1 => full + chance.under(300),
+        2 | 3 => full.saturating_sub(1),
+        _ => full,
+    };
+    ObjectCase {
+        entries,
+        pool,
+        out: out.min(MOST),
+        spare: 0,
+        tail: 0,
     }
 }
 

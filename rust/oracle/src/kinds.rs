@@ -10,7 +10,9 @@ use crate::inputs;
 use crate::lines::{self, LineCase};
 use crate::loads;
 use crate::port::Port;
+use crate::replay::{self, Program};
 use crate::shrink::{shrink, Case};
+use crate::stored::Given;
 use crate::sums::{self, SumCase};
 use crate::texts::{self, TextCase};
 use crate::writes;
@@ -46,7 +48,62 @@ fn chance_of(seed: u64, name: &str, block: u64) -> Chance {
     Chance::new(mixed.number() ^ block.wrapping_mul(0xD6E8_FEB8_6659_FD93))
 }
 
-/// Runs a check on every case of every block, on all processors.
+/// What a search came to: how many inputs and disagreements, and some of the inputs on which the two
+/// disagree.
+struct Found<C> {
+    inputs: u64,
+    disagreements: u64,
+    cases: Vec<C>,
+}
+
+fn on_all_processors(work: impl Fn() + Sync) {
+    let threads = thread::available_parallelism().map_or(1, |n| n.get());
+    thread::scope(|scope| {
+        for _ in 0..threads {
+            scope.spawn(&work);
+        }
+    });
+}
+
+/// Searches every block for cases that are wrong, on all processors.
+fn search<C: Case>(
+    name: &str,
+    plan: Plan,
+    blocks: u64,
+    make: impl Fn(u64, &mut Chance) -> Vec<C> + Sync,
+    wrong: impl Fn(Vec<C>) -> Vec<C> + Sync,
+) -> Found<C> {
+    let (next, inputs, disagreements) = (AtomicU64::new(0), AtomicU64::new(0), AtomicU64::new(0));
+    let found: Mutex<Vec<C>> = Mutex::new(Vec::new());
+    let work = || loop {
+        let block = next.fetch_add(1, Ordering::Relaxed);
+        if block >= blocks || disagreements.load(Ordering::Relaxed) >= plan.enough {
+            return;
+        }
+        let cases = make(block, &mut chance_of(plan.seed, name, block));
+        inputs.fetch_add(cases.len() as u64, Ordering::Relaxed);
+        let wrong = wrong(cases);
+        let before = disagreements.fetch_add(wrong.len() as u64, Ordering::Relaxed);
+        found
+            .lock()
+            .expect("no thread panics with the lock")
+            .extend(
+                wrong
+                    .into_iter()
+                    .take(plan.enough.saturating_sub(before) as usize),
+            );
+    };
+    on_all_processors(work);
+    Found {
+        inputs: inputs.into_inner(),
+        disagreements: disagreements.into_inner(),
+        cases: found
+            .into_inner()
+            .expect("no thread panicked with the lock"),
+    }
+}
+
+/// Runs a check on every case of every block.
 fn compare<C: Case>(
     name: &'static str,
     plan: Plan,
@@ -55,42 +112,18 @@ fn compare<C: Case>(
     check: impl Fn(&C) -> Option<String> + Sync,
 ) -> Report {
     let start = Instant::now();
-    let (next, inputs, disagreements) = (AtomicU64::new(0), AtomicU64::new(0), AtomicU64::new(0));
-    let found: Mutex<Vec<C>> = Mutex::new(Vec::new());
-    let work = || loop {
-        let block = next.fetch_add(1, Ordering::Relaxed);
-        if block >= blocks || disagreements.load(Ordering::Relaxed) >= plan.enough {
-            return;
-        }
-        for case in make(block, &mut chance_of(plan.seed, name, block)) {
-            inputs.fetch_add(1, Ordering::Relaxed);
-            if check(&case).is_some() {
-                let before = disagreements.fetch_add(1, Ordering::Relaxed);
-                if before < plan.enough {
-                    found
-                        .lock()
-                        .expect("no thread panics with the lock")
-                        .push(case);
-                }
-            }
-        }
+    let wrong = |mut cases: Vec<C>| {
+        cases.retain(|case| check(case).is_some());
+        cases
     };
-    let threads = thread::available_parallelism().map_or(1, |n| n.get());
-    thread::scope(|scope| {
-        for _ in 0..threads {
-            scope.spawn(work);
-        }
-    });
-    let found = found
-        .into_inner()
-        .expect("no thread panicked with the lock");
+    let found = search(name, plan, blocks, make, wrong);
     let small = |case| shrink(case, |other| check(other).is_some());
-    let smallest = found.into_iter().map(small).min_by_key(Case::size);
+    let smallest = found.cases.into_iter().map(small).min_by_key(Case::size);
     let told = |case: C| format!("{}: {}", case.show(), check(&case).unwrap_or_default());
     Report {
         name,
-        inputs: inputs.into_inner(),
-        disagreements: disagreements.into_inner(),
+        inputs: found.inputs,
+        disagreements: found.disagreements,
         smallest: smallest.map(told),
         time: start.elapsed(),
     }
@@ -99,7 +132,16 @@ fn compare<C: Case>(
 /// A kind of comparison, ready to run.
 pub type Kind<'a> = Box<dyn Fn() -> Report + 'a>;
 
-/// A kind whose inputs come by chance, a thousand a block.
+/// How many blocks a kind has whose inputs come by chance, a thousand a block.
+fn blocks(thousands: u64, plan: Plan) -> u64 {
+    (thousands * plan.times / plan.part_of).max(1)
+}
+
+fn thousand<C>(make: fn(&mut Chance) -> C) -> impl Fn(u64, &mut Chance) -> Vec<C> + Sync {
+    move |_, chance| (0..1000).map(|_| make(chance)).collect()
+}
+
+/// A kind whose inputs come by chance.
 fn by_chance<'a, C: Case + 'a>(
     name: &'static str,
     plan: Plan,
@@ -107,9 +149,35 @@ fn by_chance<'a, C: Case + 'a>(
     make: fn(&mut Chance) -> C,
     check: impl Fn(&C) -> Option<String> + Sync + 'a,
 ) -> Kind<'a> {
-    let blocks = (thousands * plan.times / plan.part_of).max(1);
-    let block = move |_: u64, chance: &mut Chance| (0..1000).map(|_| make(chance)).collect();
-    Box::new(move || compare(name, plan, blocks, block, &check))
+    let blocks = blocks(thousands, plan);
+    Box::new(move || compare(name, plan, blocks, thousand(make), &check))
+}
+
+/// A kind whose inputs come by chance and go to a program, a block at once. Of those on which the two
+/// disagree, the smallest is made smaller.
+fn by_program<'a>(
+    program: &'a Program,
+    name: &'static str,
+    plan: Plan,
+    thousands: u64,
+    make: fn(&mut Chance) -> Given,
+) -> Kind<'a> {
+    let plan = Plan {
+        enough: plan.enough.max(20),
+        ..plan
+    };
+    Box::new(move || {
+        let start = Instant::now();
+        let wrong = |cases| replay::wrong(program, cases);
+        let found = search(name, plan, blocks(thousands, plan), thousand(make), wrong);
+        Report {
+            name,
+            inputs: found.inputs,
+            disagreements: found.disagreements,
+            smallest: replay::smallest(program, found.cases),
+            time: start.elapsed(),
+        }
+    })
 }
 
 fn random_line(chance: &mut Chance) -> LineCase {
@@ -282,5 +350,26 @@ pub fn of_face(plan: Plan) -> Vec<Kind<'static>> {
             writes::object_by_face,
         ),
         by_chance("face: loads", plan, 20, inputs::load, loads::face),
+    ]
+}
+
+/// What is compared with the program `replay`, which runs the two lent forms.
+pub fn of_replay<'a>(program: &'a Program, plan: Plan) -> Vec<Kind<'a>> {
+    vec![
+        by_program(
+            program,
+            "lent: texts, held by a reader",
+            plan,
+            6,
+            replay::text,
+        ),
+        by_program(
+            program,
+            "lent: texts, the first answer alone",
+            plan,
+            3,
+            replay::first,
+        ),
+        by_program(program, "lent: lists written", plan, 2, replay::list),
     ]
 }

@@ -10,6 +10,7 @@ pub mod lent;
 pub mod lines;
 pub mod loads;
 pub mod port;
+pub mod replay;
 pub mod seen;
 pub mod shrink;
 pub mod stored;

@@ -1,13 +1,13 @@
 //! The oracle: the crate ihex 3.0.0, unchanged, against the port.
 //!
-//!     oracle [--seed N] [--long | --times N] [--short]
-//!     oracle --write-stored
+//! `USAGE` says how it is called. `--long` compares twenty times as many inputs by chance, `--times N`
+//! N times as many, `--short` a tenth. Its last line is 'N passed, M failed'. It counts kinds of
+//! comparison, not inputs; one more for every answer having been called for; and wrong ports and
+//! programs, each of which passes if a comparison finds it. `--write-stored` compares nothing: it
+//! stores the crate's answers to the cases of `replay`.
 //!
-//! `--long` compares twenty times as many inputs by chance, `--times N` N times as many, `--short`
-//! a tenth. Its last line is 'N passed, M failed'. It counts kinds of comparison, not inputs; one
-//! more for every answer having been called for; and wrong ports, each of which passes if a
-//! comparison finds it. `--write-stored` compares nothing: it stores the crate's answers to the cases
-//! of `replay`.
+//! IHEX_REPLAY has the command of the program `replay`, a word a line. Without it the lent forms are
+//! not compared.
 
 use std::env;
 use std::io;
@@ -15,13 +15,17 @@ use std::process::exit;
 use std::time::Instant;
 
 use oracle::domain::keeps_last_cr;
-use oracle::kinds::{of_face, of_port, Plan, Report};
-use oracle::port::{Port, Real};
+use oracle::kinds::{of_face, of_port, of_replay, Kind, Plan, Report};
+use oracle::port::Real;
 use oracle::stored::List;
-use oracle::{seen, wrong};
+use oracle::{replay, seen, wrong};
+
+const USAGE: &str = "\
+usage: oracle [--seed N] [--long | --times N] [--short]
+       oracle --write-stored";
 
 fn usage() -> ! {
-    eprintln!("usage: oracle [--seed N] [--long | --times N | --short] | --write-stored");
+    eprintln!("{USAGE}");
     exit(2)
 }
 
@@ -73,25 +77,26 @@ fn show(report: &Report) -> bool {
     ok
 }
 
-/// Whether a comparison finds a wrong port.
-fn finds(name: &str, port: &dyn Port, plan: Plan) -> bool {
-    let plan = Plan {
+/// Enough to find what is wrong in one point.
+fn few(plan: Plan) -> Plan {
+    Plan {
         times: 1,
         part_of: 20,
         enough: 1,
         ..plan
-    };
-    for kind in of_port(port, plan) {
+    }
+}
+
+/// Whether one of the comparisons finds what is wrong.
+fn finds(what: &str, kinds: Vec<Kind>) -> bool {
+    for kind in kinds {
         let report = kind();
         if let Some(smallest) = report.smallest {
-            println!(
-                "ok     a port that {name}: found by {}, {smallest}",
-                report.name
-            );
+            println!("ok     {what}: found by {}, {smallest}", report.name);
             return true;
         }
     }
-    println!("FAILED a port that {name} is not found");
+    println!("FAILED {what} is not found");
     false
 }
 
@@ -122,6 +127,65 @@ fn write_stored() -> io::Result<()> {
     answered.write()
 }
 
+/// What was counted so far.
+#[derive(Default)]
+struct Counts {
+    passed: u64,
+    failed: u64,
+    lines: u64,
+    texts: u64,
+}
+
+impl Counts {
+    fn add(&mut self, ok: bool) {
+        *(if ok {
+            &mut self.passed
+        } else {
+            &mut self.failed
+        }) += 1;
+    }
+
+    /// Makes these comparisons.
+    fn compare(&mut self, kinds: Vec<Kind>) {
+        for kind in kinds {
+            let report = kind();
+            if report.name.contains("text") {
+                self.texts += report.inputs;
+            } else if report.name.contains("line") {
+                self.lines += report.inputs;
+            }
+            self.add(show(&report));
+        }
+    }
+
+    /// Compares the lent forms by the program of this command, and says whether there is one.
+    fn compare_lent(&mut self, command: Option<Vec<String>>, plan: Plan) -> bool {
+        match &command {
+            Some(words) => self.compare(of_replay(&|cases| replay::run(words, cases), plan)),
+            None => println!(
+                "the lent forms were not compared: IHEX_REPLAY names no program; `rt check replay` builds it"
+            ),
+        }
+        command.is_some()
+    }
+
+    fn compare_all(&mut self, plan: Plan) {
+        self.compare(of_port(&Real, plan));
+        self.compare(of_face(plan));
+        let lent = self.compare_lent(replay::command(), plan);
+        self.add(stored_agree());
+        self.add(seen::show());
+        for (name, port) in wrong::all() {
+            let kinds = of_port(port.as_ref(), few(plan));
+            self.add(finds(&format!("a port that {name}"), kinds));
+        }
+        for (name, program) in wrong::programs().iter().filter(|_| lent) {
+            let kinds = of_replay(program.as_ref(), few(plan));
+            self.add(finds(&format!("a replay that {name}"), kinds));
+        }
+    }
+}
+
 fn main() {
     let (plan, write) = plan();
     let start = Instant::now();
@@ -140,32 +204,16 @@ fn main() {
     if !keeps_last_cr() {
         println!("str::lines of this Rust drops a CR at the end of a text: the crate is given such a text with CR LF behind it");
     }
-    let (mut passed, mut failed) = (0, 0);
-    let mut count = |ok| if ok { passed += 1 } else { failed += 1 };
-    let (mut lines, mut texts) = (0, 0);
-    for kind in of_port(&Real, plan).into_iter().chain(of_face(plan)) {
-        let report = kind();
-        let all = if report.name.contains("text") {
-            &mut texts
-        } else {
-            &mut lines
-        };
-        if report.name.contains("line") || report.name.contains("text") {
-            *all += report.inputs;
-        }
-        count(show(&report));
-    }
-    count(stored_agree());
-    count(seen::show());
-    for (name, port) in wrong::all() {
-        count(finds(name, port.as_ref(), plan));
-    }
+    let mut counts = Counts::default();
+    counts.compare_all(plan);
     println!(
-        "{lines} lines, {texts} texts, {:.1} s",
+        "{} lines, {} texts, {:.1} s",
+        counts.lines,
+        counts.texts,
         start.elapsed().as_secs_f64()
     );
-    println!("{passed} passed, {failed} failed");
-    if failed > 0 {
+    println!("{} passed, {} failed", counts.passed, counts.failed);
+    if counts.failed > 0 {
         exit(1);
     }
 }

@@ -51,6 +51,16 @@ impl Entry {
         pool.get(self.at..self.at.checked_add(self.len)?)
     }
 
+    /// How long the line of a record is, with its LF.
+    pub fn written(&self) -> usize {
+        match self.kind {
+            0 => self.len.saturating_mul(2).saturating_add(12),
+            1 => 12,
+            2 | 4 => 16,
+            _ => 20,
+        }
+    }
+
     /// Whether this is a record at all.
     pub fn is_record(&self) -> bool {
         match self.kind {

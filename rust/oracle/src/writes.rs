@@ -148,16 +148,43 @@ pub struct ObjectCase {
     pub tail: usize,
 }
 
+impl ObjectCase {
+    /// With an entry or its payload left out, and an output that is shorter by as much as is then not
+    /// written.
+    fn lighter(&self, i: usize) -> Vec<Self> {
+        let entry = &self.entries[i];
+        let bare = Entry {
+            len: 0,
+            ..entry.clone()
+        };
+        let saved = entry.written() - bare.written();
+        let lighter = |inner: &[Entry], saved| {
+            let out = self.out.checked_sub(saved)?;
+            let entries = [&self.entries[..i], inner, &self.entries[i + 1..]].concat();
+            Some(ObjectCase {
+                entries,
+                out,
+                ..self.clone()
+            })
+        };
+        let gone = lighter(&[], entry.written());
+        let emptied = lighter(&[bare], saved).filter(|_| saved > 0);
+        gone.into_iter().chain(emptied).collect()
+    }
+}
+
 impl Case for ObjectCase {
     fn smaller(&self) -> Vec<Self> {
-        with_each!(
+        let mut found = with_each!(self, entries in shorter(&self.entries));
+        found.extend((0..self.entries.len()).flat_map(|i| self.lighter(i)));
+        found.extend(with_each!(
             self,
-            entries in shorter(&self.entries),
             entries in plainer(&self.entries, Entry::smaller),
             out in smaller_number(self.out),
             tail in smaller_number(self.tail),
             pool in shorter(&self.pool),
-        )
+        ));
+        found
     }
 
     fn size(&self) -> usize {
