@@ -509,6 +509,10 @@ fn write_object(text: &[u8], from: usize, pool: &[u8], out: &mut [u8]) {
         i = g.next;
         n += 1;
     }
+    if i < text.len() {
+        say(b"?");
+        return;
+    }
     let w = lent::object_of(records, n, pool, out);
     say_written(w);
     say(b" | ");

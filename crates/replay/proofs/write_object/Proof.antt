@@ -8,10 +8,10 @@ use Rattle.replay.proofs.write_object.Statement.{statement}
 use Rattle.replay.proofs.write_object.Tie as tie
 
 abbrev Inv-loop : tie.InvT-loop
-Inv-loop text from pool out records₀ n₀ i₀ t11 records n i = length records ≡ 64
+Inv-loop text from pool out records₀ n₀ i₀ t11 t12 records n i = length records ≡ 64
 
 abbrev μ-loop : tie.MeasureT-loop
-μ-loop text from pool out records₀ n₀ i₀ t11 records n i = 64 - n
+μ-loop text from pool out records₀ n₀ i₀ t11 t12 records n i = 64 - n
 
 preset-requires : tie.Need-preset-requires Inv-loop μ-loop
 preset-requires c κs = search needs
@@ -37,26 +37,38 @@ loop-less c = search needs
 loop-again : tie.Need-loop-again Inv-loop μ-loop
 loop-again c = search needs
 
-object-of-requires : tie.Need-object-of-requires Inv-loop μ-loop
-object-of-requires c κs = search needs
-
-say-written-requires : tie.Need-say-written-requires Inv-loop μ-loop
-say-written-requires c κs = search needs
-
 slice-aggregate-say : tie.Need-slice-aggregate-say Inv-loop μ-loop
 slice-aggregate-say c = search needs
 
 say-requires : tie.Need-say-requires Inv-loop μ-loop
 say-requires c κs = search needs
 
-say-bytes-requires : tie.Need-say-bytes-requires Inv-loop μ-loop
-say-bytes-requires c κs = search needs
-
 same-length : tie.Need-same-length Inv-loop μ-loop
 same-length c = search needs
 
 returns : tie.Need-returns Inv-loop μ-loop
 returns c = search needs
+
+object-of-requires : tie.Need-object-of-requires Inv-loop μ-loop
+object-of-requires c κs = search needs
+
+say-written-requires : tie.Need-say-written-requires Inv-loop μ-loop
+say-written-requires c κs = search needs
+
+slice-aggregate-say-2 : tie.Need-slice-aggregate-say-2 Inv-loop μ-loop
+slice-aggregate-say-2 c = search needs
+
+say-requires-2 : tie.Need-say-requires-2 Inv-loop μ-loop
+say-requires-2 c κs = search needs
+
+say-bytes-requires : tie.Need-say-bytes-requires Inv-loop μ-loop
+say-bytes-requires c κs = search needs
+
+same-length-2 : tie.Need-same-length-2 Inv-loop μ-loop
+same-length-2 c = search needs
+
+returns-2 : tie.Need-returns-2 Inv-loop μ-loop
+returns-2 c = search needs
 
 pub write-object-spec : {M : Type 1} → statement M
 write-object-spec =
@@ -72,10 +84,14 @@ write-object-spec =
     add-n
     loop-less
     loop-again
-    object-of-requires
-    say-written-requires
     slice-aggregate-say
     say-requires
-    say-bytes-requires
     same-length
-    returns)
+    returns
+    object-of-requires
+    say-written-requires
+    slice-aggregate-say-2
+    say-requires-2
+    say-bytes-requires
+    same-length-2
+    returns-2)
