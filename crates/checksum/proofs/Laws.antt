@@ -1,6 +1,6 @@
 -- Laws of the sum and the checksum. Each follows from the sum's recursion by arithmetic.
 -- Assumes nothing.
-use Prim.Native.Nat.{ℕ, suc, _+_, _%_, _<_}
+use Prim.Native.Nat.{ℕ, suc, _+_, _<_}
 use mathlib.Core.Path.{_≡_, refl, ap}
 use mathlib.Core.List.{List, [], _∷_, _++_}
 use native.Mathlib.Omega.{arith}
@@ -26,7 +26,3 @@ sum-drop xs i h = rw add-one (ap sum (drop-cons xs i 0 h))
 pub negated-small : (bs : List ℕ) → negated-sum bs < 256
 unfolding negated-sum
 negated-small bs = omega arith
-
-pub negated-zero : (bs : List ℕ) → (sum bs + negated-sum bs) % 256 ≡ 0
-unfolding negated-sum
-negated-zero bs = omega arith

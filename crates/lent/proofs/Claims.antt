@@ -3,17 +3,12 @@
 use mathlib.Core.Path.{refl, sym, ap}
 use mathlib.Core.List.{[], _∷_}
 use Rattle.reader.specs.declared.Step.{Step}
-use Rattle.reader.specs.declared.State.{State}
-use Rattle.reader.specs.declared.Reply.{Reply}
 use Rattle.reader.specs.Text.{new-state, default-options, outcome}
 use Rattle.reader.specs.Calls.{Call, no-more, one-more}
 use Rattle.reader.proofs.Texts.{rows}
-use Rattle.reader.proofs.Stays.{next-unique}
+use Rattle.reader.proofs.Stays.{step, next-unique}
 use Rattle.writer.proofs.Unique.{create-object-file-representation-unique}
 use Rattle.lent.specs.Lent.{First-record-says, First-record-unique, Next-of-unique, Object-of-unique}
-
-abbrev step : Reply → State → Step
-step r s = record { reply = r; state = s }
 
 pub first-record-says : First-record-says
 first-record-says text pool at small r pool′ x =

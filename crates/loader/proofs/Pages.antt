@@ -2,12 +2,12 @@
 -- Assumes nothing.
 use mathlib.Core.Path.{_≡_, refl, sym, ap, ap₂, _∙_}
 use mathlib.Core.Logic.{_≢_, _⊎_, inl, inr}
-use Prim.Native.Nat.{ℕ, zero, suc, _+_, _<_, max}
+use Prim.Native.Nat.{ℕ, zero, suc, _+_, _<_}
 use native.Mathlib.Nat.{suc-inj, suc-ne-zero, not-suc-le-zero, le-of-suc-le-suc, add-zero}
 use native.Mathlib.Omega.{arith}
 use mathlib.Core.Bool.{Bool, true, false}
 use mathlib.Core.Option.{Option, none, some, Option·getD, Option·map}
-use mathlib.Core.List.{List, [], _∷_, _++_, map, zipWith, List·Memᴰ, List·Memᴰ·head, List·Memᴰ·cases-cons, List·Memᴰ·not-nil, Memᴰ·append-right}
+use mathlib.Core.List.{List, [], _∷_, _++_, map, List·Memᴰ, List·Memᴰ·head, List·Memᴰ·cases-cons, List·Memᴰ·not-nil, Memᴰ·append-right}
 use lib.ListN.{length, getD, set, replicate}
 use lib.Dec.{eqb}
 use borrow.Author.Tests.{eqb-true, eqb-false, eq-eqb, ne-eqb}
@@ -102,13 +102,6 @@ pub getD-or-else : {A : Type 0} (o p : Option A) (old : A) → Option·getD (or-
 getD-or-else none p old = refl
 getD-or-else (some b) p old = refl
 
-mark-or-else : (o p : Option ℕ) → mark (or-else o p) ≡ max (mark p) (mark o)
-unfolding mark
-mark-or-else none none = refl
-mark-or-else none (some b) = refl
-mark-or-else (some b) none = refl
-mark-or-else (some b) (some c) = refl
-
 pub painted-append : (a : ℕ) (ps qs : List Placement) (page : List ℕ) → painted a (ps ++ qs) page ≡ painted a qs (painted a ps page)
 unfolding painted
 painted-append a ps qs [] = refl
@@ -116,24 +109,12 @@ painted-append a ps qs (old ∷ page) =
     ap₂ (λ (x : ℕ) (l : List ℕ). x ∷ l) (ap (λ (o : Option ℕ). Option·getD o old) (last-append a ps qs) ∙ getD-or-else (last-at a qs) (last-at a ps) old)
     (painted-append (suc a) ps qs page)
 
-pub marked-append : (a : ℕ) (ps qs : List Placement) (marks : List ℕ) → marked a (ps ++ qs) marks ≡ zipWith max (marked a ps marks) (marked a qs marks)
-unfolding marked zipWith
-marked-append a ps qs [] = refl
-marked-append a ps qs (old ∷ marks) =
-    ap₂ (λ (x : ℕ) (l : List ℕ). x ∷ l) (ap mark (last-append a ps qs) ∙ mark-or-else (last-at a qs) (last-at a ps))
-    (marked-append (suc a) ps qs marks)
-
 -- ---- as a loop writes them: nothing stated, and one placement more
 
 pub painted-none : (a : ℕ) (page : List ℕ) → painted a [] page ≡ page
 unfolding painted
 painted-none a [] = refl
 painted-none a (old ∷ page) = ap (λ (l : List ℕ). old ∷ l) (painted-none (suc a) page)
-
-pub marked-none : (a : ℕ) (marks : List ℕ) → marked a [] marks ≡ replicate (length marks) 0
-unfolding marked
-marked-none a [] = refl
-marked-none a (old ∷ marks) = ap (λ (l : List ℕ). 0 ∷ l) (marked-none (suc a) marks)
 
 -- a place behind the address keeps its byte
 painted-past : (a : ℕ) (p : Placement) (page : List ℕ) → p .address < a → painted a (p ∷ []) page ≡ page

@@ -10,7 +10,7 @@ use mathlib.Core.List.{List, [], _∷_, _++_, append-assoc, List·Memᴰ, List·
 use lib.Dec.{eqb}
 use borrow.Author.Tests.{eqb-true, eqb-false, ne-eqb}
 use native.Mathlib.Omega.{arith}
-use Rattle.record.proofs.Tests.{both-ways, both as and-true, and-false}
+use Rattle.record.proofs.Tests.{both-ways, both, and-false}
 use Rattle.record.specs.Common.{if_then_else_}
 use Rattle.reader.specs.Lines.{LF, CR, at-LF, ends-line, first-line, rest, Ended, with-CRLF, with-LF, with-text, Cut, lines, later, through}
 
@@ -65,7 +65,7 @@ unfolding first-line rest
 cut-cons c text true e₁ b₂ e₂ k =
     record { end = LF ∷ []; whole = ap (λ (x : ℕ). x ∷ text) (eqb-true c LF e₁); no-LF = List·Memᴰ·not-nil; ended = with-LF nil-ne }
 cut-cons c text false e₁ true e₂ k =
-    let (is-CR, is-LF) = and-true (eqb c CR) (at-LF text) e₂ in
+    let (is-CR, is-LF) = both (eqb c CR) (at-LF text) e₂ in
     let (t, e) = at-LF-is text is-LF in
     record {
       end = CR ∷ LF ∷ [];
@@ -124,11 +124,11 @@ unfolding first-line
 first-line-closed [] q = refl
 first-line-closed (c ∷ p) q = rw (at-LF-closed p q, first-line-closed p q)
 
-both : (p q : List ℕ) → (lines (p ++ LF ∷ q) ≡ lines (p ++ LF ∷ []) ++ lines q) × (later (p ++ LF ∷ q) ≡ later (p ++ LF ∷ []) ++ lines q)
+lines-both : (p q : List ℕ) → (lines (p ++ LF ∷ q) ≡ lines (p ++ LF ∷ []) ++ lines q) × (later (p ++ LF ∷ q) ≡ later (p ++ LF ∷ []) ++ lines q)
 unfolding lines
-both [] q = (refl, refl)
-both (c ∷ p) q =
-    let (e, f) = both p q in
+lines-both [] q = (refl, refl)
+lines-both (c ∷ p) q =
+    let (e, f) = lines-both p q in
     let t = both-ways (λ b. (if b then lines (p ++ LF ∷ q) else later (p ++ LF ∷ q)) ≡ (if b then lines (p ++ LF ∷ []) else later (p ++ LF ∷ [])) ++ lines q)
     (eqb c LF) e f in
     (ap₂ (λ (l : List ℕ) (ls : List (List ℕ)). l ∷ ls) (first-line-closed (c ∷ p) q) t, t)
@@ -141,7 +141,7 @@ pub data Closed : List ℕ → Type 0 where
 pub lines-closed : {p : List ℕ} → Closed p → (q : List ℕ) → lines (p ++ q) ≡ lines p ++ lines q
 unfolding lines
 lines-closed nothing q = refl
-lines-closed (closed part) q = rw append-assoc (both part q .0)
+lines-closed (closed part) q = rw append-assoc (lines-both part q .0)
 
 -- ---- through a line
 

@@ -6,16 +6,12 @@ use mathlib.Core.List.{List, [], _∷_}
 use denote.Ref.{RefT}
 use Rattle.reader.specs.declared.State.{State}
 use Rattle.reader.specs.declared.Step.{Step}
-use Rattle.reader.specs.declared.Reply.{Reply}
 use Rattle.reader.specs.declared.Reader.{Reader}
 use Rattle.reader.specs.Text.{new-state}
 use Rattle.reader.specs.Calls.{Call, Given, Calls, no-more, one-more}
 use Rattle.reader.specs.Held.{Opened, Asks, asked-out, asked, Held-as-by-value, Held-rows, Held-in-order, Reader-new-unique, Reader-next-unique}
 use Rattle.reader.proofs.Texts.{rows, in-order}
-use Rattle.reader.proofs.Stays.{next-unique}
-
-abbrev step : Reply → State → Step
-step r s = record { reply = r; state = s }
+use Rattle.reader.proofs.Stays.{step, next-unique}
 
 abbrev reader : RefT (List ℕ) → State → Reader
 reader text s = record { text = text; state = s }

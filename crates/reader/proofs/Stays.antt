@@ -223,7 +223,8 @@ as-reply : Answer → Reply
 as-reply (Read r) = reply.Read r
 as-reply (Refused e) = reply.Refused e
 
-step : Reply → State → Step
+-- what a call answers and leaves, put together
+abbrev pub step : Reply → State → Step
 step r s = record { reply = r; state = s }
 
 -- the reply of what is told
@@ -239,7 +240,6 @@ reply-again (reply.Refused e) = ap as-reply (untold-told (Refused e))
 reply-again reply.Done = refl
 
 pub next-unique : Next-unique
-unfolding step
 next-unique s text pool at r r′ p p′ x y =
     let q : r .reply ≡ r′ .reply = sym (reply-again (r .reply)) ∙ ap reply-of (x .answer ∙ sym (y .answer)) ∙ reply-again (r′ .reply) in
     (ap₂ step q (x .state ∙ sym (y .state)), x .left ∙ sym (y .left))

@@ -102,16 +102,6 @@ rows options text small calls givens c =
 
 -- ---- with room
 
--- a saying is what some line is judged to say
-abbrev pub Judged : Numbered → Type 0
-Judged (on n said) = (line : List ℕ) × (said ≡ judge line)
-
-pub judged : (n : ℕ) (ls : List (List ℕ)) → Every Judged (sayings n ls)
-unfolding sayings
-judged n [] = tt
-judged n ([] ∷ ls) = judged (suc n) ls
-judged n ((c ∷ line) ∷ ls) = ((c ∷ line, refl), judged (suc n) ls)
-
 room-replies : (options : ReaderOptions) (last : ℕ) (left : List Numbered) (calls : List Call)
     → Every (λ (g : Given). is-full (g .told) ≡ false) (replies options last left calls) → replies options last left calls ≡ one-by-one last (through-stop options left) calls
 unfolding replies one-by-one through-stop
