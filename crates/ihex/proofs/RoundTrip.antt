@@ -27,7 +27,7 @@ use Rattle.reader.specs.Answer.{room, given, kept, answered, poured}
 use Rattle.reader.specs.Lines.{LF, CR, Cut, Ended, with-LF, Joins, nothing, more, lines}
 use Rattle.reader.specs.Row.{Numbered, on, sayings, is-end, stops, through-stop, row}
 use Rattle.reader.specs.Text.{is-full, ends-row, default-options, new-state}
-use Rattle.reader.specs.Calls.{Call, Given, Calls, replies, one-by-one}
+use Rattle.reader.specs.Calls.{Call, Given, Never-full, Calls, replies, one-by-one}
 use Rattle.reader.proofs.Gather.{and-true}
 use Rattle.reader.proofs.Cutting.{lines-closed, closed}
 use Rattle.reader.proofs.Texts.{lines-join, rows, in-order}
@@ -159,7 +159,7 @@ given-again (extended-linear n) pool at h = (ExtendedLinearAddress n, refl, refl
 given-again (start-linear n) pool at h = (StartLinearAddress n, refl, refl)
 
 again : (last n : ℕ) (rs : List Record) (pool : List ℕ) (calls : List Call) → Every (λ r. Sayable (meant r pool)) rs
-    → Every (λ (g : Given). is-full (g .told) ≡ false) (one-by-one last (spoken n rs pool) calls) → Again rs pool calls (one-by-one last (spoken n rs pool) calls)
+    → Never-full (one-by-one last (spoken n rs pool) calls) → Again rs pool calls (one-by-one last (spoken n rs pool) calls)
 unfolding one-by-one spoken answered poured
 again last n [] pool [] h l = tt
 again last n (r ∷ rs) pool [] h l = tt
@@ -174,7 +174,7 @@ round-trip rs pool cs i b e small calls givens l c =
     let w = object-whole rs pool cs e in
     let q : givens ≡ one-by-one 0 (spoken 1 rs pool) calls = in-order default-options cs small calls givens l c ∙ ap (λ (x : List Numbered). one-by-one 0 x calls) (same-row rs pool cs i b e) in
     subst (λ (gs : List Given). Again rs pool calls gs) (sym q)
-    (again 0 1 rs pool calls (every-sayable rs pool i b (w .fine)) (subst (λ (gs : List Given). Every (λ (g : Given). is-full (g .told) ≡ false) gs) q l))
+    (again 0 1 rs pool calls (every-sayable rs pool i b (w .fine)) (subst Never-full q l))
 
 -- ---- room in the pools
 
@@ -187,17 +187,14 @@ given-fits (start-segment cs ip) call h = refl
 given-fits (extended-linear number) call h = refl
 given-fits (start-linear number) call h = refl
 
-abbrev Not-full : List Given → Type 0
-Not-full givens = Every (λ (g : Given). is-full (g .told) ≡ false) givens
-
-done-fits : (last : ℕ) (calls : List Call) → Not-full (replies default-options last [] calls)
+done-fits : (last : ℕ) (calls : List Call) → Never-full (replies default-options last [] calls)
 unfolding replies is-full
 done-fits last [] = tt
 done-fits last (call ∷ calls) = (refl, done-fits last calls)
 
 -- the answer that ends the row leaves only "done", and the others leave the records behind
 all-fit : (last n : ℕ) (rs : List Record) (pool : List ℕ) (calls : List Call) → Every (λ r. Sayable (meant r pool)) rs → Has-room rs pool calls
-    → Not-full (replies default-options last (spoken n rs pool) calls)
+    → Never-full (replies default-options last (spoken n rs pool) calls)
 unfolding replies spoken answered
 all-fit last n [] pool [] h f = tt
 all-fit last n (r ∷ rs) pool [] h f = tt
@@ -208,7 +205,7 @@ all-fit last n (r ∷ rs) pool (call ∷ calls) (h, hs) (f, fs) =
     ap (λ (x : Meaning). is-full (given x (length (call .pool)) (call .at))) (reads-back m h .means) ∙ given-fits m call f in
     rw g (
       g,
-      both-ways (λ b. Not-full (replies default-options n (if b then [] else spoken (suc n) rs pool) calls))
+      both-ways (λ b. Never-full (replies default-options n (if b then [] else spoken (suc n) rs pool) calls))
           (ends-row default-options (answered (said-of m) (length (call .pool)) (call .at))) (done-fits n calls) (all-fit n (suc n) rs pool calls hs fs),
     )
 
@@ -221,4 +218,4 @@ written-reads-back rs pool out n out′ i b small w calls givens room c =
     let short : length cs < 2 ^ 64 = omega (arith, length-take n out′) in
     let q : givens ≡ replies default-options 0 (spoken 1 rs pool) calls =
     rows default-options cs short calls givens c ∙ ap (λ (x : List Numbered). replies default-options 0 x calls) (said-in rs pool cs h (o .lined)) in
-    round-trip rs pool cs i b e short calls givens (subst Not-full (sym q) (all-fit 0 1 rs pool calls h room)) c
+    round-trip rs pool cs i b e short calls givens (subst Never-full (sym q) (all-fit 0 1 rs pool calls h room)) c

@@ -15,7 +15,7 @@ use Rattle.reader.specs.declared.Answer.the-variants.{Read}
 use Rattle.reader.specs.Told.{done, told}
 use Rattle.reader.specs.Row.{Numbered, on, row}
 use Rattle.reader.specs.Text.{is-full, default-options, new-state}
-use Rattle.reader.specs.Calls.{Call, Given, Calls}
+use Rattle.reader.specs.Calls.{Call, Given, Never-full, Calls}
 use Rattle.writer.specs.declared.Written.the-variants.{Wrote}
 use Rattle.writer.specs.Text.{chars}
 use Rattle.writer.specs.Object.{object, WriteObject}
@@ -49,7 +49,7 @@ Again (r ∷ rs) pool (call ∷ calls) (g ∷ gs) =
 abbrev pub Round-trip : Type 0
 Round-trip =
     (rs : List Record) (pool cs : List ℕ) → Every In-range rs → Every Byte pool → object rs pool ≡ chars cs → length cs < 2 ^ 64
-    → (calls : List Call) (givens : List Given) → Every (λ (g : Given). is-full (g .told) ≡ false) givens
+    → (calls : List Call) (givens : List Given) → Never-full givens
     → Calls cs (new-state default-options) calls givens → Again rs pool calls givens
 
 -- a call has room in its pool for a record: only data go there

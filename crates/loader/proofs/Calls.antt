@@ -6,7 +6,7 @@ use Prim.Native.Nat.{ℕ, suc, _+_, _-_, _≤_}
 use native.Mathlib.Omega.{arith}
 use mathlib.Core.Bool.{Bool, true, false, _&&_}
 use mathlib.Core.List.{List, [], _∷_}
-use lib.ListN.{length, drop}
+use lib.ListN.{length, drop, length-take}
 use lib.Seq.{take-at}
 use borrow.Author.Tests.{le-leb}
 use Rattle.record.specs.Common.{if_then_else_}
@@ -68,12 +68,12 @@ module _ (pool : List ℕ) (room : length pool ≡ 255) where
 
 rec-lies : (pool : List ℕ) → length pool ≡ 255 → (m : Meaning) → Sayable m → Lies-in (rec-of m) pool
 unfolding rec-of
-rec-lies pool room (data-at offset bytes) s = (omega (arith, s .1), s .1)
-rec-lies pool room end-of-file s = tt
-rec-lies pool room (extended-segment n) s = tt
-rec-lies pool room (start-segment cs ip) s = tt
-rec-lies pool room (extended-linear n) s = tt
-rec-lies pool room (start-linear n) s = tt
+rec-lies pool room (data-at offset bytes) s = (omega (arith, s .1), simp length-take (omega (arith, s .1)))
+rec-lies pool room end-of-file s = (tt, omega arith)
+rec-lies pool room (extended-segment n) s = (tt, omega arith)
+rec-lies pool room (start-segment cs ip) s = (tt, omega arith)
+rec-lies pool room (extended-linear n) s = (tt, omega arith)
+rec-lies pool room (start-linear n) s = (tt, omega arith)
 
 -- ---- a call
 

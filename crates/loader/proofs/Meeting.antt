@@ -6,7 +6,7 @@ use native.Mathlib.Numerals.{add-one}
 use native.Mathlib.Omega.{arith}
 use mathlib.Core.Bool.{Bool, false}
 use mathlib.Core.List.{List, [], _++_}
-use lib.ListN.{length, take, drop, length-take}
+use lib.ListN.{length, take, drop}
 use Rattle.record.specs.Refusals.{outside-window}
 use Rattle.record.specs.Record.{meant}
 use Rattle.record.specs.declared.Record.{Record}
@@ -54,8 +54,8 @@ module _ (base : CodeBase) (x : Record) where
 pub part-is : (at len : ℕ) (pool : List ℕ) → take (at + len - at) (drop at pool) ≡ take len (drop at pool)
 part-is at len pool = let n : at + len - at ≡ len = omega arith in rw n
 
-pub part-small : (at len : ℕ) (pool : List ℕ) → len ≤ 255 → length (take (at + len - at) (drop at pool)) ≤ 255
-part-small at len pool h = rw (part-is at len pool) (simp length-take (omega arith))
+pub part-small : (at len : ℕ) (pool : List ℕ) → length (take len (drop at pool)) ≤ 255 → length (take (at + len - at) (drop at pool)) ≤ 255
+part-small at len pool h = rw (part-is at len pool) h
 
 -- ---- the first pass
 

@@ -13,7 +13,7 @@ use Rattle.record.specs.Line.{Said, says, wrong, judge}
 use Rattle.record.specs.Meaning.{Meaning, data-at, end-of-file, extended-segment, start-segment, extended-linear, start-linear, meaning}
 use Rattle.record.proofs.Choices.{or-else-none, or-else-assoc}
 use Rattle.reader.specs.Row.{Numbered, on, sayings, is-end, through-stop}
-use Rattle.loader.specs.Placing.{Placement, Base, segment, linear, base-behind, placed, Action, step-at, steps, stated}
+use Rattle.loader.specs.Placing.{Placement, Base, segment, linear, stated-by, base-behind, placed, Action, step-at, steps, stated}
 use Rattle.loader.specs.Load.{Tally, one-more, Verdict, accepted, refused, Decision, by, outside, or-later, decision}
 use Rattle.loader.specs.Helpers.{left}
 use Rattle.loader.specs.Claims.{said-record, record-on, sets, latest, in-force, states, all-states, counts, data-records, Passes, is-empty, goes-on, All-pass, Stops, the-end, no-record, first-outside}
@@ -133,7 +133,7 @@ module _ (inside : ℕ → Bool) where
         → Behind (in-force ahead) (one-more tally)
         → (o : Option ℕ) → Seen (placed (in-force ahead) offset 0 bytes) o
         → Walked ahead (from-record n (in-force ahead) (data-at offset bytes) row) n (l ∷ ls) (or-later n o (decided inside (in-force ahead) (one-more tally) row))
-    unfolding or-later step-at steps stated states is-end
+    unfolding or-later step-at steps stated states stated-by is-end
     at-data offset bytes e ih none s =
         past ahead l _ (left (in-force ahead) row) n ls (goes-on (data-at offset bytes) some-byte e (λ q. let z : _≡_ {A = ℕ} 0 1 = cc in omega arith) s)
         (rw e) (decided inside (in-force ahead) (one-more tally) row) ih
@@ -152,7 +152,7 @@ module _ (inside : ℕ → Bool) where
 
     at-record : (a : Meaning) → record-on l ≡ some a → Later a
         → Walked ahead (from-record n (in-force ahead) a row) n (l ∷ ls) (decision inside tally (from-record n (in-force ahead) a row))
-    unfolding decision step-at steps stated states is-end counts
+    unfolding decision step-at steps stated states stated-by is-end counts
     at-record (data-at offset bytes) e ih =
         at-data offset bytes e (ih (one-more tally) (omega (arith, records-snoc ahead l _ e))) (outside inside (placed (in-force ahead) offset 0 bytes)) (seen (placed (in-force ahead) offset 0 bytes))
     at-record end-of-file e ih = here ahead l _ n ls _ (the-end tally e counted) (λ t h. refl)

@@ -17,7 +17,7 @@ use Rattle.record.specs.Line.{Said, says, wrong, judge}
 use Rattle.record.specs.Meaning.{Meaning, data-at, end-of-file, extended-segment, start-segment, extended-linear, start-linear, meaning}
 use Rattle.reader.specs.Lines.{LF, lines, through}
 use Rattle.loader.specs.declared.Loading.{Loading}
-use Rattle.loader.specs.Placing.{Placement, Base, from-start, segment, linear, placed}
+use Rattle.loader.specs.Placing.{Placement, Base, from-start, segment, linear, stated-by}
 use Rattle.loader.specs.Load.{Tally, Verdict, accepted, refused, by, within, stopping, Loaded, placements, load}
 use Rattle.loader.specs.Told.{told, Load}
 
@@ -116,16 +116,11 @@ unfoldable pub in-force : List (List ℕ) → Base
 unfolding latest
 in-force ahead = Option·getD (latest ahead) from-start
 
--- what a record states behind these lines: a data record its bytes, by the base in force there
+-- what a record, if there is one, states behind these lines, by the base in force there
 unfoldable pub states : (ahead : List (List ℕ)) → Option Meaning → List Placement
-unfolding placed in-force
+unfolding stated-by in-force
 states ahead none = []
-states ahead (some (data-at offset bytes)) = placed (in-force ahead) offset 0 bytes
-states ahead (some end-of-file) = []
-states ahead (some (extended-segment number)) = []
-states ahead (some (start-segment cs ip)) = []
-states ahead (some (extended-linear number)) = []
-states ahead (some (start-linear number)) = []
+states ahead (some m) = stated-by (in-force ahead) m
 
 -- what lines state, one after the other, behind these
 unfoldable pub all-states : (ahead ls : List (List ℕ)) → List Placement

@@ -4,23 +4,24 @@ use Prim.Native.Nat.{ℕ, suc, _+_, _≤_, _<_}
 use mathlib.Core.Path.{_≡_}
 use mathlib.Core.Bool.{Bool, false}
 use mathlib.Core.Option.{Option, none, some}
-use mathlib.Core.List.{List, [], _++_, map}
+use mathlib.Core.List.{List, _++_, map}
 use lib.ListN.{length}
-use Rattle.record.specs.Meaning.{Meaning, data-at, end-of-file, extended-segment, start-segment, extended-linear, start-linear}
-use Rattle.record.specs.Record.{meant}
+use Rattle.record.specs.Meaning.{Meaning}
+use Rattle.record.specs.Record.{meant, Inside}
+use Rattle.record.specs.Written.{payload-of}
 use Rattle.record.specs.declared.Record.{Record}
-use Rattle.record.specs.declared.Record.the-variants.{Data, EndOfFile, ExtendedSegmentAddress, StartSegmentAddress, ExtendedLinearAddress, StartLinearAddress}
 use Rattle.reader.specs.Row.{Numbered, is-end, through-stop}
 use Rattle.reader.specs.Text.{default-options}
 use Rattle.reader.specs.Along.{unread, Countable}
 use Rattle.loader.specs.declared.Base.{Base as CodeBase}
 use Rattle.loader.specs.declared.Base.the-variants.{FromStart, Segment, Linear}
 use Rattle.loader.specs.declared.Reach.{Reach}
-use Rattle.loader.specs.declared.Reach.the-variants.{Inside, Outside}
+use Rattle.loader.specs.declared.Reach.the-variants as reach
 use Rattle.loader.specs.declared.Walk.{Walk}
 use Rattle.loader.specs.declared.Turn.{Turn}
 use Rattle.loader.specs.declared.Turn.the-variants.{On, Stop}
-use Rattle.loader.specs.Placing.{Placement, Base, from-start, segment, linear, base-behind, placed, Action, step-at, steps, stated}
+use Rattle.loader.specs.Placing.{Placement, Base, from-start, segment, linear, base-behind, Action, step-at, steps, stated}
+unfoldable pub use Rattle.loader.specs.Placing.{stated-by}
 use Rattle.loader.specs.Load.{Tally, accepted, by, within, outside, decision, verdict, painted}
 use Rattle.loader.specs.Told.{told}
 
@@ -32,8 +33,8 @@ based (Segment number) = segment number
 based (Linear number) = linear number
 
 abbrev pub reached : Reach → Option ℕ
-reached Inside = none
-reached (Outside address) = some address
+reached reach.Inside = none
+reached (reach.Outside address) = some address
 
 -- the mark of a placement, as a placement
 abbrev pub as-mark : Placement → Placement
@@ -49,24 +50,9 @@ pub record Fitting (first : ℕ) (ps : List Placement) (page marks : List ℕ) :
   pub even : length page ≡ length marks
   pub inside : outside (within first (length page)) ps ≡ none
 
--- what a record states
-unfoldable pub stated-by : Base → Meaning → List Placement
-unfolding placed
-stated-by base (data-at offset bytes) = placed base offset 0 bytes
-stated-by base end-of-file = []
-stated-by base (extended-segment number) = []
-stated-by base (start-segment cs ip) = []
-stated-by base (extended-linear number) = []
-stated-by base (start-linear number) = []
-
--- a data record's payload lies in the pool
+-- a record's payload lies in the pool, and is no longer than a line can say
 abbrev pub Lies-in : Record → (pool : List ℕ) → Type 0
-Lies-in (Data offset at len) pool = (at + len ≤ length pool) × (len ≤ 255)
-Lies-in EndOfFile pool = Unit
-Lies-in (ExtendedSegmentAddress a) pool = Unit
-Lies-in (StartSegmentAddress cs ip) pool = Unit
-Lies-in (ExtendedLinearAddress a) pool = Unit
-Lies-in (StartLinearAddress a) pool = Unit
+Lies-in x pool = Inside x (length pool) × (length (payload-of (meant x pool)) ≤ 255)
 
 -- the base behind a record, wherever its payload lies
 pub record Behind (base : CodeBase) (x : Record) (r : CodeBase) : Type 0 where

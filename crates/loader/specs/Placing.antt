@@ -36,6 +36,16 @@ unfolding byte-address
 placed base offset i [] = []
 placed base offset i (b ∷ bytes) = record { address = byte-address base offset i; byte = b } ∷ placed base offset (suc i) bytes
 
+-- what a record states at a base: a data record its bytes, any other nothing
+unfoldable pub stated-by : Base → Meaning → List Placement
+unfolding placed
+stated-by base (data-at offset bytes) = placed base offset 0 bytes
+stated-by base end-of-file = []
+stated-by base (extended-segment number) = []
+stated-by base (start-segment cs ip) = []
+stated-by base (extended-linear number) = []
+stated-by base (start-linear number) = []
+
 -- the base behind a record: the latest of types 02 and 04 holds
 unfoldable pub base-behind : Base → Meaning → Base
 base-behind base (data-at offset bytes) = base

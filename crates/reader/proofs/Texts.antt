@@ -11,7 +11,7 @@ use native.Mathlib.Nat.{add-suc, suc-add, add-zero}
 use lib.Dec.{eqb, leb}
 use lib.ListN.{length, drop, drop-of-length-le, length-append}
 use borrow.Author.Tests.{eqb-true}
-use Rattle.record.specs.Common.{if_then_else_, Every}
+use Rattle.record.specs.Common.{if_then_else_}
 use Rattle.record.specs.Refusals.{number-of, pool-full}
 use Rattle.record.specs.Line.{Said, says, wrong, judge}
 use Rattle.record.specs.Meaning.{Meaning, data-at, end-of-file, extended-segment, start-segment, extended-linear, start-linear, meaning}
@@ -27,7 +27,7 @@ use Rattle.reader.specs.Answer.{given, answered, poured}
 use Rattle.reader.specs.Lines.{LF, Cut, Joins, nothing, more, first-line, rest, lines, later, through, Found, a-line, no-line, next-line}
 use Rattle.reader.specs.Row.{Numbered, on, number, sayings, stops, through-stop, stopped, row}
 use Rattle.reader.specs.Text.{FirstLine, told-reply, is-full, ends-row, new-state, behind, at-end, next-number, Outcome, of-found, outcome, Meets, Next, Default, New, Number}
-use Rattle.reader.specs.Calls.{Call, Given, Calls, no-more, one-more, given-for, replies, one-by-one}
+use Rattle.reader.specs.Calls.{Call, Given, Never-full, Calls, no-more, one-more, given-for, replies, one-by-one}
 use Rattle.reader.specs.Claims.{Lines-join, First-line-unique, Rows, In-order, Bounded, Numbers-are-lines, Done-stays, Done-behind, Full-keeps, Pool-blind, Shared, Same-through, Nothing-behind, Next-unique, Default-unique, New-unique, Number-unique}
 use Rattle.reader.proofs.Claims.{untold, untold-told}
 use Rattle.reader.proofs.Cutting.{cut, cut-unique, lines-cons, lines-closed, Closed, Head, through-head}
@@ -103,7 +103,7 @@ rows options text small calls givens c =
 -- ---- with room
 
 room-replies : (options : ReaderOptions) (last : ℕ) (left : List Numbered) (calls : List Call)
-    → Every (λ (g : Given). is-full (g .told) ≡ false) (replies options last left calls) → replies options last left calls ≡ one-by-one last (through-stop options left) calls
+    → Never-full (replies options last left calls) → replies options last left calls ≡ one-by-one last (through-stop options left) calls
 unfolding replies one-by-one through-stop
 room-replies options last [] [] r = refl
 room-replies options last (on n said ∷ left) [] r = refl
@@ -112,20 +112,20 @@ room-replies options last (on n said ∷ left) (call ∷ calls) r =
     full-or-not (is-full (answered said (length (call .pool)) (call .at))) refl r
     (λ q. room-replies options n [] calls q) (λ q. room-replies options n left calls q)
   where
-    stop-or-not : (b : Bool) → Every (λ (g : Given). is-full (g .told) ≡ false) (replies options n (if b then [] else left) calls)
-        → (Every (λ (g : Given). is-full (g .told) ≡ false) (replies options n [] calls) → replies options n [] calls ≡ one-by-one n [] calls)
-        → (Every (λ (g : Given). is-full (g .told) ≡ false) (replies options n left calls) → replies options n left calls ≡ one-by-one n (through-stop options left) calls)
+    stop-or-not : (b : Bool) → Never-full (replies options n (if b then [] else left) calls)
+        → (Never-full (replies options n [] calls) → replies options n [] calls ≡ one-by-one n [] calls)
+        → (Never-full (replies options n left calls) → replies options n left calls ≡ one-by-one n (through-stop options left) calls)
         → replies options n (if b then [] else left) calls ≡ one-by-one n (if b then [] else through-stop options left) calls
     stop-or-not true r x y = x r
     stop-or-not false r x y = y r
 
     full-or-not : (b : Bool) → is-full (answered said (length (call .pool)) (call .at)) ≡ b
-        → Every (λ (g : Given). is-full (g .told) ≡ false)
+        → Never-full
         (if b
         then record { told = answered said (length (call .pool)) (call .at); pool = call .pool; line = last } ∷ replies options last (on n said ∷ left) calls
         else given-for (on n said) call ∷ replies options n (if ends-row options (answered said (length (call .pool)) (call .at)) then [] else left) calls)
-        → (Every (λ (g : Given). is-full (g .told) ≡ false) (replies options n [] calls) → replies options n [] calls ≡ one-by-one n [] calls)
-        → (Every (λ (g : Given). is-full (g .told) ≡ false) (replies options n left calls) → replies options n left calls ≡ one-by-one n (through-stop options left) calls)
+        → (Never-full (replies options n [] calls) → replies options n [] calls ≡ one-by-one n [] calls)
+        → (Never-full (replies options n left calls) → replies options n left calls ≡ one-by-one n (through-stop options left) calls)
         → (if b
         then record { told = answered said (length (call .pool)) (call .at); pool = call .pool; line = last } ∷ replies options last (on n said ∷ left) calls
         else given-for (on n said) call ∷ replies options n (if ends-row options (answered said (length (call .pool)) (call .at)) then [] else left) calls)
@@ -140,7 +140,7 @@ pub in-order : In-order
 unfolding row
 in-order options text small calls givens room c =
     let e = rows options text small calls givens c in
-    e ∙ room-replies options 0 (sayings 1 (lines text)) calls (subst (λ (gs : List Given). Every (λ (g : Given). is-full (g .told) ≡ false) gs) e room)
+    e ∙ room-replies options 0 (sayings 1 (lines text)) calls (subst Never-full e room)
 
 -- ---- numbers
 

@@ -1,10 +1,11 @@
 -- A row of calls of the text reader, and what they are given.
 -- Assumes nothing.
 use Prim.Native.Nat.{ℕ}
-use mathlib.Core.Bool.{Bool}
+use mathlib.Core.Path.{_≡_}
+use mathlib.Core.Bool.{Bool, false}
 use mathlib.Core.List.{List, [], _∷_}
 use lib.ListN.{length}
-use Rattle.record.specs.Common.{if_then_else_}
+use Rattle.record.specs.Common.{if_then_else_, Every}
 use Rattle.reader.specs.declared.ReaderOptions.{ReaderOptions}
 use Rattle.reader.specs.declared.State.{State}
 use Rattle.reader.specs.declared.Step.{Step}
@@ -23,6 +24,10 @@ pub record Given : Type 0 where
   pub told : Told
   pub pool : List ℕ
   pub line : ℕ
+
+-- no call is told PoolFull
+abbrev pub Never-full : List Given → Type 0
+Never-full givens = Every (λ (g : Given). is-full (g .told) ≡ false) givens
 
 -- calls that start in a state: all that is known of each is its contract
 pub data Calls (text : List ℕ) : State → List Call → List Given → Type 0 where

@@ -4,7 +4,7 @@ use Prim.Native.Nat.{ℕ, suc, _+_, _^_, _≤_, _<_}
 use Prim.Native.String.{String}
 use mathlib.Core.Path.{_≡_}
 use mathlib.Core.Logic.{_↔_}
-use mathlib.Core.Bool.{true, false}
+use mathlib.Core.Bool.{true}
 use mathlib.Core.Option.{Option, none, some}
 use mathlib.Core.List.{List, [], _∷_, _++_, List·Memᴰ}
 use denote.Ref.{RefT}
@@ -22,8 +22,8 @@ use Rattle.reader.specs.Told.{Told, gives, refuses, done, told}
 use Rattle.reader.specs.Answer.{ReadRecord, answered}
 use Rattle.reader.specs.Lines.{Joins, lines, through}
 use Rattle.reader.specs.Row.{Numbered, on, number, sayings, stopped, row}
-use Rattle.reader.specs.Text.{FirstLine, is-full, new-state, outcome, Next, Default, New, Number}
-use Rattle.reader.specs.Calls.{Call, Given, Calls, replies, one-by-one}
+use Rattle.reader.specs.Text.{FirstLine, new-state, outcome, Next, Default, New, Number}
+use Rattle.reader.specs.Calls.{Call, Given, Never-full, Calls, replies, one-by-one}
 
 -- ---- one line
 
@@ -89,7 +89,7 @@ Rows =
 abbrev pub In-order : Type 0
 In-order =
     (options : ReaderOptions) (text : List ℕ) → length text < 2 ^ 64
-    → (calls : List Call) (givens : List Given) → Every (λ (g : Given). is-full (g .told) ≡ false) givens
+    → (calls : List Call) (givens : List Given) → Never-full givens
     → Calls text (new-state options) calls givens
     → givens ≡ one-by-one 0 (row options text) calls
 
@@ -97,7 +97,7 @@ In-order =
 abbrev pub Room-is-enough : Type 0
 Room-is-enough =
     (text : List ℕ) (s : State) (calls : List Call) (givens : List Given) → Every (λ (c : Call). c .at + 255 ≤ length (c .pool)) calls
-    → Calls text s calls givens → Every (λ (g : Given). is-full (g .told) ≡ false) givens
+    → Calls text s calls givens → Never-full givens
 
 -- no more answers than lines
 abbrev pub Bounded : Type 0

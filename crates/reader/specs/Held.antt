@@ -3,18 +3,16 @@
 use Prim.Native.Nat.{ℕ, _+_, _^_, _≤_, _<_}
 use mathlib.Core.Path.{_≡_}
 use mathlib.Core.Logic.{_↔_}
-use mathlib.Core.Bool.{false}
 use mathlib.Core.List.{List, [], _∷_}
 use lib.ListN.{length}
 use denote.Ref.{RefT}
-use Rattle.record.specs.Common.{Every}
 use Rattle.reader.specs.declared.ReaderOptions.{ReaderOptions}
 use Rattle.reader.specs.declared.Reply.{Reply}
 use Rattle.reader.specs.declared.Reader.{Reader}
 use Rattle.reader.specs.Lines.{lines}
 use Rattle.reader.specs.Row.{sayings, row}
-use Rattle.reader.specs.Text.{told-reply, is-full, default-options, new-state, Outcome, outcome}
-use Rattle.reader.specs.Calls.{Call, Given, Calls, replies, one-by-one}
+use Rattle.reader.specs.Text.{told-reply, default-options, new-state, Outcome, outcome}
+use Rattle.reader.specs.Calls.{Call, Given, Never-full, Calls, replies, one-by-one}
 
 -- ---- contracts
 
@@ -58,7 +56,7 @@ Held-rows =
 abbrev pub Held-in-order : Type 0
 Held-in-order =
     (options : ReaderOptions) (text : RefT (List ℕ)) → length (text .now) < 2 ^ 64
-    → (h : Reader) → Opened text options h → (calls : List Call) (givens : List Given) → Every (λ (g : Given). is-full (g .told) ≡ false) givens
+    → (h : Reader) → Opened text options h → (calls : List Call) (givens : List Given) → Never-full givens
     → Asks h calls givens → givens ≡ one-by-one 0 (row options (text .now)) calls
 
 -- ---- one outcome each

@@ -1,11 +1,10 @@
 -- `loader::write_record` meets its contract: a data record is put, any other leaves page and marks as they are.
 -- Assumes nothing.
-use Prim.Native.Nat.{_+_, _≤_}
 use mathlib.Core.Path.{subst}
 use native.Mathlib.Omega.{arith}
 use denote.Ref.{now}
-use lib.ListN.{length}
 use Rattle.record.specs.declared.Record.{Record}
+use Rattle.record.specs.declared.Record.the-variants.{Data}
 use Rattle.loader.specs.Helpers.{based, stated-by, Lies-in}
 use Rattle.loader.proofs.Meeting.{part-small, idle, fits-data, painted-data}
 use borrow.Author.Needs.{needs}
@@ -19,7 +18,7 @@ enum-known-given c = search needs
 lies : (c : tie.After-known-told)
     → let g = c .before .given .given .0 in
     let p = now (c .before .before .before .before .before .before .args .pool) in
-    (g .1 .0 + g .1 .1 .0 ≤ length p) × (g .1 .1 .0 ≤ 255)
+    Lies-in (Data (g .0) (g .1 .0) (g .1 .1 .0)) p
 lies c =
     let s = c .before .before .before .before .before .before in
     subst (λ (x : Record). Lies-in x (now (s .args .pool))) (c .before .given .given .1) (s .pre .0)
