@@ -36,7 +36,7 @@ use Rattle.listing.specs.Listing.{record-entry, refusal-entry, entry, en
 use Rattle.listing.specs.Helpers.{Puts, is-done, shown, Lies, Fits-in, EntriesPut}
 use Rattle.listing.proofs.Putting.{put-none, put-then, put-as}
 use Rattle.listing.proofs.Entry.{not-full}
-use Rattle.reader.proofs.Texts.{lines-few}
+use Rattle.reader.proofs.Texts.{lines-few, cut-behind}
 
 -- ---- one reply
 
@@ -145,16 +145,12 @@ module _ (input : List ℕ) (s : State) (pool : List ℕ) (size : 255 ≤ length
       record {
         said = said;
         n = n;
-        listed = ap (through-stop listing-options) u ∙ ap (λ (l : List Numbered). on n said ∷ l) (stop-inside (stops listing-options said) more ∙ sym (ap (through-stop listing-options) rest));
+        listed = ap (through-stop listing-options) u ∙ ap (λ (l : List Numbered). on n said ∷ l) (cut-behind listing-options (stops listing-options said) more ∙ sym (ap (through-stop listing-options) rest));
         shows = p .shows;
         lies = p .lies;
         same-options = ap (λ (x : State). x .options) (met .state) ∙ h .options ∙ opts;
         countable = subst (λ (x : State). Countable x input) (sym (met .state)) (h .countable);
       }
-    where
-      stop-inside : (b : Bool) (more : List Numbered) → (if b then [] else through-stop listing-options more) ≡ through-stop listing-options (if b then [] else more)
-      stop-inside true more = refl
-      stop-inside false more = refl
 
   pub turned : is-done (step .reply) ≡ false → Shown input s (step .reply) (step .state) pool′
   turned d = go (unread s input) refl

@@ -11,6 +11,7 @@ use Rattle.record.specs.Refusals.{outside-window}
 use Rattle.record.specs.Record.{meant}
 use Rattle.record.specs.declared.Record.{Record}
 use Rattle.record.specs.declared.Record.the-variants.{Data, EndOfFile, ExtendedSegmentAddress, StartSegmentAddress, ExtendedLinearAddress, StartLinearAddress}
+use Rattle.record.proofs.Parts.{part-is}
 use Rattle.reader.specs.Row.{is-end}
 use Rattle.loader.specs.declared.Base.{Base as CodeBase}
 use Rattle.loader.specs.declared.Base.the-variants.{Segment, Linear}
@@ -51,11 +52,8 @@ module _ (base : CodeBase) (x : Record) where
 
 -- ---- a part of the pool
 
-pub part-is : (at len : ℕ) (pool : List ℕ) → take (at + len - at) (drop at pool) ≡ take len (drop at pool)
-part-is at len pool = let n : at + len - at ≡ len = omega arith in rw n
-
 pub part-small : (at len : ℕ) (pool : List ℕ) → length (take len (drop at pool)) ≤ 255 → length (take (at + len - at) (drop at pool)) ≤ 255
-part-small at len pool h = rw (part-is at len pool) h
+part-small at len pool h = rw (part-is pool at len) h
 
 -- ---- the first pass
 
@@ -63,7 +61,7 @@ module _ (inside : ℕ → Bool) (w : Walk) (records : ℕ) (x : Record) (pool :
   -- where the payload of a data record lies, as it was surveyed
   surveyed : (offset at len : ℕ) (r : Reach) → reached r ≡ outside inside (placed (based (w .base)) offset 0 (take (at + len - at) (drop at pool)))
       → (r′ : Reach) → r ≡ r′ → outside inside (placed (based (w .base)) offset 0 (take len (drop at pool))) ≡ reached r′
-  surveyed offset at len r h r′ e = ap (λ (bs : List ℕ). outside inside (placed (based (w .base)) offset 0 bs)) (sym (part-is at len pool)) ∙ sym h ∙ ap reached e
+  surveyed offset at len r h r′ e = ap (λ (bs : List ℕ). outside inside (placed (based (w .base)) offset 0 bs)) (sym (part-is pool at len)) ∙ sym h ∙ ap reached e
 
   -- the walk behind the record
   abbrev pub there : CodeBase → Walk
@@ -105,9 +103,9 @@ module _ (first : ℕ) (base : Base) (x : Record) (pool page marks : List ℕ) w
   pub fits-data : (offset at len : ℕ) → x ≡ Data offset at len → Fitting first (stated-by base (meant x pool)) page marks
       → Fitting first (placed base offset 0 (take (at + len - at) (drop at pool))) page marks
   unfolding stated-by
-  fits-data offset at len e f = rw (part-is at len pool) (rw e at f)
+  fits-data offset at len e f = rw (part-is pool at len) (rw e at f)
 
   pub painted-data : (offset at len : ℕ) (page′ marks′ : List ℕ) → x ≡ Data offset at len
       → Painted first (placed base offset 0 (take (at + len - at) (drop at pool))) page marks page′ marks′ → Painted first (stated-by base (meant x pool)) page marks page′ marks′
   unfolding stated-by
-  painted-data offset at len page′ marks′ e p = rw e (rw (part-is at len pool) at p)
+  painted-data offset at len page′ marks′ e p = rw e (rw (part-is pool at len) at p)

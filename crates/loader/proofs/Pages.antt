@@ -13,7 +13,7 @@ use lib.Dec.{eqb}
 use borrow.Author.Tests.{eqb-true, eqb-false, eq-eqb, ne-eqb}
 use Rattle.record.specs.Common.{if_then_else_, or-else}
 use Rattle.loader.specs.Placing.{Placement}
-use Rattle.record.proofs.Choices.{or-else-none, or-else-assoc}
+use Rattle.record.proofs.Choices.{or-else-none, or-else-assoc, getD-or-else}
 use Rattle.loader.specs.Load.{last-at, mark, painted, marked}
 use Rattle.loader.specs.Helpers.{as-mark}
 use Rattle.loader.specs.Claims.{Last-stated, Place}
@@ -97,10 +97,6 @@ last-append a [] qs = sym (or-else-none (last-at a qs))
 last-append a (p ∷ ps) qs =
     let here = if eqb (p .address) a then some (p .byte) else none in
     ap (λ (o : Option ℕ). or-else o here) (last-append a ps qs) ∙ or-else-assoc (last-at a qs) (last-at a ps) here
-
-pub getD-or-else : {A : Type 0} (o p : Option A) (old : A) → Option·getD (or-else o p) old ≡ Option·getD o (Option·getD p old)
-getD-or-else none p old = refl
-getD-or-else (some b) p old = refl
 
 pub painted-append : (a : ℕ) (ps qs : List Placement) (page : List ℕ) → painted a (ps ++ qs) page ≡ painted a qs (painted a ps page)
 unfolding painted

@@ -21,7 +21,7 @@ use Rattle.reader.specs.Told.{refusal-of}
 use Rattle.reader.specs.Lines.{lines}
 use Rattle.reader.specs.Row.{Numbered, on, is-end, through-stop, row}
 use Rattle.reader.specs.Text.{default-options, new-state, Next}
-use Rattle.reader.proofs.Texts.{lines-few, sayings-few}
+use Rattle.reader.proofs.Texts.{lines-few, sayings-few, cut-behind}
 use Rattle.reader.specs.Along.{unread}
 use Rattle.loader.specs.declared.Base.{Base as CodeBase}
 use Rattle.loader.specs.declared.Base.the-variants.{FromStart}
@@ -51,12 +51,6 @@ unfolding unread steps-of row
 start-ahead text = refl
 
 -- ---- one call
-
--- a stop that is reached leaves nothing behind it
-cut-behind : (b : Bool) (more : List Numbered) → (if b then [] else through-stop default-options more) ≡ through-stop default-options (if b then [] else more)
-unfolding through-stop
-cut-behind true more = refl
-cut-behind false more = refl
 
 cut-shorter : (b : Bool) (more : List Numbered) → length (if b then [] else more) ≤ length more
 cut-shorter true more = omega arith
@@ -114,7 +108,7 @@ module _ (text : List ℕ) (w : Walk) (pool : List ℕ) (r : Reading) (pool′ :
   ahead-step x one =
       let base = based (w .base) in
       let m = meaning (one .kind) (one .address) (one .payload) in
-      rw (one .means, one .first, one .left) (ap (λ (l : List Numbered). step-at (r .state .line) base m ++ steps (base-behind base m) l) (cut-behind (is-end m && true) (one .more)))
+      rw (one .means, one .first, one .left) (ap (λ (l : List Numbered). step-at (r .state .line) base m ++ steps (base-behind base m) l) (cut-behind default-options (is-end m && true) (one .more)))
 
   shorter : (x : Record) → Here x → length (unread (r .state) text) < length (unread (w .state) text)
   shorter x one =

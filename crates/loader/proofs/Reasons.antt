@@ -11,13 +11,12 @@ use lib.ListN.{length}
 use Rattle.record.specs.Common.{if_then_else_, or-else, Every}
 use Rattle.record.specs.Line.{Said, says, wrong, judge}
 use Rattle.record.specs.Meaning.{Meaning, data-at, end-of-file, extended-segment, start-segment, extended-linear, start-linear, meaning}
-use Rattle.record.proofs.Choices.{or-else-none, or-else-assoc}
+use Rattle.record.proofs.Choices.{or-else-none, or-else-assoc, getD-or-else}
 use Rattle.reader.specs.Row.{Numbered, on, sayings, is-end, through-stop}
 use Rattle.loader.specs.Placing.{Placement, Base, segment, linear, stated-by, base-behind, placed, Action, step-at, steps, stated}
 use Rattle.loader.specs.Load.{Tally, one-more, Verdict, accepted, refused, Decision, by, outside, or-later, decision}
 use Rattle.loader.specs.Helpers.{left}
 use Rattle.loader.specs.Claims.{said-record, record-on, sets, latest, in-force, states, all-states, counts, data-records, Passes, is-empty, goes-on, All-pass, Stops, the-end, no-record, first-outside}
-use Rattle.loader.proofs.Pages.{getD-or-else}
 use Rattle.loader.proofs.Rows.{from-record, decided}
 
 -- ---- one line more behind lines

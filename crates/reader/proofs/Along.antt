@@ -12,7 +12,7 @@ use lib.Seq.{drop-at}
 use borrow.Author.Tests.{eqb-true}
 use Rattle.record.specs.Common.{if_then_else_}
 use Rattle.record.specs.Line.{Said, judge}
-use Rattle.record.proofs.Tests.{both, both-ways}
+use Rattle.record.proofs.Tests.{if-true, both, both-ways}
 use Rattle.reader.specs.declared.State.{State}
 use Rattle.reader.specs.Lines.{LF, CR, at-LF, ends-line, first-line, rest, lines, later, Found, a-line, no-line, next-line}
 use Rattle.reader.specs.Row.{Numbered, on, sayings}
@@ -21,7 +21,7 @@ use Rattle.reader.specs.Answer.{answered, poured}
 use Rattle.reader.specs.Text.{is-full, ends-row, behind, at-end, next-number, Outcome, of-found, outcome}
 use Rattle.reader.specs.Along.{unread, Countable, Heard, Ran-out, Goes-along}
 use Rattle.reader.proofs.Cutting.{at-LF-is, later-is, cut}
-use Rattle.reader.proofs.Reading.{if-true, if-false, full-keeps, outcome-finished, outcome-found}
+use Rattle.reader.proofs.Reading.{full-keeps, outcome-finished, outcome-found}
 
 -- ---- what is said, from the line that is found on
 

@@ -12,7 +12,7 @@ use lib.ListN.{length, getD, drop, drop-of-length-le}
 use lib.Seq.{drop-cons}
 use borrow.Author.Tests.{lt-ltb, le-ltb}
 use Rattle.record.specs.Digits.{digit, all-digits}
-use Rattle.record.proofs.Tests.{split}
+use Rattle.record.proofs.Tests.{split, and-assoc}
 
 or-under : (a b : ℕ) → ltb (bitOr a b) 16 ≡ ltb a 16 && ltb b 16
 or-under a b =
@@ -23,10 +23,6 @@ or-under a b =
     (λ ha. split 16 b
     (λ hb. le-ltb (bitOr a b) 16 (omega arith) ∙ sym (simp (lt-ltb a 16 ha, le-ltb b 16 hb)))
     (λ hb. lt-ltb (bitOr a b) 16 (or-lt 4 a b ha hb) ∙ sym (simp (lt-ltb a 16 ha, lt-ltb b 16 hb))))
-
-and-assoc : (a b c : Bool) → (a && b) && c ≡ a && (b && c)
-and-assoc true b c = refl
-and-assoc false b c = refl
 
 pub and-true : (a : Bool) → a && true ≡ a
 and-true true = refl

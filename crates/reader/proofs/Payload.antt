@@ -5,7 +5,7 @@ use mathlib.Core.Path.{_≡_, refl, sym, _∙_, ap, ap₂}
 use mathlib.Core.List.{List, [], _∷_}
 use native.Mathlib.Omega.{arith}
 use native.Mathlib.Numerals.{add-one}
-use lib.ListN.{length, getD, take, drop, set, length-take, length-drop}
+use lib.ListN.{length, getD, take, drop, set, length-drop}
 use lib.Seq.{paste, paste-suc, getD-drop}
 use Rattle.record.specs.declared.Record.the-variants.{EndOfFile, ExtendedSegmentAddress, StartSegmentAddress, ExtendedLinearAddress, StartLinearAddress}
 use Rattle.record.specs.Digits.{number}
@@ -23,9 +23,6 @@ pub pour-more : (pool₀ : List ℕ) (at : ℕ) (buf : List ℕ) (i : ℕ) (pool
 pour-more pool₀ at buf i pool e h k =
     let inside : i < length (drop 4 buf) = omega (arith, length-drop 4 buf) in
     rw (add-one, e, ← getD-drop 4 buf i 0) (paste-suc pool₀ at (drop 4 buf) i 0 h inside)
-
-pub payload-length : (buf : List ℕ) (n : ℕ) → 4 + n ≤ length buf → length (take n (drop 4 buf)) ≡ n
-payload-length buf n h = simp (length-take, length-drop) (omega arith)
 
 -- the records of the types 01 to 05 are told as their type and payload are
 module _ (kind : ℕ) (buf : List ℕ) (size-known : 260 ≤ length buf) where

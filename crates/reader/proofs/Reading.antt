@@ -14,6 +14,7 @@ use Rattle.record.specs.Refusals.{number-of, pool-full}
 use Rattle.record.specs.Line.{Said, says, wrong, judge}
 use Rattle.record.specs.Meaning.{Meaning, data-at, end-of-file, extended-segment, start-segment, extended-linear, start-linear, meaning}
 use Rattle.record.specs.declared.Record.{Record}
+use Rattle.record.proofs.Tests.{if-true, if-false}
 use Rattle.reader.specs.declared.Answer.{Answer}
 use Rattle.reader.specs.declared.Answer.the-variants.{Read, Refused}
 use Rattle.reader.specs.declared.ReaderError.{ReaderError}
@@ -45,14 +46,6 @@ module _ (s : State) (answer : Answer) (position line : ℕ) where
   settle-refused e a n = rw a (record { answer = refl; state = rw (ne-eqb (number-of (refusal-of e)) 10 n) })
 
 -- ---- one call
-
-pub if-true {ℓ} : {X : Type ℓ} (b : Bool) (x y : X) → b ≡ true → (if b then x else y) ≡ x
-if-true true x y e = refl
-if-true false x y e = let z : _≡_ {A = ℕ} 0 1 = cc in absurd (omega arith)
-
-pub if-false {ℓ} : {X : Type ℓ} (b : Bool) (x y : X) → b ≡ false → (if b then x else y) ≡ y
-if-false true x y e = let z : _≡_ {A = ℕ} 0 1 = cc in absurd (omega arith)
-if-false false x y e = refl
 
 -- PoolFull leaves the pool as it was
 pub full-keeps : (said : Said) (pool : List ℕ) (at : ℕ) → is-full (answered said (length pool) at) ≡ true → poured said pool at ≡ pool

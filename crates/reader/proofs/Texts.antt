@@ -48,6 +48,12 @@ lines-few (c ∷ text) =
     both-ways (λ b. (suc (length (if b then lines text else later text)) ≤ length (c ∷ text)) × (length (if b then lines text else later text) ≤ length (c ∷ text))) (eqb c LF)
     (omega (arith, i .0), omega (arith, i .0)) (omega (arith, i .1), omega (arith, i .1))
 
+-- a stop that is reached leaves nothing behind it
+pub cut-behind : (options : ReaderOptions) (b : Bool) (left : List Numbered) → (if b then [] else through-stop options left) ≡ through-stop options (if b then [] else left)
+unfolding through-stop
+cut-behind options true left = refl
+cut-behind options false left = refl
+
 -- what a call is given that comes to this step and pool
 abbrev got : Step → List ℕ → Given
 got r pool′ = record { told = told-reply (r .reply); pool = pool′; line = r .state .line }

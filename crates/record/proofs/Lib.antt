@@ -1,5 +1,6 @@
 pub mod Tests
 pub mod Choices
+pub mod Parts
 pub mod Spelling
 pub mod Judging
 pub mod Standing

@@ -11,6 +11,14 @@ pub branch {ℓ} : {X : Type ℓ} (P : X → Type 0) (b : Bool) (x y : X) → (b
 branch P true x y t f = t refl
 branch P false x y t f = f refl
 
+pub if-true {ℓ} : {X : Type ℓ} (b : Bool) (x y : X) → b ≡ true → (if b then x else y) ≡ x
+if-true true x y e = refl
+if-true false x y e = let z : _≡_ {A = ℕ} 0 1 = cc in absurd (omega arith)
+
+pub if-false {ℓ} : {X : Type ℓ} (b : Bool) (x y : X) → b ≡ false → (if b then x else y) ≡ y
+if-false true x y e = let z : _≡_ {A = ℕ} 0 1 = cc in absurd (omega arith)
+if-false false x y e = refl
+
 -- one order or the other
 pub split {ℓ} : {X : Type ℓ} (a b : ℕ) → (a ≤ b → X) → (b < a → X) → X
 split a b f g = elim (decLe a b) [ yes h ↦ f h | no h ↦ g (omega arith) ]
@@ -18,6 +26,10 @@ split a b f g = elim (decLe a b) [ yes h ↦ f h | no h ↦ g (omega arith) ]
 pub both : (x y : Bool) → x && y ≡ true → (x ≡ true) × (y ≡ true)
 both true y e = (refl, e)
 both false y e = let z : _≡_ {A = ℕ} 0 1 = cc in absurd (omega arith)
+
+pub and-assoc : (a b c : Bool) → (a && b) && c ≡ a && (b && c)
+and-assoc true b c = refl
+and-assoc false b c = refl
 
 pub and-false : (x : Bool) → x && false ≡ false
 and-false true = refl

@@ -20,7 +20,7 @@ use Rattle.record.proofs.Spelling.{spells-small}
 use Rattle.writer.specs.Line.{line-refusal, line, ended-line}
 use Rattle.writer.specs.Object.{joined-lines, object}
 use Rattle.writer.specs.Claims.{In-range, Line-in-format, Canonical, Line-injective, Line-plain, Object-injective, Examples}
-use Rattle.writer.proofs.Measuring.{part-length}
+use Rattle.record.proofs.Parts.{part-length}
 use Rattle.writer.proofs.Records.{fine-data}
 use Rattle.writer.proofs.Objects.{unless-chars, object-whole}
 

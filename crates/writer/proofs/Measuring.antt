@@ -4,22 +4,18 @@ use Prim.Native.Nat.{ℕ, _+_, _*_, _<_, _≤_}
 use mathlib.Core.Path.{_≡_, ap}
 use mathlib.Core.List.{List}
 use native.Mathlib.Omega.{arith}
-use lib.ListN.{length, take, drop, length-drop}
-use lib.Seq.{length-take-le}
+use lib.ListN.{length}
 use borrow.Author.Tests.{le-leb, lt-leb}
 use Rattle.record.specs.Refusals.{payload-outside-pool, data-exceeds-maximum-length}
 use Rattle.record.specs.declared.Record.the-variants.{Data, EndOfFile, ExtendedSegmentAddress, StartSegmentAddress, ExtendedLinearAddress, StartLinearAddress}
 use Rattle.record.specs.Record.{meant}
 use Rattle.record.specs.Written.{kind-of, address-of, payload-of}
+use Rattle.record.proofs.Parts.{part-length}
 use Rattle.record.proofs.Writing.{written-length}
 use Rattle.writer.specs.Told.{wrote, refuses}
 use Rattle.writer.specs.Text.{place-behind}
 use Rattle.writer.specs.Line.{line-text}
 use Rattle.writer.specs.Claims.{Line-length}
-
--- a part of the pool has its length
-pub part-length : (pool : List ℕ) (at len : ℕ) → at + len ≤ length pool → length (take len (drop at pool)) ≡ len
-part-length pool at len h = length-take-le len (drop at pool) (let d = length-drop at pool in omega arith)
 
 pub line-length : Line-length
 line-length r pool = written-length (kind-of (meant r pool)) (address-of (meant r pool)) (payload-of (meant r pool))

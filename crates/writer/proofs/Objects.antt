@@ -13,7 +13,7 @@ use Rattle.record.specs.Common.{if_then_else_, or-else, Every}
 use Rattle.record.specs.Refusals.{Refusal, missing-end-of-file-record, multiple-end-of-file-records}
 use Rattle.record.specs.declared.Record.{Record}
 use Rattle.record.proofs.Tests.{branch}
-use Rattle.record.proofs.Choices.{or-else-none, or-else-assoc}
+use Rattle.record.proofs.Choices.{or-else-none, or-else-assoc, or-else-both}
 use Rattle.writer.specs.Text.{chars, refused, unless}
 use Rattle.writer.specs.Line.{line-refusal, ended-line}
 use Rattle.writer.specs.Object.{is-end, ends, ends-in-end, first-refusal, joined-lines, object}
@@ -44,11 +44,6 @@ pub lines-snoc : (rs : List Record) (r : Record) (pool : List ℕ) → joined-li
 unfolding joined-lines
 lines-snoc [] r pool = append-nil (ended-line r pool)
 lines-snoc (q ∷ rs) r pool = ap (λ (l : List ℕ). ended-line q pool ++ l) (lines-snoc rs r pool) ∙ sym (append-assoc (ended-line q pool) (joined-lines rs pool) (ended-line r pool))
-
--- none of two refusals is none of each
-pub or-else-both : (f g : Option Refusal) → or-else f g ≡ none → (f ≡ none) × (g ≡ none)
-or-else-both none g e = (refl, e)
-or-else-both (some r) g e = let z : _≡_ {A = ℕ} 0 1 = cc in absurd (omega arith)
 
 every-fine : (rs : List Record) (n : ℕ) → first-refusal rs n ≡ none → Every (λ r. line-refusal r n ≡ none) rs
 unfolding first-refusal

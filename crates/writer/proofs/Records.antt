@@ -15,6 +15,7 @@ use Rattle.record.specs.declared.Record.{Record}
 use Rattle.record.specs.declared.Record.the-variants.{Data}
 use Rattle.record.specs.Record.{meant}
 use Rattle.record.specs.Written.{written, payload-of, two-bytes}
+use Rattle.record.proofs.Parts.{part-is}
 use Rattle.writer.specs.Line.{line-refusal, line}
 use Rattle.writer.specs.Helpers.{Fitting, Ready}
 use Rattle.writer.proofs.Measuring.{line-length}
@@ -38,13 +39,9 @@ fitting r pool out at payload ready same small =
     let room : at + length (line r pool) ≤ length out = ready .room in
     record { most = small; room = omega arith }
 
--- the part from a place to the one behind it, as the code takes it
-pub part : (pool : List ℕ) (at len : ℕ) → take (at + len - at) (drop at pool) ≡ take len (drop at pool)
-part pool at len = let n : at + len - at ≡ len = omega arith in rw n
-
 pub put-part : (out : List ℕ) (at offset : ℕ) (pool : List ℕ) (from len : ℕ) {out′ : List ℕ}
     → out′ ≡ pasted out at (written 0 offset (take (from + len - from) (drop from pool))) → out′ ≡ pasted out at (written 0 offset (take len (drop from pool)))
-put-part out at offset pool from len e = rw (part pool from len) at e
+put-part out at offset pool from len e = rw (part-is pool from len) at e
 
 module _ (kind : ℕ) (out : List ℕ) (at : ℕ) {out′ : List ℕ} where
   pub put-two : (a x y : ℕ) → x ≡ a / 256 → y ≡ a % 256 → out′ ≡ pasted out at (written kind 0 (x ∷ y ∷ [])) → out′ ≡ pasted out at (written kind 0 (two-bytes a))

@@ -21,8 +21,9 @@ use Rattle.writer.specs.Line.{line-refusal, ended-line, WriteNext}
 use Rattle.writer.specs.Object.{first-refusal, joined-lines, object, WriteObject}
 use Rattle.writer.specs.Survey.{begun}
 use Rattle.writer.specs.Claims.{Steps, no-step, then-step, Object-written}
+use Rattle.record.proofs.Choices.{or-else-both}
 use Rattle.record.proofs.Pasting.{pasted-none, pasted-length, pasted-on}
-use Rattle.writer.proofs.Objects.{first-refusal-snoc, lines-snoc, or-else-both, parts}
+use Rattle.writer.proofs.Objects.{first-refusal-snoc, lines-snoc, parts}
 use Rattle.writer.proofs.Surveying.{answered}
 
 -- ---- a refusal stays, and nothing is written

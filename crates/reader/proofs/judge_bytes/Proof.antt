@@ -7,11 +7,11 @@ use native.Mathlib.Omega.{arith}
 use denote.Ref.{now}
 use lib.ListN.{length, getD, take, drop}
 use Rattle.record.specs.Line.{Said, size, judge-bytes, judge-fields}
+use Rattle.record.proofs.Parts.{part-length}
 use Rattle.record.proofs.Judging.{fields-mislaid, fields-unknown, fields-misfit, fields-fit}
 use Rattle.reader.specs.declared.ReaderError.the-variants.{ChecksumMismatch, PayloadLengthMismatch, UnsupportedRecordType, InvalidLengthForType}
 use Rattle.reader.specs.Answer.{word}
 use Rattle.reader.specs.Helpers.{Special}
-use Rattle.reader.proofs.Payload.{payload-length}
 use Rattle.reader.proofs.Answers.{refused, gave}
 use Rattle.reader.proofs.Judge.{differs, agrees, plain, size-fits, size-misfits}
 use borrow.Author.Needs.{needs}
@@ -28,7 +28,7 @@ abbrev whole : tie.Start → Said
 whole s = judge-bytes (take (s .args .m) (bytes-of s))
 
 size-of-payload : (s : tie.Start) → length (payload-of s) ≡ s .args .m - 5
-size-of-payload s = payload-length (bytes-of s) (s .args .m - 5) (omega (arith, s .pre .room, s .pre .most, s .pre .least))
+size-of-payload s = part-length (bytes-of s) 4 (s .args .m - 5) (omega (arith, s .pre .room, s .pre .most, s .pre .least))
 
 -- where the sum is 0 the checksum agrees, and the fields decide
 agreed : (c : tie.Else1)

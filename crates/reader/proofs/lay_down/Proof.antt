@@ -4,8 +4,8 @@ use mathlib.Core.Path.{refl}
 use native.Mathlib.Omega.{arith}
 use denote.Ref.{now}
 use lib.ListN.{take, drop}
+use Rattle.record.proofs.Parts.{part-length}
 use Rattle.reader.specs.Answer.{word}
-use Rattle.reader.proofs.Payload.{payload-length}
 use Rattle.reader.proofs.Answers.{full, placed}
 use borrow.Author.Needs.{needs}
 use Rattle.reader.proofs.lay_down.Statement.{statement}
@@ -14,7 +14,7 @@ use Rattle.reader.proofs.lay_down.Tie as tie
 returns : tie.Need-returns
 returns c =
     let s = c .before .before .before in
-    let n = payload-length (now (s .args .buf)) (s .args .n) (omega arith) in
+    let n = part-length (now (s .args .buf)) 4 (s .args .n) (omega arith) in
     full (word (now (s .args .buf)) 1) (take (s .args .n) (drop 4 (now (s .args .buf)))) (now (s .args .pool)) (s .args .at) (omega arith)
 
 sub-if2 : tie.Need-sub-if2
@@ -23,7 +23,7 @@ sub-if2 c = search needs
 returns-2 : tie.Need-returns-2
 returns-2 c =
     let s = c .before .before .before .before in
-    let n = payload-length (now (s .args .buf)) (s .args .n) (omega arith) in
+    let n = part-length (now (s .args .buf)) 4 (s .args .n) (omega arith) in
     full (word (now (s .args .buf)) 1) (take (s .args .n) (drop 4 (now (s .args .buf)))) (now (s .args .pool)) (s .args .at) (omega arith)
 
 pour-requires : tie.Need-pour-requires
@@ -45,7 +45,7 @@ returns-3 : tie.Need-returns-3
 returns-3 c =
     let s = c .before .before .before .before .before .before .before .before .before .before .before in
     let p = c .before .before .before .before .before .pour in
-    let n = payload-length (now (s .args .buf)) (s .args .n) (omega arith) in
+    let n = part-length (now (s .args .buf)) 4 (s .args .n) (omega arith) in
     placed (word (now (s .args .buf)) 1) (take (s .args .n) (drop 4 (now (s .args .buf)))) (now (s .args .pool)) (s .args .at)
     (c .word16 .result) (s .args .n) (p .last .1 .1 .0) (drop 4 (now (s .args .buf))) (omega arith)
     (c .word16 .ensures) n refl (p .ensures)

@@ -6,8 +6,8 @@ use mathlib.Core.Path.{ap}
 use mathlib.Core.List.{[], _∷_}
 use denote.Ref.{now}
 use lib.ListN.{length, take, drop}
-use Rattle.writer.proofs.Measuring.{part-length}
-use Rattle.writer.proofs.Records.{fine-data, fitting, part, put-part, put-two, put-four}
+use Rattle.record.proofs.Parts.{part-is, part-length}
+use Rattle.writer.proofs.Records.{fine-data, fitting, put-part, put-two, put-four}
 use borrow.Author.Needs.{needs}
 use Rattle.writer.proofs.put_record.Statement.{statement}
 use Rattle.writer.proofs.put_record.Tie as tie
@@ -40,7 +40,7 @@ put-line-requires c κs =
     let f = c .before .before .before .«record» .given .0 in
     let i = inside (c .before .before) in
     let n = part-length (now (a .pool)) (f .1 .0) (f .1 .1 .0) (i .0) in
-    let m = ap length (part (now (a .pool)) (f .1 .0) (f .1 .1 .0)) in
+    let m = ap length (part-is (now (a .pool)) (f .1 .0) (f .1 .1 .0)) in
     fitting (a .«record») (now (a .pool)) (now (a .out)) (a .at) (take (f .1 .0 + f .1 .1 .0 - f .1 .0) (drop (f .1 .0) (now (a .pool)))) (c .before .before .before .before .before .before .before .pre)
     (rw (c .before .before .before .«record» .given .1) m) (omega arith)
 
