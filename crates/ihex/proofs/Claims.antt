@@ -1,4 +1,4 @@
--- No second answer meets the contract of an entry point.
+-- No second answer meets the contract of an entry point: it says by an equation what each number and each buffer is. The examples compute.
 -- Assumes nothing.
 use Prim.Native.Nat.{ℕ}
 use mathlib.Core.Path.{_≡_, refl, sym, _∙_}

@@ -1,4 +1,4 @@
--- An answer in numbers, from what is told and how it is coded.
+-- An answer in numbers, from what is told and how it is coded: an equal message has the same numbers.
 -- Assumes nothing.
 use mathlib.Core.Path.{_≡_, subst, ap}
 use Rattle.reader.specs.Told.{Told}

@@ -1,4 +1,5 @@
--- A list of records in bytes, entry by entry: what is read behind each, and where it ends.
+-- A list of records in bytes, entry by entry: each entry of 24 bytes adds its record to those before it, and one that is no record leaves
+-- no list, whatever stands behind it.
 -- Assumes nothing.
 use Prim.Native.Nat.{ℕ, zero, suc, _+_, _*_, _-_, _/_, _%_, _≤_, _<_}
 use mathlib.Core.Path.{_≡_, refl, sym, _∙_, ap, subst}

@@ -1,4 +1,4 @@
--- A text that was written, or that there is none, in numbers.
+-- A text that was written, or that there is none, in numbers: with nothing given the answer is 1024, and else what the writer tells is coded.
 -- Assumes nothing.
 use Prim.Native.Nat.{ℕ}
 use mathlib.Core.Path.{_≡_, refl, ap}

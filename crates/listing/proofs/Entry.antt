@@ -1,4 +1,5 @@
--- What is printed of an answer: its parts, and how long it is beside its line.
+-- What is printed of an answer: its parts, and how long it is beside its line. A record's line spells each byte that is printed of it, and
+-- a refusal that has numbers has a line of five bytes or more.
 -- Assumes nothing.
 use Prim.Native.Nat.{ℕ, _+_, _*_, _≤_, _<_}
 use mathlib.Core.Path.{_≡_, refl, sym, _∙_, ap}

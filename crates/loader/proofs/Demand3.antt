@@ -1,4 +1,5 @@
--- Demand 3.
+-- Demand 3. Its first half: two texts that are the same through the line that decides have the same lines up to it, and of page and marks
+-- a load sees the lengths alone. Its second half: a place holds what `last-at` finds for its address, the last placement there or none.
 -- Assumes nothing.
 use mathlib.Core.Path.{_≡_, refl, sym, ap, _∙_}
 use mathlib.Core.Logic.{inl, inr}

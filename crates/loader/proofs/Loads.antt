@@ -1,4 +1,5 @@
--- The passes from beginning to end, and the load that they make up.
+-- The passes from beginning to end: each turn hands on that what is left comes to the same as the whole, and at the end nothing is left.
+-- So the first pass tells the load's verdict and the second leaves its page and marks.
 -- Assumes nothing.
 use mathlib.Core.Path.{_≡_, refl, sym, ap, _∙_, subst}
 use Prim.Native.Nat.{ℕ, _^_, _<_}

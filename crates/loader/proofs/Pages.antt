@@ -1,4 +1,5 @@
--- What a painted page and its marks hold at each place, and that `last-at` finds the last placement at an address.
+-- What a painted page and its marks hold at each place, by induction over the places; and that `last-at` finds the last placement at an
+-- address, by induction over the placements: a later one counts, and else the first if it is there.
 -- Assumes nothing.
 use mathlib.Core.Path.{_≡_, refl, sym, ap, ap₂, _∙_}
 use mathlib.Core.Logic.{_≢_, _⊎_, inl, inr}

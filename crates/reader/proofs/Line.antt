@@ -1,4 +1,5 @@
--- The judge, on a line: what each test of the code says of it.
+-- The judge, on a line: each test of the code decides one of the definition, which goes on from there. The definition asks for digits ahead
+-- of their number, the code behind it, so an answer on their number holds unless a character is no digit.
 -- Assumes nothing.
 use Prim.Native.Nat.{ℕ, _+_, _*_, _-_, _%_, _<_, _≤_}
 use mathlib.Core.Path.{_≡_, refl, sym, _∙_, ap}

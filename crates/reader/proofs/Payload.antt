@@ -1,4 +1,5 @@
--- The payload: the bytes of the buffer from its fifth on, poured into the pool or read as numbers.
+-- The payload: the bytes of the buffer from its fifth on. Each turn of `pour` sets one more of them in the pool; two or four of them, taken
+-- out of the buffer one by one, are the number that their type means.
 -- Assumes nothing.
 use Prim.Native.Nat.{ℕ, suc, _+_, _*_, _-_, _<_, _≤_}
 use mathlib.Core.Path.{_≡_, refl, sym, _∙_, ap, ap₂}

@@ -1,4 +1,5 @@
--- How a call moves along a text: what each answer makes of the state, and what is left to be said then.
+-- How a call moves along a text: what each answer makes of the state, and what the call gives then. The outcome is defined by the tests
+-- that the code makes, so each of them, once decided, leaves the case that the code is in.
 -- Assumes nothing.
 use Prim.Native.Nat.{ℕ, zero, suc, _+_, _-_, _%_, _^_, _≤_, _<_}
 use mathlib.Core.Path.{_≡_, refl, sym, _∙_, ap, ap₂, subst}

@@ -1,4 +1,5 @@
--- The claims on texts: calls are given what the lines say, by one induction over the calls; what stands behind a stop is never read.
+-- The claims on texts: a call answers the first that is left and leaves the rest, so calls are given what the lines say, by one induction
+-- over the calls; lines are joined and numbered by induction over the text, cut at its first line.
 -- Assumes nothing.
 use Prim.Native.Nat.{ℕ, zero, suc, _+_, _-_, _^_, _≤_, _<_}
 use mathlib.Core.Path.{_≡_, refl, sym, _∙_, ap, ap₂, subst}

@@ -1,4 +1,4 @@
--- What the helpers of the record reader ask of and promise each other.
+-- What the helpers of the readers ask of and promise each other.
 -- Assumes nothing.
 use Prim.Native.Nat.{ℕ, _+_, _*_, _%_, _<_, _≤_}
 use mathlib.Core.Path.{_≡_}

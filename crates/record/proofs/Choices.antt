@@ -1,4 +1,4 @@
--- Laws of `or-else`.
+-- Laws of `or-else`: it computes once its first option is known, so each has two cases.
 -- Assumes nothing.
 use Prim.Native.Nat.{ℕ}
 use mathlib.Core.Path.{_≡_, refl}

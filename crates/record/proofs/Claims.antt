@@ -1,4 +1,4 @@
--- The claims of `specs/Claims.antt`, proved.
+-- The claims of `specs/Claims.antt`, proved: a line stands as it is judged (`stands`), and is judged as it stands (`admitted`, `refused`).
 -- Assumes nothing.
 use Prim.Native.Nat.{ℕ}
 use mathlib.Core.Path.{_≡_, sym, _∙_, subst}

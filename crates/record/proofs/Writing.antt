@@ -1,4 +1,5 @@
--- What is written is in the format, means the record again, and holds nothing but a colon and capital digits.
+-- What is written is in the format, since two capital digits spell each byte and the last byte is the negated sum of the others; so it is
+-- admitted, and means the record again, since a number's bytes make the number. It holds nothing but a colon and capital digits.
 -- Assumes nothing.
 use Prim.Native.Nat.{ℕ, _+_, _*_, _/_, _%_, _<_, _≤_}
 use mathlib.Core.Path.{_≡_, refl, sym, _∙_, ap, ap₂, subst}

@@ -1,4 +1,5 @@
--- The length of each record's line, and why a data record has none.
+-- The length of each record's line, eleven characters and two for each byte of its payload, which a data record states and any other
+-- type fixes; and why a data record has none, by the definition's own tests.
 -- Assumes nothing.
 use Prim.Native.Nat.{ℕ, _+_, _*_, _<_, _≤_}
 use mathlib.Core.Path.{_≡_, ap}

@@ -1,4 +1,5 @@
--- Each record's type, address and payload, as the code hands them on.
+-- Each record's type, address and payload, as the code hands them on: a data record's part of the pool is its payload, and a number's
+-- bytes are its quotient and remainder by 256.
 -- Assumes nothing.
 use Prim.Native.Nat.{ℕ, _+_, _-_, _/_, _%_, _≤_}
 use mathlib.Core.Path.{_≡_, refl, _∙_, ap₂}

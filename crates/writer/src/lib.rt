@@ -1,4 +1,4 @@
-// Intel HEX written: one record to a line, and the survey and the writing step of an object.
+// Intel HEX written: one record to a line, a list to an object's text, and the survey and the step that it is made of.
 use record::Record;
 use record::types;
 ghost use mathlib.Core.Path.{_≡_};
@@ -29,6 +29,7 @@ pub enum WriterError {
     OutputFull,
 }
 
+// What a writer answers.
 pub enum Written {
     // The place behind what was written.
     Wrote(usize),

@@ -1,4 +1,4 @@
--- `loader::begin` meets its contract.
+-- `loader::begin` meets its contract: the state is what `State::new` promises, and the base is written down.
 -- Assumes nothing.
 use borrow.Author.Needs.{needs}
 use Rattle.loader.proofs.begin.Statement.{statement}

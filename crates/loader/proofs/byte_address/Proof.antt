@@ -1,4 +1,4 @@
--- `loader::byte_address` meets its contract.
+-- `loader::byte_address` meets its contract: base, offset and index are added in 64 bits, which hold their sum, and then taken modulo 2^32.
 -- Assumes nothing.
 use Rattle.loader.specs.Placing.{byte-address}
 use borrow.Author.Needs.{needs}
