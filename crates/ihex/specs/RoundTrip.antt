@@ -2,7 +2,6 @@
 -- Assumes nothing.
 use Prim.Native.Nat.{ℕ, suc, _+_, _^_, _≤_, _<_}
 use mathlib.Core.Path.{_≡_}
-use mathlib.Core.Bool.{false}
 use mathlib.Core.List.{List, [], _∷_}
 use lib.ListN.{length, take}
 use Rattle.record.specs.Common.{Every, Byte}
@@ -14,7 +13,7 @@ use Rattle.record.specs.Written.{kind-of, address-of, payload-of}
 use Rattle.reader.specs.declared.Answer.the-variants.{Read}
 use Rattle.reader.specs.Told.{done, told}
 use Rattle.reader.specs.Row.{Numbered, on, row}
-use Rattle.reader.specs.Text.{is-full, default-options, new-state}
+use Rattle.reader.specs.Text.{default-options, new-state}
 use Rattle.reader.specs.Calls.{Call, Given, Never-full, Calls}
 use Rattle.writer.specs.declared.Written.the-variants.{Wrote}
 use Rattle.writer.specs.Text.{chars}
