@@ -1,10 +1,8 @@
 -- The claims of `specs/Claims.antt`, proved: arithmetic modulo 256.
 -- Assumes nothing.
-use Prim.Native.Nat.{ℕ}
-use mathlib.Core.Path.{_≡_, refl, sym, _∙_}
-use mathlib.Core.List.{List}
+use mathlib.Core.Path.{refl, sym, _∙_}
 use native.Mathlib.Omega.{arith}
-use Rattle.checksum.specs.Checksum.{sum, negated-sum}
+use Rattle.checksum.specs.Checksum.{negated-sum}
 use Rattle.checksum.specs.Claims.{Sums-to-zero, Of-none, Checksum-unique}
 
 pub sums-to-zero : Sums-to-zero

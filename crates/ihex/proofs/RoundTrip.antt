@@ -1,14 +1,14 @@
 -- A written object is read again: its lines are cut where they were joined, each says its record, and only the last stops the reader. What a writer left in the output is that text, and a call with room for its record is not told PoolFull.
 -- Assumes nothing.
-use Prim.Native.Nat.{ℕ, suc, _+_, _*_, _^_, _≤_, _<_}
+use Prim.Native.Nat.{ℕ, suc, _+_, _^_, _≤_, _<_}
 use mathlib.Core.Path.{_≡_, refl, sym, _∙_, ap, ap₂, subst}
 use mathlib.Core.Logic.{_≢_, _⊎_, inl, inr}
 use mathlib.Core.Bool.{Bool, true, false, _&&_}
-use mathlib.Core.Option.{Option, none, some}
-use mathlib.Core.List.{List, [], _∷_, _++_, map, append-assoc, append-nil, nil≢cons, List·Memᴰ, List·Memᴰ·cases-cons, List·Memᴰ·not-nil, tail-eq-of-cons-eq, head-eq-of-cons-eq}
+use mathlib.Core.Option.{none}
+use mathlib.Core.List.{List, [], _∷_, _++_, map, append-assoc, nil≢cons, List·Memᴰ, List·Memᴰ·cases-cons, List·Memᴰ·not-nil, tail-eq-of-cons-eq, head-eq-of-cons-eq}
 use native.Mathlib.Omega.{arith}
-use lib.Dec.{leb, eqb}
-use lib.ListN.{length, take, drop, length-append, length-take}
+use lib.Dec.{leb}
+use lib.ListN.{length, take, drop, length-take}
 use lib.Seq.{take-at, drop-at, length-take-le}
 use borrow.Author.Tests.{le-leb, leb-true}
 use Rattle.record.specs.Common.{if_then_else_, Every, Byte, pasted}
@@ -16,25 +16,24 @@ use Rattle.record.specs.Refusals.{pool-full}
 use Rattle.record.specs.declared.Record.{Record}
 use Rattle.record.specs.declared.Record.the-variants.{Data, EndOfFile, ExtendedSegmentAddress, StartSegmentAddress, ExtendedLinearAddress, StartLinearAddress}
 use Rattle.record.specs.Record.{meant}
-use Rattle.record.specs.Line.{Said, says, judge}
+use Rattle.record.specs.Line.{Said, judge}
 use Rattle.record.specs.Meaning.{Meaning, data-at, end-of-file, extended-segment, start-segment, extended-linear, start-linear, meaning}
-use Rattle.record.specs.Written.{written, kind-of, address-of, payload-of, line-of, Sayable}
+use Rattle.record.specs.Written.{written, kind-of, address-of, payload-of, Sayable}
 use Rattle.record.proofs.Tests.{both-ways}
 use Rattle.record.proofs.Writing.{reads-back}
 use Rattle.reader.specs.declared.Answer.the-variants.{Read}
-use Rattle.reader.specs.Told.{Told, gives, refuses, done, told}
+use Rattle.reader.specs.Told.{gives, refuses, told}
 use Rattle.reader.specs.Answer.{room, given, kept, answered, poured}
-use Rattle.reader.specs.Lines.{LF, CR, Cut, Ended, with-LF, Joins, nothing, more, lines}
+use Rattle.reader.specs.Lines.{LF, CR, with-LF, nothing, more, lines}
 use Rattle.reader.specs.Row.{Numbered, on, sayings, is-end, stops, through-stop, row}
-use Rattle.reader.specs.Text.{is-full, ends-row, default-options, new-state}
-use Rattle.reader.specs.Calls.{Call, Given, Never-full, Calls, replies, one-by-one}
+use Rattle.reader.specs.Text.{is-full, ends-row, default-options}
+use Rattle.reader.specs.Calls.{Call, Given, Never-full, replies, one-by-one}
 use Rattle.reader.proofs.Gather.{and-true}
 use Rattle.reader.proofs.Cutting.{lines-closed, closed}
 use Rattle.reader.proofs.Texts.{lines-join, rows, in-order}
-use Rattle.writer.specs.Text.{chars}
-use Rattle.writer.specs.Line.{line-refusal, line, ended-line}
+use Rattle.writer.specs.Line.{line-refusal, line}
 use Rattle.writer.specs.Object as object
-use Rattle.writer.specs.Claims.{In-range, Whole}
+use Rattle.writer.specs.Claims.{In-range}
 use Rattle.writer.proofs.Answers.{stands-there}
 use Rattle.writer.proofs.Objects.{one-at-least, object-whole}
 use Rattle.writer.proofs.Claims.{sayable, line-plain}

@@ -11,7 +11,6 @@ use lib.Seq.{length-take-le, take-length, take-suc, paste, paste-suc}
 use Rattle.record.specs.Written.{spelt}
 use Rattle.record.proofs.Writing.{spelt-length, spelt-append}
 use Rattle.record.proofs.Pasting.{pasted-none, pasted-one, pasted-more}
-use Rattle.record.specs.Common.{pasted}
 use Rattle.listing.specs.Helpers.{Puts}
 
 module _ (out : List ℕ) (at : ℕ) where

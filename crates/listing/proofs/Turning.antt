@@ -1,6 +1,6 @@
 -- A turn of the listing: the call answers the first that is unread, its line is put behind the others, and the rest stays unread.
 -- Assumes nothing.
-use Prim.Native.Nat.{ℕ, suc, _+_, _^_, _≤_, _<_}
+use Prim.Native.Nat.{ℕ, _+_, _^_, _≤_, _<_}
 use mathlib.Core.Path.{_≡_, refl, sym, _∙_, ap, ap₂, subst}
 use mathlib.Core.Bool.{Bool, true, false, _&&_}
 use mathlib.Core.List.{List, [], _∷_, _++_, append-assoc, append-nil}
@@ -10,7 +10,7 @@ use lib.ListN.{length, drop, length-append}
 use lib.Seq.{take-append-seam}
 use borrow.Author.Tests.{ne-eqb, le-leb}
 use Rattle.record.specs.Common.{if_then_else_, pasted}
-use Rattle.record.specs.Refusals.{Refusal, number-of, pool-full}
+use Rattle.record.specs.Refusals.{Refusal, number-of}
 use Rattle.record.specs.Line.{Said, says, wrong, judge}
 use Rattle.record.specs.Meaning.{Meaning, data-at, end-of-file, extended-segment, start-segment, extended-linear, start-linear, meaning}
 use Rattle.record.specs.Written.{Sayable}
@@ -23,10 +23,9 @@ use Rattle.reader.specs.declared.Reply.{Reply}
 use Rattle.reader.specs.declared.Reply.the-variants.{Read, Refused, Done}
 use Rattle.reader.specs.declared.State.{State}
 use Rattle.reader.specs.declared.Step.{Step}
-use Rattle.reader.specs.Told.{gives, refuses, done, told, refusal-of}
+use Rattle.reader.specs.Told.{refuses, done, told, refusal-of}
 use Rattle.reader.specs.Answer.{given, kept, answered, poured}
-use Rattle.reader.specs.Lines.{lines}
-use Rattle.reader.specs.Row.{Numbered, on, sayings, is-end, stops, through-stop, row}
+use Rattle.reader.specs.Row.{Numbered, on, is-end, stops, through-stop, row}
 use Rattle.reader.specs.Text.{told-reply, is-full, ends-row, new-state, outcome, Meets}
 use Rattle.reader.proofs.Claims.{told-apart}
 use Rattle.reader.specs.Along.{unread, Countable}

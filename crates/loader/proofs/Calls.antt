@@ -2,7 +2,7 @@
 -- said, and that the record which comes back means it.
 -- Assumes nothing.
 use mathlib.Core.Path.{_≡_, refl, sym, ap, _∙_, subst}
-use Prim.Native.Nat.{ℕ, suc, _+_, _-_, _≤_}
+use Prim.Native.Nat.{ℕ, _+_, _-_, _≤_}
 use native.Mathlib.Omega.{arith}
 use mathlib.Core.Bool.{Bool, true, false, _&&_}
 use mathlib.Core.List.{List, [], _∷_}
@@ -25,8 +25,8 @@ use Rattle.reader.specs.declared.State.{State}
 use Rattle.reader.specs.declared.Step.{Step as Reading}
 use Rattle.reader.specs.Told.{Told, gives, refuses, done, refusal-of, told}
 use Rattle.reader.specs.Answer.{given, kept, answered, poured}
-use Rattle.reader.specs.Lines.{lines, Found, a-line, no-line, next-line}
-use Rattle.reader.specs.Row.{Numbered, on, sayings, is-end, stops}
+use Rattle.reader.specs.Lines.{Found, a-line, no-line, next-line}
+use Rattle.reader.specs.Row.{Numbered, on, is-end, stops}
 use Rattle.reader.specs.Text.{told-reply, is-full, ends-row, default-options, behind, next-number, Outcome, of-found, outcome, Next}
 use Rattle.reader.proofs.Claims.{told-apart}
 use Rattle.reader.proofs.Room.{never-full, ends-stops}

@@ -1,7 +1,7 @@
 -- A call moves along what the text's lines say: it answers the first of it that is left, and leaves the rest.
 -- Assumes nothing.
-use Prim.Native.Nat.{ℕ, zero, suc, _+_, _-_, _%_, _^_, _≤_, _<_}
-use mathlib.Core.Path.{_≡_, refl, sym, _∙_, ap, ap₂, subst}
+use Prim.Native.Nat.{ℕ, suc, _+_, _-_, _^_, _<_}
+use mathlib.Core.Path.{_≡_, refl, sym, _∙_, ap, ap₂}
 use mathlib.Core.Bool.{Bool, true, false, _&&_, _||_}
 use mathlib.Core.List.{List, [], _∷_, _++_, append-assoc}
 use native.Mathlib.Omega.{arith}
@@ -9,16 +9,15 @@ use native.Mathlib.Nat.{add-suc, add-zero, mod-eq-of-lt}
 use lib.Dec.{eqb}
 use lib.ListN.{length, take, drop, length-append, take-append-drop}
 use lib.Seq.{drop-at}
-use borrow.Author.Tests.{eqb-true}
 use Rattle.record.specs.Common.{if_then_else_}
 use Rattle.record.specs.Line.{Said, judge}
-use Rattle.record.proofs.Tests.{if-true, both, both-ways}
+use Rattle.record.proofs.Tests.{if-true, both}
 use Rattle.reader.specs.declared.State.{State}
-use Rattle.reader.specs.Lines.{LF, CR, at-LF, ends-line, first-line, rest, lines, later, Found, a-line, no-line, next-line}
+use Rattle.reader.specs.Lines.{LF, CR, at-LF, first-line, rest, lines, later, Found, a-line, no-line, next-line}
 use Rattle.reader.specs.Row.{Numbered, on, sayings}
-use Rattle.reader.specs.Told.{Told, done}
+use Rattle.reader.specs.Told.{Told}
 use Rattle.reader.specs.Answer.{answered, poured}
-use Rattle.reader.specs.Text.{is-full, ends-row, behind, at-end, next-number, Outcome, of-found, outcome}
+use Rattle.reader.specs.Text.{is-full, ends-row, behind, next-number, Outcome, of-found, outcome}
 use Rattle.reader.specs.Along.{unread, Countable, Heard, Ran-out, Goes-along}
 use Rattle.reader.proofs.Cutting.{at-LF-is, later-is, cut}
 use Rattle.reader.proofs.Reading.{full-keeps, outcome-finished, outcome-found}

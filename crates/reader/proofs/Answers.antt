@@ -1,16 +1,14 @@
 -- Each answer, from what was said: what the code's `return` has to show.
 -- Assumes nothing.
 use Prim.Native.Nat.{ℕ, _+_, _<_, _≤_}
-use mathlib.Core.Path.{_≡_, refl, sym, _∙_, ap, ap₂}
+use mathlib.Core.Path.{_≡_, refl, sym, _∙_, ap₂}
 use mathlib.Core.Bool.{Bool, true, false}
 use mathlib.Core.List.{List, [], _∷_, _++_}
 use native.Mathlib.Omega.{arith}
-use lib.Dec.{leb}
 use lib.ListN.{length, take, drop}
 use lib.Seq.{paste}
 use borrow.Author.Tests.{le-leb, lt-leb}
 use Rattle.record.specs.Common.{if_then_else_}
-use Rattle.record.specs.Refusals.{Refusal}
 use Rattle.record.specs.Line.{Said, says, wrong}
 use Rattle.record.specs.Meaning.{meaning}
 use Rattle.record.specs.declared.Record.{Record}
@@ -20,8 +18,8 @@ use Rattle.reader.specs.declared.Answer.{Answer}
 use Rattle.reader.specs.declared.Answer.the-variants.{Read, Refused}
 use Rattle.reader.specs.declared.ReaderError.{ReaderError}
 use Rattle.reader.specs.declared.ReaderError.the-variants.{PoolFull}
-use Rattle.reader.specs.Told.{Told, gives, refuses, refusal-of, told}
-use Rattle.reader.specs.Answer.{Reads, given, kept, answered, poured}
+use Rattle.reader.specs.Told.{gives, refusal-of}
+use Rattle.reader.specs.Answer.{Reads, kept, answered, poured}
 use Rattle.reader.specs.Helpers.{Special}
 
 module _ (said : Said) (pool : List ℕ) (at : ℕ) where

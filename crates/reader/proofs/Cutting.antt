@@ -1,6 +1,6 @@
 -- The laws of `lines`: a text is its first line, that line's end and the rest; a closed part's lines stand by themselves.
 -- Assumes nothing.
-use mathlib.Core.Path.{_≡_, refl, sym, ap, ap₂, _∙_}
+use mathlib.Core.Path.{_≡_, refl, sym, ap, ap₂}
 use Prim.Native.Nat.{ℕ, zero, suc}
 use mathlib.Core.Option.{Option, none, some, Option·map}
 use lib.ListN.{length}

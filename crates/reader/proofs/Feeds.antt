@@ -11,7 +11,7 @@ use borrow.Author.Tests.{eq-eqb, ne-eqb}
 use Rattle.record.specs.Common.{if_then_else_}
 use Rattle.record.proofs.Tests.{both-ways}
 use lib.Seq.{split-at, drop-cons, take-all, length-take-le, getD-take, getD-append-seam}
-use Rattle.reader.specs.Lines.{LF, CR, first-line, rest, Ended, with-CRLF, with-LF, with-text, Cut}
+use Rattle.reader.specs.Lines.{LF, CR, rest, with-CRLF, with-LF, with-text, Cut}
 use Rattle.reader.specs.Helpers.{FirstFeed, LineEnd}
 use Rattle.reader.proofs.Cutting.{cut-unique}
 

@@ -1,19 +1,18 @@
 -- The judge, on the bytes as they lie in the buffer: they are laid out as a record's, so the laws of the format's layout apply.
 -- Assumes nothing.
-use Prim.Native.Nat.{ℕ, suc, _+_, _*_, _-_, _%_, _<_, _≤_}
-use mathlib.Core.Path.{_≡_, refl, sym, _∙_, ap}
+use Prim.Native.Nat.{ℕ, suc, _+_, _-_, _%_, _<_, _≤_}
+use mathlib.Core.Path.{_≡_, sym, _∙_, ap}
 use mathlib.Core.Logic.{_≢_}
-use mathlib.Core.Bool.{Bool, true, false}
+use mathlib.Core.Bool.{true, false}
 use mathlib.Core.List.{List, [], _∷_, _++_}
 use native.Mathlib.Omega.{arith}
-use lib.Dec.{eqb}
 use lib.ListN.{length, getD, take, drop, length-drop}
 use lib.Seq.{take-suc, take-add, getD-drop}
 use borrow.Author.Tests.{eq-eqb, ne-eqb}
 use Rattle.checksum.specs.Checksum.{sum, negated-sum}
 use Rattle.checksum.proofs.Laws.{sum-snoc}
 use Rattle.record.specs.Refusals.{checksum-mismatch}
-use Rattle.record.specs.Line.{Said, says, wrong, size, fits, judge-fields, judge-bytes}
+use Rattle.record.specs.Line.{says, wrong, size, fits, judge-fields, judge-bytes}
 use Rattle.record.specs.Format.{layout}
 use Rattle.record.proofs.Judging.{judge-layout}
 use Rattle.reader.specs.Answer.{word}

@@ -1,8 +1,8 @@
 -- The payload: the bytes of the buffer from its fifth on. Each turn of `pour` sets one more of them in the pool; two or four of them, taken
 -- out of the buffer one by one, are the number that their type means.
 -- Assumes nothing.
-use Prim.Native.Nat.{ℕ, suc, _+_, _*_, _-_, _<_, _≤_}
-use mathlib.Core.Path.{_≡_, refl, sym, _∙_, ap, ap₂}
+use Prim.Native.Nat.{ℕ, _+_, _*_, _-_, _<_, _≤_}
+use mathlib.Core.Path.{_≡_, _∙_, ap, ap₂}
 use mathlib.Core.List.{List, [], _∷_}
 use native.Mathlib.Omega.{arith}
 use native.Mathlib.Numerals.{add-one}
@@ -12,8 +12,8 @@ use Rattle.record.specs.declared.Record.the-variants.{EndOfFile, ExtendedSegmen
 use Rattle.record.specs.Digits.{number}
 use Rattle.record.specs.Line.{size}
 use Rattle.record.specs.Meaning.{meaning}
-use Rattle.reader.specs.Told.{Told, gives}
-use Rattle.reader.specs.Answer.{word, given}
+use Rattle.reader.specs.Told.{gives}
+use Rattle.reader.specs.Answer.{given}
 use Rattle.reader.specs.Helpers.{Special}
 use Rattle.reader.proofs.Cells.{drop-two}
 

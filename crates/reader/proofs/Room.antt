@@ -1,12 +1,11 @@
 -- A pool with room for 255 bytes is never full: what a line says has no longer payload, and no line is refused with PoolFull's number.
 -- Assumes nothing.
 use Prim.Native.Nat.{ℕ, _+_, _≤_}
-use mathlib.Core.Path.{_≡_, refl, sym, _∙_, ap, subst}
+use mathlib.Core.Path.{_≡_, refl, subst}
 use mathlib.Core.Logic.{_≢_}
 use mathlib.Core.Bool.{Bool, true, false, _&&_}
 use mathlib.Core.List.{List, [], _∷_}
 use native.Mathlib.Omega.{arith}
-use lib.Dec.{leb, eqb}
 use lib.ListN.{length}
 use borrow.Author.Tests.{le-leb, ne-eqb}
 use Rattle.record.specs.Common.{if_then_else_}
@@ -18,7 +17,7 @@ use Rattle.record.specs.Written.{Sayable}
 use Rattle.record.proofs.Standing.{Stands, stands}
 use Rattle.record.proofs.Writing.{said-is-sayable}
 use Rattle.reader.specs.declared.ReaderOptions.{ReaderOptions}
-use Rattle.reader.specs.Told.{Told, gives, refuses}
+use Rattle.reader.specs.Told.{gives, refuses}
 use Rattle.reader.specs.Answer.{room, given, answered}
 use Rattle.reader.specs.Row.{is-end, stops}
 use Rattle.reader.specs.Text.{is-full, ends-row}

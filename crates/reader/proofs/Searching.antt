@@ -1,6 +1,6 @@
 -- The search for the next line that has a byte, line by line: an empty first line is passed, any other is the one.
 -- Assumes nothing.
-use Prim.Native.Nat.{ℕ, zero, suc, _+_, _-_, _≤_, _<_}
+use Prim.Native.Nat.{ℕ, suc, _+_, _-_, _≤_, _<_}
 use mathlib.Core.Path.{_≡_, refl, sym, _∙_, ap, subst}
 use mathlib.Core.Bool.{Bool, true, false, _&&_, _||_}
 use mathlib.Core.List.{List, [], _∷_, _++_}
@@ -12,11 +12,11 @@ use lib.ListN.{length, take, drop, length-append, length-drop}
 use lib.Seq.{drop-drop, take-length, take-at}
 use Rattle.record.specs.Common.{if_then_else_}
 use Rattle.record.proofs.Tests.{both}
-use Rattle.reader.specs.Lines.{LF, CR, at-LF, ends-line, first-line, rest, Found, a-line, no-line, next-line}
+use Rattle.reader.specs.Lines.{LF, CR, at-LF, first-line, rest, a-line, next-line}
 use Rattle.reader.specs.Text.{FirstLine}
 use Rattle.reader.specs.Helpers.{Ahead}
 use Rattle.reader.proofs.Cutting.{at-LF-is, cut}
-use Rattle.reader.proofs.Feeds.{rest-length, rest-shorter, rest-drop}
+use Rattle.reader.proofs.Feeds.{rest-shorter, rest-drop}
 
 -- ---- one line
 

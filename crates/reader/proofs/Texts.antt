@@ -1,40 +1,33 @@
 -- The claims on texts: a call answers the first that is left and leaves the rest, so calls are given what the lines say, by one induction
 -- over the calls; lines are joined and numbered by induction over the text, cut at its first line.
 -- Assumes nothing.
-use Prim.Native.Nat.{ℕ, zero, suc, _+_, _-_, _^_, _≤_, _<_}
-use mathlib.Core.Path.{_≡_, refl, sym, _∙_, ap, ap₂, subst}
+use Prim.Native.Nat.{ℕ, zero, suc, _+_, _-_, _≤_}
+use mathlib.Core.Path.{_≡_, refl, sym, _∙_, ap, subst}
 use mathlib.Core.Logic.{_≢_, _⊎_, inl, inr}
-use mathlib.Core.Bool.{Bool, true, false, _&&_, _||_}
-use mathlib.Core.Option.{Option, none, some}
-use mathlib.Core.List.{List, [], _∷_, _++_, append-assoc, nil≢cons, List·Memᴰ, List·Memᴰ·head, List·Memᴰ·tail, List·Memᴰ·cases-cons, List·Memᴰ·not-nil, tail-eq-of-cons-eq, head-eq-of-cons-eq}
+use mathlib.Core.Bool.{Bool, true, false}
+use mathlib.Core.List.{List, [], _∷_, _++_, nil≢cons, List·Memᴰ, List·Memᴰ·head, List·Memᴰ·tail, List·Memᴰ·cases-cons, List·Memᴰ·not-nil}
 use native.Mathlib.Omega.{arith}
 use native.Mathlib.Nat.{add-suc, suc-add, add-zero}
-use lib.Dec.{eqb, leb}
-use lib.ListN.{length, drop, drop-of-length-le, length-append}
-use borrow.Author.Tests.{eqb-true}
+use lib.Dec.{eqb}
+use lib.ListN.{length}
 use Rattle.record.specs.Common.{if_then_else_}
-use Rattle.record.specs.Refusals.{number-of, pool-full}
-use Rattle.record.specs.Line.{Said, says, wrong, judge}
-use Rattle.record.specs.Meaning.{Meaning, data-at, end-of-file, extended-segment, start-segment, extended-linear, start-linear, meaning}
+use Rattle.record.specs.Line.{Said, judge}
 use Rattle.record.proofs.Tests.{both-ways}
 use Rattle.reader.specs.declared.ReaderOptions.{ReaderOptions}
 use Rattle.reader.specs.declared.State.{State}
 use Rattle.reader.specs.declared.Step.{Step}
-use Rattle.reader.specs.declared.Reply.{Reply}
 use Rattle.reader.specs.declared.Reply.the-variants as reply
-use Rattle.reader.specs.declared.Answer.the-variants.{Read, Refused}
-use Rattle.reader.specs.Told.{Told, gives, refuses, done, told}
-use Rattle.reader.specs.Answer.{given, answered, poured}
-use Rattle.reader.specs.Lines.{LF, Cut, Joins, nothing, more, first-line, rest, lines, later, through, Found, a-line, no-line, next-line}
-use Rattle.reader.specs.Row.{Numbered, on, number, sayings, stops, through-stop, stopped, row}
-use Rattle.reader.specs.Text.{FirstLine, told-reply, is-full, ends-row, new-state, behind, at-end, next-number, Outcome, of-found, outcome, Meets, Next, Default, New, Number}
+use Rattle.reader.specs.Told.{done, told}
+use Rattle.reader.specs.Answer.{answered, poured}
+use Rattle.reader.specs.Lines.{LF, Cut, Joins, nothing, more, rest, lines, later}
+use Rattle.reader.specs.Row.{Numbered, on, sayings, stops, through-stop, row}
+use Rattle.reader.specs.Text.{told-reply, is-full, ends-row, new-state}
 use Rattle.reader.specs.Calls.{Call, Given, Never-full, Calls, no-more, one-more, given-for, replies, one-by-one}
-use Rattle.reader.specs.Claims.{Lines-join, First-line-unique, Rows, In-order, Bounded, Numbers-are-lines, Done-stays, Done-behind, Full-keeps, Pool-blind, Shared, Same-through, Nothing-behind, Next-unique, Default-unique, New-unique, Number-unique}
-use Rattle.reader.proofs.Claims.{untold, untold-told}
-use Rattle.reader.proofs.Cutting.{cut, cut-unique, lines-cons, lines-closed, Closed, Head, through-head}
+use Rattle.reader.specs.Claims.{Lines-join, First-line-unique, Rows, In-order, Bounded, Numbers-are-lines}
+use Rattle.reader.proofs.Cutting.{cut, cut-unique, lines-cons}
 use Rattle.reader.proofs.Feeds.{rest-shorter}
-use Rattle.reader.proofs.Reading.{full-keeps, outcome-finished, outcome-found}
-use Rattle.reader.specs.Along.{unread, Countable, Heard, Ran-out}
+use Rattle.reader.proofs.Reading.{full-keeps}
+use Rattle.reader.specs.Along.{unread, Countable}
 use Rattle.reader.proofs.Along.{heard, ended}
 use Rattle.reader.proofs.Room.{ends-stops}
 

@@ -1,6 +1,6 @@
 -- The reader that holds its text: what its calls answer and leave, in the by-value reader's terms, and the row of its answers.
 -- Assumes nothing.
-use Prim.Native.Nat.{ℕ, _+_, _^_, _≤_, _<_}
+use Prim.Native.Nat.{ℕ, _^_, _<_}
 use mathlib.Core.Path.{_≡_}
 use mathlib.Core.Logic.{_↔_}
 use mathlib.Core.List.{List, [], _∷_}
@@ -11,7 +11,7 @@ use Rattle.reader.specs.declared.Reply.{Reply}
 use Rattle.reader.specs.declared.Reader.{Reader}
 use Rattle.reader.specs.Lines.{lines}
 use Rattle.reader.specs.Row.{sayings, row}
-use Rattle.reader.specs.Text.{told-reply, default-options, new-state, Outcome, outcome}
+use Rattle.reader.specs.Text.{told-reply, new-state, Outcome, outcome}
 use Rattle.reader.specs.Calls.{Call, Given, Never-full, Calls, replies, one-by-one}
 
 -- ---- contracts

@@ -3,7 +3,7 @@
 use Prim.Native.Nat.{ℕ, _+_, _-_, _%_, _^_}
 use mathlib.Core.Path.{_≡_}
 use mathlib.Core.Bool.{Bool, true, false, _&&_}
-use mathlib.Core.List.{List, [], _∷_}
+use mathlib.Core.List.{List}
 use denote.Ref.{RefT}
 use lib.Dec.{eqb}
 use lib.ListN.{length, drop}
@@ -19,7 +19,7 @@ use Rattle.reader.specs.declared.Reply.the-variants.{Read, Refused, Done
 use Rattle.reader.specs.declared.Step.{Step}
 use Rattle.reader.specs.Told.{Told, gives, refuses, done, refusal-of}
 use Rattle.reader.specs.Answer.{answered, poured}
-use Rattle.reader.specs.Lines.{LF, first-line, rest, Found, a-line, no-line, next-line}
+use Rattle.reader.specs.Lines.{first-line, rest, Found, a-line, no-line, next-line}
 
 -- ---- the line cutter
 

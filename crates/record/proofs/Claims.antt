@@ -1,9 +1,6 @@
 -- The claims of `specs/Claims.antt`, proved: a line stands as it is judged (`stands`), and is judged as it stands (`admitted`, `refused`).
 -- Assumes nothing.
-use Prim.Native.Nat.{ℕ}
-use mathlib.Core.Path.{_≡_, sym, _∙_, subst}
-use mathlib.Core.List.{List}
-use Rattle.record.specs.Line.{says, wrong, judge}
+use mathlib.Core.Path.{sym, _∙_, subst}
 use Rattle.record.specs.Claims.{Admits, Refuses, Record-type-unique}
 use Rattle.record.proofs.Standing.{Stands, stands, admitted, refused}
 

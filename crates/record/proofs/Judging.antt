@@ -1,21 +1,20 @@
 -- What the judge makes of a line whose parts are known: each test of the definition, with its meaning in the relations' terms.
 -- Assumes nothing.
 use Prim.Native.Nat.{ℕ, zero, suc, _+_, _*_, _-_, _%_, _<_, _≤_}
-use mathlib.Core.Path.{_≡_, refl, sym, _∙_, ap}
+use mathlib.Core.Path.{_≡_, refl, _∙_, ap}
 use mathlib.Core.Logic.{_≢_}
-use mathlib.Core.Bool.{Bool, true, false, _||_}
+use mathlib.Core.Bool.{true, false}
 use mathlib.Core.List.{List, [], _∷_, _++_}
 use native.Mathlib.Omega.{arith}
-use lib.Dec.{leb, ltb, eqb}
-use lib.ListN.{length, getD, take, drop, length-append}
+use lib.Dec.{eqb}
+use lib.ListN.{length, getD, drop, length-append}
 use lib.Seq.{take-at, getD-at}
-use borrow.Author.Tests.{lt-ltb, le-ltb, eq-eqb, ne-eqb, eqb-true, eqb-false, ltb-true, ltb-false}
+use borrow.Author.Tests.{lt-ltb, le-ltb, eq-eqb, ne-eqb, eqb-true}
 use Rattle.checksum.specs.Checksum.{sum, negated-sum}
 use Rattle.checksum.proofs.Laws.{sum-snoc}
 use Rattle.record.specs.Common.{if_then_else_}
 use Rattle.record.specs.Refusals.{checksum-mismatch, payload-length-mismatch, unsupported-record-type, invalid-length-for-type}
-use Rattle.record.specs.Digits.{all-digits, bytes}
-use Rattle.record.specs.Line.{Said, says, wrong, size, fits, judge-fields, judge-bytes, judge-digits, judge}
+use Rattle.record.specs.Line.{says, wrong, size, fits, judge-fields, judge-bytes, judge-digits, judge}
 use Rattle.record.specs.Format.{Spells, Size, type-00, type-01, type-02, type-03, type-04, type-05, layout}
 use Rattle.record.specs.Faults.{Sums-up}
 use Rattle.record.proofs.Spelling.{spells-digits, spells-bytes, spells-length, last-small}

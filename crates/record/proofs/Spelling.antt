@@ -1,13 +1,13 @@
 -- Digits and bytes: the functions of `specs/Digits.antt` and the relations of `specs/Format.antt` agree, character by character.
 -- Assumes nothing.
-use Prim.Native.Nat.{ℕ, suc, _+_, _*_, _-_, _%_, _<_, _≤_}
+use Prim.Native.Nat.{ℕ, _+_, _*_, _-_, _%_, _<_, _≤_}
 use mathlib.Core.Path.{_≡_, refl, sym, _∙_, ap, ap₂}
 use mathlib.Core.Bool.{Bool, true, false, _&&_}
 use mathlib.Core.List.{List, [], _∷_, _++_}
 use native.Mathlib.Omega.{arith}
-use lib.Dec.{leb, ltb}
+use lib.Dec.{leb}
 use lib.ListN.{length}
-use borrow.Author.Tests.{lt-ltb, le-ltb, le-leb, lt-leb, ltb-true, ltb-false}
+use borrow.Author.Tests.{lt-ltb, le-leb, lt-leb, ltb-true}
 use Rattle.record.specs.Common.{Every, Byte}
 use Rattle.record.specs.Digits.{between, digit, is-digit, all-digits, bytes}
 use Rattle.record.specs.Format.{Hex, decimal, capital, small, Spells, none, more}

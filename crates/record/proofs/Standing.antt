@@ -10,16 +10,15 @@ use native.Mathlib.Omega.{arith}
 use lib.Dec.{ltb, eqb}
 use lib.ListN.{length, length-append}
 use borrow.Author.Tests.{lt-ltb, le-ltb, eq-eqb, ne-eqb, eqb-true, eqb-false, ltb-true, ltb-false}
-use Rattle.checksum.specs.Checksum.{sum, negated-sum}
-use Rattle.record.specs.Common.{Every}
+use Rattle.checksum.specs.Checksum.{negated-sum}
 use Rattle.record.specs.Refusals.{Refusal, missing-start-code, checksum-mismatch}
 use Rattle.record.specs.Digits.{all-digits, bytes}
 use Rattle.record.specs.Line.{Said, says, wrong, fits, judge-fields, judge-bytes, judge-digits, judge}
 use Rattle.record.specs.Format.{Spells, Size, layout, Format}
-use Rattle.record.specs.Faults.{Is-hex, Sums-up, Fault, no-colon, no-digit, short, long, odd, sum-differs, length-differs, type-unknown, size-differs}
+use Rattle.record.specs.Faults.{Sums-up, Fault, no-colon, no-digit, short, long, odd, sum-differs, length-differs, type-unknown, size-differs}
 use Rattle.record.proofs.Tests.{branch}
-use Rattle.record.proofs.Spelling.{spells-length, first-small, every-hex, hex-every, Offender, offender, not-all, digits-spell}
-use Rattle.record.proofs.Judging.{size-fits, fits-size, fields-mislaid, fields-unknown, fields-misfit, fields-fit, judge-layout, check-sums, Parts, parts, Ending, ending, judge-colon, judge-other, judge-spelt, judged}
+use Rattle.record.proofs.Spelling.{spells-length, first-small, every-hex, hex-every, offender, not-all, digits-spell}
+use Rattle.record.proofs.Judging.{size-fits, fits-size, fields-mislaid, fields-unknown, fields-misfit, fields-fit, judge-layout, check-sums, parts, judge-colon, judge-other, judge-spelt, judged}
 
 -- what is owed to a line of which this is said
 abbrev pub Stands : List ℕ → Said → Type 0

@@ -3,7 +3,6 @@
 -- Assumes nothing.
 use Prim.Native.Nat.{ℕ, _+_, _*_, _/_, _%_, _<_, _≤_}
 use mathlib.Core.Path.{_≡_, refl, sym, _∙_, ap, ap₂, subst}
-use mathlib.Core.Bool.{Bool, true, false}
 use mathlib.Core.List.{List, [], _∷_, _++_}
 use native.Mathlib.Omega.{arith}
 use lib.Dec.{ltb, eqb}
@@ -13,14 +12,13 @@ use Rattle.checksum.specs.Checksum.{negated-sum}
 use Rattle.checksum.proofs.Laws.{negated-small}
 use Rattle.record.specs.Common.{if_then_else_, Every, Byte}
 use Rattle.record.specs.Digits.{number, big-endian}
-use Rattle.record.specs.Line.{says, judge}
-use Rattle.record.specs.Format.{Hex, decimal, capital, Spells, none, more, Size, type-00, type-01, type-02, type-03, type-04, type-05, Format, layout}
+use Rattle.record.specs.Format.{Hex, decimal, capital, Spells, none, more, Size, type-00, type-01, type-02, type-03, type-04, type-05, Format}
 use Rattle.record.specs.Meaning.{Meaning, data-at, end-of-file, extended-segment, start-segment, extended-linear, start-linear, meaning}
-use Rattle.record.specs.Written.{capital-digit, spelt, body, written, kind-of, address-of, payload-of, line-of, two-bytes, four-bytes, Writable, Sayable}
+use Rattle.record.specs.Written.{capital-digit, spelt, body, written, kind-of, address-of, payload-of, two-bytes, four-bytes, Writable, Sayable}
 use Rattle.record.specs.Claims.{Written-in-format, Reads-back, Said-is-sayable}
 use Rattle.record.proofs.Tests.{branch}
 use Rattle.record.proofs.Spelling.{spells-small}
-use Rattle.record.proofs.Judging.{size-fits, check-sums, kinds}
+use Rattle.record.proofs.Judging.{size-fits, check-sums}
 use Rattle.record.proofs.Standing.{Stands, stands, admitted}
 
 -- ---- digits

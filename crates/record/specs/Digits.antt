@@ -1,7 +1,7 @@
 -- Hexadecimal digits, the bytes that pairs of them spell, and the numbers that bytes say.
 -- Assumes nothing.
 use Prim.Native.Nat.{ℕ, _+_, _-_, _*_}
-use mathlib.Core.Bool.{Bool, true, false, _&&_}
+use mathlib.Core.Bool.{Bool, true, _&&_}
 use mathlib.Core.List.{List, [], _∷_}
 use lib.Dec.{leb, ltb}
 use Rattle.record.specs.Common.{if_then_else_}

@@ -1,14 +1,14 @@
 -- What a line says: a type, an address and a payload, or the first thing that is wrong with it.
 -- Assumes nothing.
 use Prim.Native.Nat.{ℕ, _+_, _-_, _*_, _%_}
-use mathlib.Core.Bool.{Bool, true, false, _||_}
+use mathlib.Core.Bool.{Bool, _||_}
 use mathlib.Core.List.{List, [], _∷_}
-use lib.Dec.{leb, ltb, eqb}
+use lib.Dec.{ltb, eqb}
 use lib.ListN.{length, getD, take, drop}
 use Rattle.checksum.specs.Checksum.{negated-sum}
 use Rattle.record.specs.Common.{if_then_else_}
 use Rattle.record.specs.Refusals.{Refusal, missing-start-code, contains-invalid-characters, record-too-short, record-too-long, record-not-even-length, checksum-mismatch, payload-length-mismatch, unsupported-record-type, invalid-length-for-type}
-use Rattle.record.specs.Digits.{all-digits, bytes, big-endian}
+use Rattle.record.specs.Digits.{all-digits, bytes}
 
 pub data Said : Type 0 where
   says : (kind address : ℕ) (payload : List ℕ) → Said

@@ -5,7 +5,7 @@ use mathlib.Core.Path.{_≡_}
 use native.Mathlib.Omega.{arith}
 use borrow.Author.Needs.{needs}
 use denote.Ref.{now}
-use lib.ListN.{length, getD, drop, drop-of-length-le}
+use lib.ListN.{length, drop, drop-of-length-le}
 use Rattle.checksum.specs.Checksum
 use Rattle.checksum.specs.Checksum.{negated-sum}
 use Rattle.checksum.proofs.Laws.{sum-drop}

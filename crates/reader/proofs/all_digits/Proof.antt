@@ -1,6 +1,6 @@
 -- `reader::all_digits` meets its contract. The loop's invariant: what has been gathered, together with the rest, tells of the whole.
 -- Assumes nothing.
-use Prim.Native.Nat.{_≤_, _-_}
+use Prim.Native.Nat.{_-_}
 use mathlib.Core.Path.{_≡_, sym, _∙_}
 use mathlib.Core.Bool.{_&&_}
 use lib.Dec.{ltb}

@@ -3,7 +3,6 @@
 use mathlib.Core.Path.{_≡_, refl}
 use lib.ListN.{length, length-set}
 use Prim.Native.Nat.{_-_}
-use native.Mathlib.Omega.{arith}
 use borrow.Author.Needs.{needs}
 use denote.Ref.{now}
 use Rattle.reader.proofs.Cells.{Turn, turn-first, turn-more, turn-last}

@@ -1,6 +1,6 @@
 -- `reader::feed_from` meets its contract. The loop's invariant: no byte that was passed is LF.
 -- Assumes nothing.
-use Prim.Native.Nat.{ℕ, _≤_, _-_}
+use Prim.Native.Nat.{_≤_, _-_}
 use native.Mathlib.Omega.{arith}
 use borrow.Author.Needs.{needs}
 use denote.Ref.{now}

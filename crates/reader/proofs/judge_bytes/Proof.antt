@@ -1,6 +1,6 @@
 -- `reader::judge_bytes` meets its contract: at each `return` the tests that led there say which case of the judge holds.
 -- Assumes nothing.
-use Prim.Native.Nat.{ℕ, _-_, _*_, _+_}
+use Prim.Native.Nat.{ℕ, _-_}
 use mathlib.Core.Path.{_≡_, sym, _∙_, subst}
 use mathlib.Core.List.{List}
 use native.Mathlib.Omega.{arith}

@@ -1,7 +1,7 @@
 -- `reader::read_with` meets its contract: refusals 1 to 5 by the tests, and what the decoded bytes say for the rest.
 -- Assumes nothing.
-use Prim.Native.Nat.{ℕ, _-_, _%_, _/_, _≤_}
-use mathlib.Core.Path.{_≡_, refl, sym, _∙_, ap}
+use Prim.Native.Nat.{ℕ, _-_, _%_, _/_}
+use mathlib.Core.Path.{_≡_, sym, _∙_, ap}
 use mathlib.Core.Bool.{true}
 use mathlib.Core.List.{List}
 use native.Mathlib.Omega.{arith}

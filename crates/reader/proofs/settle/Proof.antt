@@ -1,9 +1,6 @@
 -- `reader::settle` meets its contract: a record, a refusal that is PoolFull, and any other refusal.
 -- Assumes nothing.
-use mathlib.Core.Path.{refl, sym, _∙_, ap}
-use borrow.Author.Tests.{eq-eqb, ne-eqb}
-use Rattle.reader.specs.Told.{told}
-use Rattle.reader.specs.Text.{is-full, ends-row}
+use mathlib.Core.Path.{sym, _∙_}
 use Rattle.reader.proofs.Reading.{settle-read, settle-full, settle-refused}
 use borrow.Author.Needs.{needs}
 use Rattle.reader.proofs.settle.Statement.{statement}
