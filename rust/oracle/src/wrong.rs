@@ -25,35 +25,68 @@ impl Port for Sum {
     }
 }
 
-/// A record reader that does something to its line, pool or answer.
-struct Line(fn(&[u8], &mut [u8], usize, Numbers) -> u32);
+/// A record reader that reads another line.
+struct OtherLine(fn(&[u8]) -> &[u8]);
+
+impl Port for OtherLine {
+    fn read_record(&self, line: &[u8], pool: &mut [u8], at: usize, numbers: Numbers) -> u32 {
+        Real.read_record(self.0(line), pool, at, numbers)
+    }
+}
+
+/// What is done to an answer or the pool, from the right code and the line; and the code told.
+type LineChange = fn(u32, &[u8], &mut [u8], Numbers) -> u32;
+
+/// A record reader that does something to its answer or pool.
+struct Line(LineChange);
 
 impl Port for Line {
-    fn read_record(&self, line: &[u8], pool: &mut [u8], at: usize, numbers: Numbers) -> u32 {
-        self.0(line, pool, at, numbers)
+    fn read_record(&self, line: &[u8], pool: &mut [u8], at: usize, (a, b, c): Numbers) -> u32 {
+        let code = Real.read_record(line, pool, at, (a, b, c));
+        self.0(code, line, pool, (a, b, c))
     }
 }
 
-/// A text reader that does something to its text, pool, state or answer.
-struct Text(fn(&[u8], &mut [u8], usize, State, Numbers) -> u32);
+/// A text reader that reads another text.
+struct OtherText(fn(&[u8]) -> &[u8]);
+
+impl Port for OtherText {
+    fn next(&self, text: &[u8], pool: &mut [u8], at: usize, state: State, numbers: Numbers) -> u32 {
+        Real.next(self.0(text), pool, at, state, numbers)
+    }
+}
+
+/// A text reader that does something to the state: from the code and the line number before the call.
+struct Text(fn(u32, usize, State));
 
 impl Port for Text {
-    fn next(&self, text: &[u8], pool: &mut [u8], at: usize, state: State, numbers: Numbers) -> u32 {
-        self.0(text, pool, at, state, numbers)
+    fn next(
+        &self,
+        text: &[u8],
+        pool: &mut [u8],
+        at: usize,
+        (position, line, flags): State,
+        numbers: Numbers,
+    ) -> u32 {
+        let before = *line;
+        let code = Real.next(text, pool, at, (position, line, flags), numbers);
+        self.0(code, before, (position, line, flags));
+        code
     }
 }
 
-/// A record writer that does something to its record or output.
-struct Record(fn(&Entry, &[u8], &mut [u8], &mut u64) -> u32);
+/// A record writer that does something to its answer or output: from the right code and the record.
+struct Record(fn(u32, &Entry, &mut [u8], &mut u64) -> u32);
 
 impl Port for Record {
     fn to_record_string(&self, entry: &Entry, pool: &[u8], out: &mut [u8], value: &mut u64) -> u32 {
-        self.0(entry, pool, out, value)
+        let code = Real.to_record_string(entry, pool, out, value);
+        self.0(code, entry, out, value)
     }
 }
 
-/// An object writer that does something to its output or answer.
-struct Object(fn(&[u8], &[u8], &mut [u8], &mut u64) -> u32);
+/// An object writer that does something to its output or number: from the code.
+struct Object(fn(u32, &mut [u8], &mut u64));
 
 impl Port for Object {
     fn create_object_file_representation(
@@ -63,13 +96,15 @@ impl Port for Object {
         out: &mut [u8],
         value: &mut u64,
     ) -> u32 {
-        self.0(list, pool, out, value)
+        let code = Real.create_object_file_representation(list, pool, out, value);
+        self.0(code, out, value);
+        code
     }
 }
 
-#[allow(clippy::type_complexity)]
-/// A loader that does something to its text, page, marks or answer.
-struct Load(fn(&[u8], u32, &mut [u8], &mut [u8], &mut usize, (&mut u64, &mut u64)) -> u32);
+/// A loader that does something to its marks or first number: from the code and the address behind the
+/// window.
+struct Load(fn(u32, u64, &mut [u8], &mut u64));
 
 impl Port for Load {
     fn load(
@@ -79,239 +114,228 @@ impl Port for Load {
         page: &mut [u8],
         marks: &mut [u8],
         line: &mut usize,
-        numbers: (&mut u64, &mut u64),
+        (a, b): (&mut u64, &mut u64),
     ) -> u32 {
-        self.0(text, first, page, marks, line, numbers)
+        let code = Real.load(text, first, page, marks, line, (a, b));
+        self.0(code, u64::from(first) + page.len() as u64, marks, a);
+        code
     }
 }
 
+/// Every wrong port.
 pub fn all() -> Vec<Wrong> {
+    [
+        sums(),
+        lines(),
+        digits(),
+        pools(),
+        texts(),
+        records(),
+        objects(),
+        loads(),
+    ]
+    .into_iter()
+    .flatten()
+    .collect()
+}
+
+fn sums() -> Vec<Wrong> {
+    vec![(
+        "does not negate the sum",
+        Box::new(Sum(|bytes| Real.checksum(bytes).wrapping_neg())),
+    )]
+}
+
+/// The line without the bytes of this value at its end.
+fn trimmed(line: &[u8], value: u8) -> &[u8] {
+    let last = line.iter().rposition(|&byte| byte != value);
+    &line[..last.map_or(0, |i| i + 1)]
+}
+
+fn line(name: &'static str, change: LineChange) -> Wrong {
+    (name, Box::new(Line(change)))
+}
+
+fn other_line(name: &'static str, change: fn(&[u8]) -> &[u8]) -> Wrong {
+    (name, Box::new(OtherLine(change)))
+}
+
+/// Record readers that judge a line wrongly.
+fn lines() -> Vec<Wrong> {
     vec![
-        (
-            "does not negate the sum",
-            Box::new(Sum(|bytes| Real.checksum(bytes).wrapping_neg())),
-        ),
-        (
+        line(
             "wants 0000 on an end record, as Intel prints it",
-            Box::new(Line(|line, pool, at, numbers| {
-                match Real.read_record(line, pool, at, numbers) {
-                    1 if line.get(3..7) != Some(b"0000") => REFUSED + 9,
-                    code => code,
-                }
-            })),
+            |code, line, _, _| match code {
+                1 if line.get(3..7) != Some(b"0000") => REFUSED + 9,
+                _ => code,
+            },
         ),
-        (
+        line(
             "judges the type before the length",
-            Box::new(Line(|line, pool, at, (a, b, c)| {
-                let code = Real.read_record(line, pool, at, (a, b, c));
+            |code, line, _, (a, _, _)| {
                 if code == REFUSED + 7 && line.get(7..9) == Some(b"06") {
                     *a = 6;
                     return REFUSED + 8;
                 }
                 code
-            })),
+            },
         ),
-        (
-            "trims every CR",
-            Box::new(Line(|line, pool, at, numbers| {
-                let end = line
-                    .iter()
-                    .rposition(|&byte| byte != b'\r')
-                    .map_or(0, |i| i + 1);
-                Real.read_record(&line[..end], pool, at, numbers)
-            })),
-        ),
-        (
+        other_line("trims every CR", |line| trimmed(line, b'\r')),
+        line(
             "swaps the two numbers of refusal 6",
-            Box::new(Line(|line, pool, at, (a, b, c)| {
-                let code = Real.read_record(line, pool, at, (a, b, c));
+            |code, _, _, (a, b, _)| {
                 if code == REFUSED + 6 {
                     std::mem::swap(a, b);
                 }
                 code
-            })),
+            },
         ),
-        (
+    ]
+}
+
+/// Record readers that take the digits of a line wrongly.
+fn digits() -> Vec<Wrong> {
+    vec![
+        line(
             "counts odd digits before short ones",
-            Box::new(Line(|line, pool, at, numbers| {
-                match Real.read_record(line, pool, at, numbers) {
-                    code if code == REFUSED + 3 && line.len() % 2 == 0 => REFUSED + 5,
-                    code => code,
-                }
-            })),
+            |code, line, _, _| match code == REFUSED + 3 && line.len() % 2 == 0 {
+                true => REFUSED + 5,
+                false => code,
+            },
         ),
-        (
-            "trims blanks",
-            Box::new(Line(|line, pool, at, numbers| {
-                let end = line
-                    .iter()
-                    .rposition(|&byte| byte != b' ')
-                    .map_or(0, |i| i + 1);
-                Real.read_record(&line[..end], pool, at, numbers)
-            })),
-        ),
-        (
-            "takes 521 digits for odd",
-            Box::new(Line(|line, pool, at, numbers| {
-                match Real.read_record(line, pool, at, numbers) {
-                    code if code == REFUSED + 4 && line.len() == 522 => REFUSED + 5,
-                    code => code,
-                }
-            })),
-        ),
-        (
+        other_line("trims blanks", |line| trimmed(line, b' ')),
+        line("takes 521 digits for odd", |code, line, _, _| {
+            match code == REFUSED + 4 && line.len() == 522 {
+                true => REFUSED + 5,
+                false => code,
+            }
+        }),
+    ]
+}
+
+/// Record readers that treat the pool wrongly.
+fn pools() -> Vec<Wrong> {
+    vec![
+        line(
             "clears the pool's last byte on a refusal",
-            Box::new(Line(|line, pool, at, numbers| {
-                let code = Real.read_record(line, pool, at, numbers);
+            |code, _, pool, _| {
                 if let Some(last) = pool.last_mut().filter(|_| code == REFUSED + 6) {
                     *last = 0;
                 }
                 code
-            })),
+            },
         ),
-        (
+        line(
             "takes a position beyond the pool for an empty payload",
-            Box::new(Line(|line, pool, at, (a, b, c)| {
-                let code = Real.read_record(line, pool, at, (a, b, c));
+            |code, line, pool, numbers| {
                 if code == REFUSED + 10 && line.len() == 11 {
-                    return Real.read_record(line, pool, 0, (a, b, c));
+                    return Real.read_record(line, pool, 0, numbers);
                 }
                 code
-            })),
+            },
         ),
+    ]
+}
+
+fn texts() -> Vec<Wrong> {
+    let text = |name, change| -> Wrong { (name, Box::new(Text(change))) };
+    vec![
         (
             "drops a CR at the text's end",
-            Box::new(Text(|text, pool, at, state, numbers| {
-                Real.next(
-                    text.strip_suffix(b"\r").unwrap_or(text),
-                    pool,
-                    at,
-                    state,
-                    numbers,
-                )
-            })),
+            Box::new(OtherText(|text| text.strip_suffix(b"\r").unwrap_or(text))),
         ),
-        (
-            "repeats the first line",
-            Box::new(Text(|text, pool, at, (position, line, flags), numbers| {
-                let code = Real.next(text, pool, at, (position, line, flags), numbers);
-                if code == 0 {
-                    *position = 0;
-                }
-                code
-            })),
-        ),
-        (
-            "does not count empty lines",
-            Box::new(Text(|text, pool, at, (position, line, flags), numbers| {
-                let before = *line;
-                let code = Real.next(text, pool, at, (position, line, flags), numbers);
-                *line = before.wrapping_add(usize::from(*line != before));
-                code
-            })),
-        ),
-        (
+        text("repeats the first line", |code, _, (position, _, _)| {
+            if code == 0 {
+                *position = 0;
+            }
+        }),
+        text("does not count empty lines", |_, before, (_, line, _)| {
+            *line = before.wrapping_add(usize::from(*line != before));
+        }),
+        text(
             "uses up the line that finds the pool full",
-            Box::new(Text(|text, pool, at, (position, line, flags), numbers| {
-                let code = Real.next(text, pool, at, (position, line, flags), numbers);
+            |code, _, (position, _, _)| {
                 if code == REFUSED + 10 {
                     *position += 1;
                 }
-                code
-            })),
+            },
         ),
-        (
-            "goes on after an end record",
-            Box::new(Text(|text, pool, at, (position, line, flags), numbers| {
-                let code = Real.next(text, pool, at, (position, line, flags), numbers);
-                if code == 1 {
-                    *flags &= 3;
-                }
-                code
-            })),
-        ),
-        (
-            "writes small letters",
-            Box::new(Record(|entry, pool, out, value| {
-                let code = Real.to_record_string(entry, pool, out, value);
-                if code == 0 {
-                    out[..*value as usize].make_ascii_lowercase();
-                }
-                code
-            })),
-        ),
-        (
+        text("goes on after an end record", |code, _, (_, _, flags)| {
+            if code == 1 {
+                *flags &= 3;
+            }
+        }),
+    ]
+}
+
+fn records() -> Vec<Wrong> {
+    let record = |name, change| -> Wrong { (name, Box::new(Record(change))) };
+    vec![
+        record("writes small letters", |code, _, out, value| {
+            if code == 0 {
+                out[..*value as usize].make_ascii_lowercase();
+            }
+            code
+        }),
+        record(
             "clears the output behind what it writes",
-            Box::new(Record(|entry, pool, out, value| {
-                let code = Real.to_record_string(entry, pool, out, value);
+            |code, _, out, value| {
                 if let Some(byte) = out.get_mut(*value as usize).filter(|_| code == 0) {
                     *byte = 0;
                 }
                 code
-            })),
+            },
         ),
-        (
+        record(
             "judges the length before the place",
-            Box::new(Record(|entry, pool, out, value| {
-                match Real.to_record_string(entry, pool, out, value) {
-                    code if code == REFUSED + 11 && entry.len > 255 => {
-                        *value = entry.len as u64;
-                        REFUSED + 12
-                    }
-                    code => code,
-                }
-            })),
-        ),
-        (
-            "counts end records up to the second",
-            Box::new(Object(|list, pool, out, value| {
-                let code = Real.create_object_file_representation(list, pool, out, value);
-                if code == REFUSED + 14 {
-                    *value = 2;
+            |code, entry, _, value| {
+                if code == REFUSED + 11 && entry.len > 255 {
+                    *value = entry.len as u64;
+                    return REFUSED + 12;
                 }
                 code
-            })),
+            },
         ),
-        (
-            "writes as much as fits, then refuses",
-            Box::new(Object(|list, pool, out, value| {
-                let code = Real.create_object_file_representation(list, pool, out, value);
-                if let Some(byte) = out.first_mut().filter(|_| code == REFUSED + 15) {
-                    *byte = b':';
-                }
-                code
-            })),
-        ),
-        (
-            "clears the marks before it refuses",
-            Box::new(Load(|text, first, page, marks, line, numbers| {
-                let code = Real.load(text, first, page, marks, line, numbers);
-                if code == REFUSED + 17 {
-                    marks.fill(0);
-                }
-                code
-            })),
-        ),
-        (
+    ]
+}
+
+fn objects() -> Vec<Wrong> {
+    let object = |name, change| -> Wrong { (name, Box::new(Object(change))) };
+    vec![
+        object("counts end records up to the second", |code, _, value| {
+            if code == REFUSED + 14 {
+                *value = 2;
+            }
+        }),
+        object("writes as much as fits, then refuses", |code, out, _| {
+            if let Some(byte) = out.first_mut().filter(|_| code == REFUSED + 15) {
+                *byte = b':';
+            }
+        }),
+    ]
+}
+
+fn loads() -> Vec<Wrong> {
+    let load = |name, change| -> Wrong { (name, Box::new(Load(change))) };
+    vec![
+        load("clears the marks before it refuses", |code, _, marks, _| {
+            if code == REFUSED + 17 {
+                marks.fill(0);
+            }
+        }),
+        load(
             "names the address of the record, not of the byte outside",
-            Box::new(Load(|text, first, page, marks, line, (a, b)| {
-                let code = Real.load(text, first, page, marks, line, (a, b));
-                if code == REFUSED + 17 && *a == u64::from(first) + page.len() as u64 {
+            |code, behind, _, a| {
+                if code == REFUSED + 17 && *a == behind {
                     *a = a.saturating_sub(1);
                 }
-                code
-            })),
+            },
         ),
-        (
-            "accepts and stores nothing",
-            Box::new(Load(|text, first, page, marks, line, numbers| {
-                let code = Real.load(text, first, page, marks, line, numbers);
-                if code == 0 {
-                    marks.fill(0);
-                }
-                code
-            })),
-        ),
+        load("accepts and stores nothing", |code, _, marks, _| {
+            if code == 0 {
+                marks.fill(0);
+            }
+        }),
     ]
 }
 
