@@ -141,6 +141,17 @@ fn thousand<C>(make: fn(&mut Chance) -> C) -> impl Fn(u64, &mut Chance) -> Vec<C
     move |_, chance| (0..1000).map(|_| make(chance)).collect()
 }
 
+/// A kind whose inputs are made a block at once, from the block's number and its own chance.
+fn by_block<'a, C: Case + 'a>(
+    name: &'static str,
+    plan: Plan,
+    blocks: u64,
+    make: impl Fn(u64, &mut Chance) -> Vec<C> + Sync + 'a,
+    check: impl Fn(&C) -> Option<String> + Sync + 'a,
+) -> Kind<'a> {
+    Box::new(move || compare(name, plan, blocks, &make, &check))
+}
+
 /// A kind whose inputs come by chance.
 fn by_chance<'a, C: Case + 'a>(
     name: &'static str,
@@ -149,8 +160,7 @@ fn by_chance<'a, C: Case + 'a>(
     make: fn(&mut Chance) -> C,
     check: impl Fn(&C) -> Option<String> + Sync + 'a,
 ) -> Kind<'a> {
-    let blocks = blocks(thousands, plan);
-    Box::new(move || compare(name, plan, blocks, thousand(make), &check))
+    by_block(name, plan, blocks(thousands, plan), thousand(make), check)
 }
 
 /// A kind whose inputs come by chance and go to a program, a block at once. Of those on which the two
@@ -208,57 +218,62 @@ fn bytes(chance: &mut Chance) -> SumCase {
     SumCase(chance.bytes(n))
 }
 
-/// What is compared with the port, through its C entry points.
-pub fn of_port<'a>(port: &'a dyn Port, plan: Plan) -> Vec<Kind<'a>> {
+/// Every line up to 4 characters: a block for each telling byte that begins one, and one for the empty.
+fn every_short(block: u64, _: &mut Chance) -> Vec<LineCase> {
+    match inputs::TELLING.get(block as usize) {
+        Some(&byte) => inputs::every(&[byte], 4),
+        None => inputs::every(b"", 0),
+    }
+}
+
+/// Every line of a colon and up to 4 characters: a block for each telling byte that is the first of them.
+fn every_behind_colon(block: u64, _: &mut Chance) -> Vec<LineCase> {
+    inputs::every(&[b':', inputs::TELLING[block as usize]], 5)
+}
+
+/// Lines that are made by rule: every short one, those about the shortest and the longest, and good ones
+/// with each byte changed.
+fn lines_by_rule<'a>(port: &'a dyn Port, plan: Plan) -> Vec<Kind<'a>> {
     let line = move |case: &LineCase| lines::port(port, case);
-    let text = move |case: &TextCase| texts::port(port, case);
     let telling = inputs::TELLING.len() as u64;
     let sizes: Vec<usize> = inputs::boundaries().collect();
+    let part = |blocks: u64| (blocks / plan.part_of).max(1);
     vec![
-        by_chance("checksums", plan, 20, bytes, move |case| {
-            sums::port(port, case)
-        }),
-        Box::new(move || {
-            let make = |block, _: &mut Chance| match inputs::TELLING.get(block as usize) {
-                Some(&byte) => inputs::every(&[byte], 4),
-                None => inputs::every(b"", 0),
-            };
-            let blocks = ((telling + 1) / plan.part_of).max(1);
-            compare("every line up to 4 characters", plan, blocks, make, line)
-        }),
-        Box::new(move || {
-            let make =
-                |block, _: &mut Chance| inputs::every(&[b':', inputs::TELLING[block as usize]], 5);
-            let blocks = (telling / plan.part_of).max(1);
-            compare(
-                "every line of a colon and up to 4 characters",
-                plan,
-                blocks,
-                make,
-                line,
-            )
-        }),
-        Box::new(move || {
-            let make = |block, chance: &mut Chance| inputs::sized(sizes[block as usize], chance);
-            compare(
-                "lines of 0 to 12 and 515 to 525 digits",
-                plan,
-                sizes.len() as u64,
-                make,
-                line,
-            )
-        }),
-        Box::new(move || {
-            let make = |_, chance: &mut Chance| inputs::changed(chance);
-            let blocks = (12 * plan.times / plan.part_of).max(1);
-            compare(
-                "good lines, each byte changed to all 256",
-                plan,
-                blocks,
-                make,
-                line,
-            )
-        }),
+        by_block(
+            "every line up to 4 characters",
+            plan,
+            part(telling + 1),
+            every_short,
+            line,
+        ),
+        by_block(
+            "every line of a colon and up to 4 characters",
+            plan,
+            part(telling),
+            every_behind_colon,
+            line,
+        ),
+        by_block(
+            "lines of 0 to 12 and 515 to 525 digits",
+            plan,
+            sizes.len() as u64,
+            move |block, chance| inputs::sized(sizes[block as usize], chance),
+            line,
+        ),
+        by_block(
+            "good lines, each byte changed to all 256",
+            plan,
+            blocks(12, plan),
+            |_, chance| inputs::changed(chance),
+            line,
+        ),
+    ]
+}
+
+/// Lines that come by chance.
+fn lines_by_chance<'a>(port: &'a dyn Port, plan: Plan) -> Vec<Kind<'a>> {
+    let line = move |case: &LineCase| lines::port(port, case);
+    vec![
         by_chance("good lines", plan, 60, good_line, line),
         by_chance("lines by chance", plan, 250, random_line, line),
         by_chance(
@@ -269,41 +284,30 @@ pub fn of_port<'a>(port: &'a dyn Port, plan: Plan) -> Vec<Kind<'a>> {
             line,
         ),
         by_chance("lines with narrow pools", plan, 100, inputs::pooled, line),
-        by_chance(
-            "texts, no stop",
-            plan,
-            26,
-            |chance| stopped_text(0, chance),
-            text,
-        ),
-        by_chance(
-            "texts, stop after an error",
-            plan,
-            26,
-            |chance| stopped_text(1, chance),
-            text,
-        ),
-        by_chance(
-            "texts, stop after an end",
-            plan,
-            26,
-            |chance| stopped_text(2, chance),
-            text,
-        ),
-        by_chance(
-            "texts, both stops",
-            plan,
-            26,
-            |chance| stopped_text(3, chance),
-            text,
-        ),
-        by_chance(
-            "texts, states made up by hand",
-            plan,
-            20,
-            inputs::by_hand,
-            text,
-        ),
+    ]
+}
+
+/// Texts, with each of the four settings of the stops and with states that no call need have left.
+fn texts_by_chance<'a>(port: &'a dyn Port, plan: Plan) -> Vec<Kind<'a>> {
+    let text = move |case: &TextCase| texts::port(port, case);
+    let stops: [(_, fn(&mut Chance) -> TextCase); 4] = [
+        ("texts, no stop", |chance| stopped_text(0, chance)),
+        ("texts, stop after an error", |chance| {
+            stopped_text(1, chance)
+        }),
+        ("texts, stop after an end", |chance| stopped_text(2, chance)),
+        ("texts, both stops", |chance| stopped_text(3, chance)),
+    ];
+    let stopped = stops.map(|(name, make)| by_chance(name, plan, 26, make, text));
+    let by_hand = "texts, states made up by hand";
+    let mut kinds = Vec::from(stopped);
+    kinds.push(by_chance(by_hand, plan, 20, inputs::by_hand, text));
+    kinds
+}
+
+/// Records and lists to write, and texts to load.
+fn writes_and_loads<'a>(port: &'a dyn Port, plan: Plan) -> Vec<Kind<'a>> {
+    vec![
         by_chance("records written", plan, 150, inputs::record, move |case| {
             writes::record_by_port(port, case)
         }),
@@ -314,6 +318,17 @@ pub fn of_port<'a>(port: &'a dyn Port, plan: Plan) -> Vec<Kind<'a>> {
             loads::port(port, case)
         }),
     ]
+}
+
+/// What is compared with the port, through its C entry points.
+pub fn of_port<'a>(port: &'a dyn Port, plan: Plan) -> Vec<Kind<'a>> {
+    let sum = move |case: &SumCase| sums::port(port, case);
+    let mut kinds = vec![by_chance("checksums", plan, 20, bytes, sum)];
+    kinds.extend(lines_by_rule(port, plan));
+    kinds.extend(lines_by_chance(port, plan));
+    kinds.extend(texts_by_chance(port, plan));
+    kinds.extend(writes_and_loads(port, plan));
+    kinds
 }
 
 /// What is compared with the Rust face.
