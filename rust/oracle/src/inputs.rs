@@ -519,8 +519,14 @@ pub fn lent_list(chance: &mut Chance) -> ObjectCase {
     }
 }
 
-/// A text that places bytes around a window, with that window.
-pub fn load(chance: &mut Chance) -> LoadCase {
+/// Where a page is to show memory: from which address on, how many places, and how many there could be.
+struct Window {
+    first: u32,
+    size: usize,
+    room: usize,
+}
+
+fn window(chance: &mut Chance) -> Window {
     let first = match chance.under(5) {
         0 => 0,
         1 => u32::MAX - chance.under(300) as u32,
@@ -534,42 +540,48 @@ pub fn load(chance: &mut Chance) -> LoadCase {
         n if n < 8 => chance.under(4),
         _ => chance.from_to(200, 700).min(room),
     };
-    let mut text = Vec::new();
-    for _ in 0..chance.under(8) {
-        // The base of what follows, near the window from below, and offsets that reach into it.
-        let (kind, number) = if first < 1 << 20 && chance.once_in(2) {
-            (
-                2,
-                (first / 16).saturating_sub(chance.under(64) as u32) as u16,
-            )
-        } else {
-            (4, (first >> 16) as u16)
-        };
-        let base = u32::from(number) * if kind == 2 { 16 } else { 65_536 };
-        text.extend(line_of(kind, 0, &number.to_be_bytes()));
-        text.extend(chance.one_of(&["\n", "\r\n", "\n\n"]).bytes());
-        for _ in 0..chance.under(6) {
-            let len = if chance.once_in(16) {
-                chance.from_to(0, 255)
-            } else {
-                chance.under(20)
-            };
-            let slack = size.saturating_sub(len);
-            let stray = if chance.once_in(24) {
-                chance.under(300)
-            } else {
-                0
-            };
-            let place = u64::from(first) + chance.under(slack + 1) as u64 + stray as u64;
-            let offset = place.wrapping_sub(u64::from(base)) as u16;
-            text.extend(line_of(0, offset, &chance.bytes(len)));
-            text.extend(chance.one_of(&["\n", "\r\n", "\n\n"]).bytes());
-        }
-        if chance.once_in(8) {
-            text.extend(line_of(chance.one_of(&[3, 5]), 0, &chance.bytes(4)));
-            text.push(b'\n');
-        }
-    }
+    Window { first, size, room }
+}
+
+fn line_end(chance: &mut Chance) -> &'static [u8] {
+    chance.one_of(&["\n", "\r\n", "\n\n"]).as_bytes()
+}
+
+/// Puts the line of a base near the window from below, and says which base that is.
+fn put_base(text: &mut Vec<u8>, window: &Window, chance: &mut Chance) -> u32 {
+    let first = window.first;
+    let (kind, number) = if first < 1 << 20 && chance.once_in(2) {
+        let below = (first / 16).saturating_sub(chance.under(64) as u32);
+        (2, below as u16)
+    } else {
+        (4, (first >> 16) as u16)
+    };
+    text.extend(line_of(kind, 0, &number.to_be_bytes()));
+    text.extend(line_end(chance));
+    u32::from(number) * if kind == 2 { 16 } else { 65_536 }
+}
+
+/// Puts a line of data, mostly inside the window, with its offset from the base in force.
+fn put_data(text: &mut Vec<u8>, window: &Window, base: u32, chance: &mut Chance) {
+    let len = if chance.once_in(16) {
+        chance.from_to(0, 255)
+    } else {
+        chance.under(20)
+    };
+    let slack = window.size.saturating_sub(len);
+    let stray = if chance.once_in(24) {
+        chance.under(300)
+    } else {
+        0
+    };
+    let place = u64::from(window.first) + chance.under(slack + 1) as u64 + stray as u64;
+    let offset = place.wrapping_sub(u64::from(base)) as u16;
+    text.extend(line_of(0, offset, &chance.bytes(len)));
+    text.extend(line_end(chance));
+}
+
+/// Puts the end of a text to load: sometimes an odd line, mostly an end record.
+fn put_end(text: &mut Vec<u8>, chance: &mut Chance) {
     if chance.once_in(6) {
         let odd: [fn(&mut Chance) -> Vec<u8>; 3] = [random, damaged, summed];
         text.extend(chance.one_of(&odd)(chance));
@@ -583,9 +595,27 @@ pub fn load(chance: &mut Chance) -> LoadCase {
                 .bytes(),
         );
     }
+}
+
+/// A text that places bytes around a window, with that window.
+pub fn load(chance: &mut Chance) -> LoadCase {
+    let window = window(chance);
+    let mut text = Vec::new();
+    for _ in 0..chance.under(8) {
+        let base = put_base(&mut text, &window, chance);
+        for _ in 0..chance.under(6) {
+            put_data(&mut text, &window, base, chance);
+        }
+        if chance.once_in(8) {
+            text.extend(line_of(chance.one_of(&[3, 5]), 0, &chance.bytes(4)));
+            text.push(b'\n');
+        }
+    }
+    put_end(&mut text, chance);
     if chance.once_in(8) {
         damage(&mut text, chance);
     }
+    let Window { first, size, room } = window;
     let (page, marks) = match chance.under(80) {
         0 | 1 => (size, size + 1),
         2 | 3 => (size + 1, size),
