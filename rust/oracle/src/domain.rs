@@ -64,8 +64,11 @@ pub fn options(flags: u8) -> ReaderOptions {
     }
 }
 
-/// The crate's answers to a text with these stops, each with the place of its line.
-pub fn rows(text: &[u8], flags: u8) -> Vec<(Result<Record, ReaderError>, Place)> {
+/// An answer of the crate, with the place of its line.
+pub type Row = (Result<Record, ReaderError>, Place);
+
+/// The crate's answers to a text with these stops.
+pub fn rows(text: &[u8], flags: u8) -> Vec<Row> {
     let mut string = as_str(text);
     if !keeps_last_cr() && string.ends_with('\r') {
         // Of the two that now end the last line, the library drops one with the LF.

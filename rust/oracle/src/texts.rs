@@ -2,13 +2,13 @@
 
 use ihex_sys::{DONE, FINISHED, STOP_AFTER_EOF, STOP_AFTER_FIRST_ERROR};
 
-use crate::domain::{as_str, options, rows};
+use crate::domain::{as_str, options, rows, Row};
 use crate::lent::{Lent, Numbers};
 use crate::lines::{in_pool, unlike};
 use crate::port::Port;
 use crate::seen;
 use crate::shrink::{shown, smaller_number, smaller_text, with_each, Case};
-use crate::told::{by_crate, by_face, told, Told};
+use crate::told::{by_crate, by_face, pool_full, told, Told};
 
 #[derive(Clone)]
 pub struct TextCase {
@@ -115,6 +115,15 @@ impl<'a> Calls<'a> {
         }
         (self.state != behind).then(|| format!("state {:?}, should be {behind:?}", self.state))
     }
+
+    /// Two calls behind the last answer, which left this state, and what is wrong with them.
+    fn behind_the_last(&mut self, at: usize, mut state: State) -> Option<String> {
+        state.flags |= FINISHED;
+        (0..2).find_map(|i| {
+            let why = self.call(at, &told(DONE, 0, 0, 0), state)?;
+            Some(format!("call {i} behind the last answer: {why}"))
+        })
+    }
 }
 
 /// The flags behind an answer.
@@ -122,6 +131,14 @@ fn flags_behind(flags: u8, answer: &Told) -> u8 {
     let refused = answer.code >= ihex_sys::REFUSED && flags & STOP_AFTER_FIRST_ERROR != 0;
     let ended = answer.code == 1 && flags & STOP_AFTER_EOF != 0;
     flags & 7 | if refused || ended { FINISHED } else { 0 }
+}
+
+/// The crate's answers to what lies behind this state.
+fn rows_from(state: State, text: &[u8]) -> Vec<Row> {
+    if state.flags & FINISHED != 0 {
+        return vec![];
+    }
+    rows(text.get(state.position..).unwrap_or(&[]), state.flags)
 }
 
 pub fn port(port: &dyn Port, case: &TextCase) -> Option<String> {
@@ -135,25 +152,19 @@ pub fn port(port: &dyn Port, case: &TextCase) -> Option<String> {
         flags: case.state.flags & 7,
         ..case.state
     };
-    let rest = case.text.get(state.position..).unwrap_or(&[]);
-    let rows = if state.flags & FINISHED == 0 {
-        rows(rest, state.flags)
-    } else {
-        vec![]
-    };
     let mut at = 0;
-    for (i, (answer, place)) in rows.iter().enumerate() {
-        let mut expected = in_pool(by_crate::answer(answer, at), case.pool, at);
-        if expected == crate::told::pool_full() {
+    for (i, (answer, place)) in rows_from(state, &case.text).iter().enumerate() {
+        let put = |at| in_pool(by_crate::answer(answer, at), case.pool, at);
+        if put(at) == pool_full() {
             // The line is not used up. There may be room at the pool's beginning.
-            if let Some(why) = calls.call(at, &expected, state) {
+            if let Some(why) = calls.call(at, &pool_full(), state) {
                 return Some(format!("answer {i}, with a full pool: {why}"));
             }
             at = 0;
-            expected = in_pool(by_crate::answer(answer, at), case.pool, at);
-            if expected == crate::told::pool_full() {
-                return None;
-            }
+        }
+        let expected = put(at);
+        if expected == pool_full() {
+            return None;
         }
         state = State {
             position: case.state.position + place.end,
@@ -165,13 +176,9 @@ pub fn port(port: &dyn Port, case: &TextCase) -> Option<String> {
         }
         at += expected.payload.len();
     }
-    state.flags |= FINISHED;
-    for i in 0..2 {
-        if let Some(why) = calls.call(at, &told(DONE, 0, 0, 0), state) {
-            return Some(format!("call {i} behind the last answer: {why}"));
-        }
-    }
-    calls.text.unlike("text", &case.text)
+    calls
+        .behind_the_last(at, state)
+        .or_else(|| calls.text.unlike("text", &case.text))
 }
 
 pub fn face(case: &TextCase) -> Option<String> {
