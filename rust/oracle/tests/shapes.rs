@@ -57,22 +57,22 @@ macro_rules! uses {
                 }
             }
 
-            #[test]
-            fn every_name() -> Result<(), Box<dyn Error>> {
-                if !$at_hand {
-                    return Ok(());
-                }
+            fn one_of_each() -> [Record; 6] {
                 let value: Vec<u8> =
                     vec![checksum(&[1u8, 2][..]), checksum(vec![3u8]), checksum("4")];
                 let offset: u16 = 0x10;
-                let records = [
+                [
                     Record::Data { offset, value },
                     Record::ExtendedSegmentAddress(1u16),
                     Record::StartSegmentAddress { cs: 1u16, ip: 2u16 },
                     Record::ExtendedLinearAddress(1u16),
                     Record::StartLinearAddress(1u32),
                     Record::EndOfFile,
-                ];
+                ]
+            }
+
+            fn names_of_records() -> Result<(), Box<dyn Error>> {
+                let records = one_of_each();
                 for record in &records {
                     plain(record);
                     let line: String = record.to_record_string()?;
@@ -86,7 +86,10 @@ macro_rules! uses {
                 assert_eq!(read?, records);
                 let distinct: HashSet<Record> = records.iter().cloned().collect();
                 assert_eq!(distinct.len(), 6);
+                Ok(())
+            }
 
+            fn names_of_options_and_errors() {
                 let options = ReaderOptions {
                     stop_after_first_error: false,
                     ..Default::default()
@@ -103,6 +106,14 @@ macro_rules! uses {
                 error(&missing);
                 plain(&missing);
                 assert_eq!(unwritten(missing), None);
+            }
+
+            #[test]
+            fn every_name() -> Result<(), Box<dyn Error>> {
+                if $at_hand {
+                    names_of_records()?;
+                    names_of_options_and_errors();
+                }
                 Ok(())
             }
         }
