@@ -12,13 +12,19 @@ fn read(line: &str) -> Result<Record, ReaderError> {
     read
 }
 
-/// The line of a data record of zeros at address 0.
+/// The line of a data record of n zeros at address 0.
 fn zeros(n: u8) -> String {
     format!(
         ":{n:02X}000000{}{:02X}",
         "00".repeat(n.into()),
         n.wrapping_neg()
     )
+}
+
+/// A data record of n zeros at address 0.
+fn data(n: usize) -> Record {
+    let value = vec![0; n];
+    Record::Data { offset: 0, value }
 }
 
 #[test]
@@ -69,13 +75,12 @@ fn lines_are_records() {
     for (line, record) in records {
         assert_eq!(read(line), Ok(record), "{line:?}");
     }
-    let value = vec![0; 255];
-    assert_eq!(read(&zeros(255)), Ok(Record::Data { offset: 0, value }));
+    assert_eq!(read(&zeros(255)), Ok(data(255)));
 }
 
-#[test]
-fn records_are_written_and_read_again() {
-    let records = [
+/// A record of each type, with its line and its type.
+fn one_of_each() -> [(Record, &'static str, u8); 6] {
+    [
         (Record::EndOfFile, ":00000001FF", types::END_OF_FILE),
         (
             Record::ExtendedSegmentAddress(0x1200),
@@ -108,16 +113,16 @@ fn records_are_written_and_read_again() {
             ":00001000F0",
             types::DATA,
         ),
-    ];
-    for (record, line, kind) in records {
+    ]
+}
+
+#[test]
+fn records_are_written_and_read_again() {
+    for (record, line, kind) in one_of_each() {
         assert_eq!(record.record_type(), kind);
         assert_eq!(record.to_record_string().as_deref(), Ok(line));
         assert_eq!(read(line), Ok(record));
     }
-    let data = |n| Record::Data {
-        offset: 0,
-        value: vec![0; n],
-    };
     assert_eq!(data(255).to_record_string(), Ok(zeros(255)));
     let long = Err(WriterError::DataExceedsMaximumLength(256));
     assert_eq!(data(256).to_record_string(), long);
@@ -125,10 +130,6 @@ fn records_are_written_and_read_again() {
 
 #[test]
 fn objects_are_refused_in_order() {
-    let data = |n| Record::Data {
-        offset: 0,
-        value: vec![0; n],
-    };
     let end = || Record::EndOfFile;
     let written = |records: &[Record]| create_object_file_representation(records);
     let missing = Err(WriterError::MissingEndOfFileRecord);
@@ -230,44 +231,95 @@ fn checksums() {
     assert_eq!(checksum("0"), 0xD0);
 }
 
+/// Each refusal of a line, with its number and its text.
+const READER_ERRORS: [(ReaderError, u32, &str); 9] = [
+    (ReaderError::MissingStartCode, 1, "missing start code ':'"),
+    (
+        ReaderError::ContainsInvalidCharacters,
+        2,
+        "invalid characters encountered in record",
+    ),
+    (ReaderError::RecordTooShort, 3, "too short"),
+    (ReaderError::RecordTooLong, 4, "too long"),
+    (
+        ReaderError::RecordNotEvenLength,
+        5,
+        "record does not contain a whole number of bytes",
+    ),
+    (
+        ReaderError::ChecksumMismatch(255, 14),
+        6,
+        "invalid checksum 'FF', expecting '0E'",
+    ),
+    (
+        ReaderError::PayloadLengthMismatch,
+        7,
+        "payload length does not match record header",
+    ),
+    (
+        ReaderError::UnsupportedRecordType(6),
+        8,
+        "unsupported IHEX record type '06'",
+    ),
+    (
+        ReaderError::InvalidLengthForType,
+        9,
+        "payload length invalid for record type",
+    ),
+];
+
+/// Each refusal of a writer, with its number and its text.
+const WRITER_ERRORS: [(WriterError, u32, &str); 4] = [
+    (
+        WriterError::DataExceedsMaximumLength(300),
+        12,
+        "record has 300 bytes (max 255)",
+    ),
+    (
+        WriterError::MissingEndOfFileRecord,
+        13,
+        "object is missing end of file record",
+    ),
+    (
+        WriterError::MultipleEndOfFileRecords(2),
+        14,
+        "object contains 2 end of file records",
+    ),
+    (
+        WriterError::SynthesisFailed,
+        0,
+        "unable to write string representation of record",
+    ),
+];
+
+/// Each refusal of a load that is no line's, with its number, its line and its text.
+const LOAD_ERRORS: [(LoadError, u32, Option<usize>, &str); 3] = [
+    (
+        LoadError::MissingEndOfFileRecord,
+        13,
+        None,
+        "text has no end of file record",
+    ),
+    (
+        LoadError::BadWindow,
+        16,
+        None,
+        "page and marks are no window",
+    ),
+    (
+        LoadError::OutsideWindow {
+            line: 2,
+            address: 0x12005,
+        },
+        17,
+        Some(2),
+        "line 2: address 00012005 lies outside the window",
+    ),
+];
+
 #[test]
 fn errors_print_and_have_numbers() {
-    let readers = [
-        (ReaderError::MissingStartCode, 1, "missing start code ':'"),
-        (
-            ReaderError::ContainsInvalidCharacters,
-            2,
-            "invalid characters encountered in record",
-        ),
-        (ReaderError::RecordTooShort, 3, "too short"),
-        (ReaderError::RecordTooLong, 4, "too long"),
-        (
-            ReaderError::RecordNotEvenLength,
-            5,
-            "record does not contain a whole number of bytes",
-        ),
-        (
-            ReaderError::ChecksumMismatch(255, 14),
-            6,
-            "invalid checksum 'FF', expecting '0E'",
-        ),
-        (
-            ReaderError::PayloadLengthMismatch,
-            7,
-            "payload length does not match record header",
-        ),
-        (
-            ReaderError::UnsupportedRecordType(6),
-            8,
-            "unsupported IHEX record type '06'",
-        ),
-        (
-            ReaderError::InvalidLengthForType,
-            9,
-            "payload length invalid for record type",
-        ),
-    ];
-    for (error, number, text) in readers {
+    for (error, number, text) in READER_ERRORS {
         assert_eq!((error.number(), error.to_string().as_str()), (number, text));
         let refused = LineError { line: 7, error };
         assert_eq!(refused.to_string(), format!("line 7: {text}"));
@@ -275,56 +327,10 @@ fn errors_print_and_have_numbers() {
         assert_eq!((load.number(), load.line()), (number, Some(7)));
         assert_eq!(load.to_string(), refused.to_string());
     }
-    let writers = [
-        (
-            WriterError::DataExceedsMaximumLength(300),
-            12,
-            "record has 300 bytes (max 255)",
-        ),
-        (
-            WriterError::MissingEndOfFileRecord,
-            13,
-            "object is missing end of file record",
-        ),
-        (
-            WriterError::MultipleEndOfFileRecords(2),
-            14,
-            "object contains 2 end of file records",
-        ),
-        (
-            WriterError::SynthesisFailed,
-            0,
-            "unable to write string representation of record",
-        ),
-    ];
-    for (error, number, text) in writers {
+    for (error, number, text) in WRITER_ERRORS {
         assert_eq!((error.number(), error.to_string().as_str()), (number, text));
     }
-    let outside = LoadError::OutsideWindow {
-        line: 2,
-        address: 0x12005,
-    };
-    let loads = [
-        (
-            LoadError::MissingEndOfFileRecord,
-            13,
-            None,
-            "text has no end of file record",
-        ),
-        (
-            LoadError::BadWindow,
-            16,
-            None,
-            "page and marks are no window",
-        ),
-        (
-            outside,
-            17,
-            Some(2),
-            "line 2: address 00012005 lies outside the window",
-        ),
-    ];
-    for (error, number, line, text) in loads {
+    for (error, number, line, text) in LOAD_ERRORS {
         assert_eq!((error.number(), error.line()), (number, line));
         assert_eq!(error.to_string(), text);
     }
