@@ -287,6 +287,10 @@ def some_bytes(n, start=0):
     return bytes((start + 7 * i) % 223 for i in range(n))
 
 
+# The longest line that is a record.
+LONGEST = record(0, 0, some_bytes(255))
+
+
 class Numbers:
     """A row of numbers that is the same on every machine."""
 
@@ -315,10 +319,9 @@ def of_document_01():
     line_case(":02000004FFFFFC", "X4 FFFF")
     line_case(":04000005000000CD2A", "X5 000000CD")
     heading("document 01: the other lines")
-    longest = record(0, 0, some_bytes(255))
-    assert len(longest) == 521 and longest.startswith(":FF")
-    line_case(longest, "D 0000 0 FF", pool=255)
-    line_case(longest + "0", "! 4", pool=255)
+    assert len(LONGEST) == 521 and LONGEST.startswith(":FF")
+    line_case(LONGEST, "D 0000 0 FF", pool=255)
+    line_case(LONGEST + "0", "! 4", pool=255)
     line_case(":00000001FF\r", "! 2")
     line_case("\r", "! 1")
     line_case(":02FFFF00AABB9B", "D FFFF 0 2")
@@ -523,9 +526,12 @@ def of_chance():
 
 END = ":00000001FF"
 END_RECORD = (1, 0, 0, 0, 0)
-# A line for each refusal from 1 to 9.
+# A line for each record type, and what is told of it.
+GOOD = [":010005007783", ":020000021200EA", ":0400000312345678E5", ":02000004FFFFFC", ":04000005000000CD2A", END]
+GOOD_SAID = ["D 0005 0 1", "X2 1200", "X3 12345678", "X4 FFFF", "X5 000000CD", "E"]
+# A line for each refusal from 1 to 9, and what is told of it.
 BAD = ["00000001FF", ":0000000G", ":0100000", ":" + "0" * 521, ":00000001FF0", ":00000001FE", ":01000000FF", ":00000006FA", ":0100000100FE"]
-SAID = ["! 1", "! 2", "! 3", "! 4", "! 5", "! 6 FF FE", "! 7", "! 8 06", "! 9"]
+BAD_SAID = ["! 1", "! 2", "! 3", "! 4", "! 5", "! 6 FF FE", "! 7", "! 8 06", "! 9"]
 
 
 def data(offset, at, length):
@@ -536,7 +542,12 @@ def ended(*lines, end="\n"):
     return "".join(line + end for line in lines)
 
 
-def of_texts():
+def numbered(said):
+    """What is told of lines that stand one below the other."""
+    return [f"{one} @{i:X}" for i, one in enumerate(said, 1)]
+
+
+def of_the_stops():
     listed = ":04012000102030403B\n\n:00000001FE\n:00000001FF\n"
     heading("texts: all four settings of the stops")
     text_case(listed, ["D 0120 0 4 @1", "! 6 FF FE @3", "E @4", "done @4", "done @4"], flags=2)
@@ -552,6 +563,9 @@ def of_texts():
     text_case(tail, ["D 0005 0 1 @1", "E @2", "done @2", "done @2"], flags=2)
     text_case(tail, ["D 0005 0 1 @1", "E @2", "done @2", "done @2"], flags=3)
     text_case(tail[:-1], ["D 0005 0 1 @1", "E @2", "D 0006 0 1 @3", "E @4", "! 4 @5", "done @5", "done @5"], flags=0)
+
+
+def of_line_ends():
     heading("texts: line ends, empty lines and their numbers")
     for flags in range(4):
         text_case("", ["done @0", "done @0"], flags)
@@ -583,12 +597,14 @@ def of_texts():
         for end in ("\n", "\r\n", "\r\r\n", ""):
             text_case(":" + "0" * (n - 1) + end, flags=0)
             text_case(":" + "0" * (n - 1) + end + END, flags=0)
+
+
+def of_rows_of_answers():
     heading("texts: every record type, and each refusal from 1 to 9")
-    kinds = ended(":0100050077" + "83", ":020000021200EA", ":0400000312345678E5", ":02000004FFFFFC", ":04000005000000CD2A", END)
     for flags in range(4):
-        text_case(kinds, ["D 0005 0 1 @1", "X2 1200 @2", "X3 12345678 @3", "X4 FFFF @4", "X5 000000CD @5", "E @6", "done @6", "done @6"], flags)
-    text_case(ended(*BAD, END), [*(f"{said} @{i:X}" for i, said in enumerate(SAID, 1)), "E @A", "done @A", "done @A"], flags=2)
-    for line, said in zip(BAD, SAID):
+        text_case(ended(*GOOD), [*numbered(GOOD_SAID), "done @6", "done @6"], flags)
+    text_case(ended(*BAD, END), [*numbered([*BAD_SAID, "E"]), "done @A", "done @A"], flags=2)
+    for line, said in zip(BAD, BAD_SAID):
         text_case(ended("", line, END), [f"{said} @2", "done @2", "done @2"])
         text_case(ended("", line, END), [f"{said} @2", "E @3", "done @3", "done @3"], flags=2)
         text_case(line, [f"{said} @1", "done @1", "done @1"], flags=0)
@@ -598,23 +614,26 @@ def of_texts():
         text_case(":02FFFF00AABB9B", ["! 10 @0", "D FFFF 0 2 @1"], flags, pool=1)
         text_case(":010005007783\n", ["! 10 @0", "D 0005 0 1 @1"], flags, pool=0)
         text_case(":0000050" + "0FB", ["D 0005 0 0 @1", "done @1", "done @1"], flags, pool=0)
-    longest = record(0, 0, some_bytes(255))
-    text_case(ended(longest, END), ["! 10 @0", "D 0000 0 FF @1"], pool=254)
-    text_case(ended(longest, END), ["D 0000 0 FF @1", "E @2", "done @2", "done @2"], pool=255)
+    text_case(ended(LONGEST, END), ["! 10 @0", "D 0000 0 FF @1"], pool=254)
+    text_case(ended(LONGEST, END), ["D 0000 0 FF @1", "E @2", "done @2", "done @2"], pool=255)
     heading("texts: payloads over one another, each from the pool's start")
     text_case(ended(record(0, 1, b"\x11\x22\x33\x44"), record(0, 2, b"\x55\x66"), record(0, 3, b""), record(0, 4, b"\x77"), END), pool=6)
     heading("texts: more than 40 answers")
-    text_case("x\n" * 45, [f"! 1 @{i:X}" for i in range(1, 42)], flags=0)
-    text_case(ended(END) * 45, [f"E @{i:X}" for i in range(1, 42)], flags=1)
+    text_case("x\n" * 45, numbered(["! 1"] * 41), flags=0)
+    text_case(ended(END) * 45, numbered(["E"] * 41), flags=1)
+
+
+def of_first_answers():
     heading("texts: the first answer alone, of a reader that was opened anew")
     first_case("", "done")
     first_case("\n\r\n\n", "done")
-    for line, said in zip(BAD, SAID):
+    for line, said in zip(BAD + GOOD, BAD_SAID + GOOD_SAID):
         first_case(ended("", line, END), said)
-    for line, said in zip(kinds.split("\n"), ["D 0005 0 1", "X2 1200", "X3 12345678", "X4 FFFF", "X5 000000CD", "E"]):
-        first_case(ended("", line, END), said)
-    first_case(ended(longest, END), "! 10", pool=254)
-    first_case(ended(longest, END), "D 0000 0 FF", pool=255)
+    first_case(ended(LONGEST, END), "! 10", pool=254)
+    first_case(ended(LONGEST, END), "D 0000 0 FF", pool=255)
+
+
+def of_short_texts():
     heading("texts: every text of up to four bytes of LF, CR, the colon and 0, with both stops off")
     for n in range(5):
         for i in range(4**n):
@@ -686,11 +705,13 @@ def of_objects():
     object_case([END_RECORD, (2, 1, 0, 0, 0), END_RECORD, data(0, 0, 1), END_RECORD], "! 14 3", b"\x01")
     heading("objects: every record type")
     every = [data(5, 0, 1), (2, 0x1200, 0, 0, 0), (3, 0x1234, 0x5678, 0, 0), (4, 0xFFFF, 0, 0, 0), (5, 0xCD, 0, 0, 0), END_RECORD]
-    lines = [":010005007783", ":020000021200EA", ":0400000312345678E5", ":02000004FFFFFC", ":04000005000000CD2A", END]
-    whole = sum(len(line) + 1 for line in lines)
-    object_case(every, lines, b"\x77", out=whole)
-    object_case(every, lines, b"\x77", out=whole + 9)
+    whole = len(ended(*GOOD))
+    object_case(every, GOOD, b"\x77", out=whole)
+    object_case(every, GOOD, b"\x77", out=whole + 9)
     object_case(every, "! 15", b"\x77", out=whole - 1)
+
+
+def of_refused_payloads():
     heading("objects: the first record with 11 or 12, and nothing written ahead of it")
     many = some_bytes(300)
     object_case([data(0, 0, 4), data(0, 0, 256), data(0, 300, 1), END_RECORD], "! 12 100", many)
@@ -709,14 +730,19 @@ def of_objects():
     object_case([data(1, 0, 3), data(2, 1, 3), data(3, 0, 4), END_RECORD], pool=b"\x11\x22\x33\x44")
 
 
-def of_loads():
-    example = ended(":020000021200EA", ":010005007783", END)
+# Document 01's example of a load: a byte at 12005.
+PLACED = ended(":020000021200EA", ":010005007783", END)
+# A byte 77 at offset 2, and lines that set the base to 12340 and to 10000.
+ONE, SEGMENT, LINEAR = record(0, 2, b"\x77"), record(2, 0, b"\x12\x34"), record(4, 0, b"\x00\x01")
+
+
+def of_addresses():
     heading("loads: document 01's example")
-    load_case(example, "A 1", 0x12000, 8, places={5: 0x77})
-    load_case(example, "A 1", 0x12005, 1, places={0: 0x77})
-    load_case(example, "! 17 00012005 @2", 0x12000, 5)
-    load_case(example, "! 17 00012005 @2", 0x12006, 5)
-    load_case(example, "A 1", 0x12000, 6, places={5: 0x77})
+    load_case(PLACED, "A 1", 0x12000, 8, places={5: 0x77})
+    load_case(PLACED, "A 1", 0x12005, 1, places={0: 0x77})
+    load_case(PLACED, "! 17 00012005 @2", 0x12000, 5)
+    load_case(PLACED, "! 17 00012005 @2", 0x12006, 5)
+    load_case(PLACED, "A 1", 0x12000, 6, places={5: 0x77})
     heading("loads: data at FFFF and 10000")
     over = ended(":02FFFF00AABB9B", END)
     load_case(over, "A 1", 0xFFFF, 2, places={0: 0xAA, 1: 0xBB})
@@ -734,13 +760,16 @@ def of_loads():
     load_case(ended(":02000004FFFFFC", record(0, 0xFFFF, b"\x77"), END), "A 1", 0xFFFFFFFF, 1, places={0: 0x77})
     load_case(ended(":02000004FFFFFC", record(0, 0xFFFF, b"\x77"), END), "A 1", 0xFFFF0000, 65536, places={0xFFFF: 0x77})
     load_case(ended(":02000004FFFFFC", record(0, 0xFFFE, some_bytes(4, 1)), END), "! 17 00000000 @2", 0xFFFFFFC0, 64)
+
+
+def of_windows():
     heading("loads: windows of length 0 and 1, to 2^32 and past it, of 65,536 and 65,537 places, page and marks of two lengths")
     empty = ended(END)
     for first in (0, 1, 0x12000, 2**31, 2**32 - 1):
         load_case(empty, "A 0", first, 0, places={})
         load_case(empty, "A 0", first, 1, places={})
-        load_case(example, "! 17 00012005 @2", first, 0)
-        load_case(example, "! 17 00012005 @2", first, 1)
+        load_case(PLACED, "! 17 00012005 @2", first, 0)
+        load_case(PLACED, "! 17 00012005 @2", first, 1)
         load_case(empty, "A 0" if first + 2 <= 2**32 else "! 16 @0", first, 2)
         for page, marks in ((0, 1), (1, 0), (8, 7), (7, 8), (65536, 65535), (65537, 65536), (0, 65537)):
             load_case(empty, "! 16 @0", first, page, marks)
@@ -750,10 +779,13 @@ def of_loads():
     load_case(empty, "! 16 @0", 2**32 - 65535, 65536)
     load_case(empty, "A 0", 0, 65536, places={})
     load_case(empty, "! 16 @0", 0, 65537)
-    load_case(example, "A 1", 0x12000, 65536, places={5: 0x77})
-    load_case(example, "! 16 @0", 0x12000, 65537)
+    load_case(PLACED, "A 1", 0x12000, 65536, places={5: 0x77})
+    load_case(PLACED, "! 16 @0", 0x12000, 65537)
     load_case("", "! 16 @0", 0, 8, 7)
     load_case(BAD[0], "! 16 @0", 0, 8, 7)
+
+
+def of_records_half_inside():
     heading("loads: a data record half inside")
     four = ended(record(0, 0x100, b"\x11\x22\x33\x44"), END)
     load_case(four, "A 1", 0x100, 4, places={0: 0x11, 1: 0x22, 2: 0x33, 3: 0x44})
@@ -763,56 +795,66 @@ def of_loads():
         load_case(four, "! 17 00000100 @1", 0x101 + n, 4)
     load_case(ended("", record(0, 0, b"\x11"), "", record(0, 6, some_bytes(4)), END), "! 17 00000008 @4")
     load_case(ended("", record(0, 0, b"\x11"), "", record(0, 6, some_bytes(4)), BAD[0]), "! 17 00000008 @4")
+
+
+def of_bases():
     heading("loads: bases, the latest of types 02 and 04 in force, start records place nothing")
-    one = record(0, 2, b"\x77")
-    segment, linear = record(2, 0, b"\x12\x34"), record(4, 0, b"\x00\x01")
-    load_case(ended(one, END), "A 1", places={2: 0x77})
-    load_case(ended(segment, one, END), "A 1", 0x12340, places={2: 0x77})
-    load_case(ended(linear, one, END), "A 1", 0x10000, places={2: 0x77})
-    load_case(ended(segment, linear, one, END), "A 1", 0x10000, places={2: 0x77})
-    load_case(ended(linear, segment, one, END), "A 1", 0x12340, places={2: 0x77})
-    load_case(ended(linear, segment, record(4, 0, b"\x00\x00"), one, END), "A 1", 0, places={2: 0x77})
-    load_case(ended(linear, record(2, 0, b"\x00\x00"), one, END), "A 1", 0, places={2: 0x77})
+    load_case(ended(ONE, END), "A 1", places={2: 0x77})
+    load_case(ended(SEGMENT, ONE, END), "A 1", 0x12340, places={2: 0x77})
+    load_case(ended(LINEAR, ONE, END), "A 1", 0x10000, places={2: 0x77})
+    load_case(ended(SEGMENT, LINEAR, ONE, END), "A 1", 0x10000, places={2: 0x77})
+    load_case(ended(LINEAR, SEGMENT, ONE, END), "A 1", 0x12340, places={2: 0x77})
+    load_case(ended(LINEAR, SEGMENT, record(4, 0, b"\x00\x00"), ONE, END), "A 1", 0, places={2: 0x77})
+    load_case(ended(LINEAR, record(2, 0, b"\x00\x00"), ONE, END), "A 1", 0, places={2: 0x77})
     load_case(ended(record(2, 0, b"\xFF\xFF"), record(0, 0xFFFF, b"\x77"), END), "A 1", 0x10FFE8, places={7: 0x77})
-    load_case(ended(one, linear, record(0, 0, b"\x55"), END), "! 17 00010000 @3", 0)
-    load_case(ended(record(0, 0xFFFF, b"\x11"), linear, record(0, 0, b"\x22"), END), "A 2", 0xFFFC, places={3: 0x11, 4: 0x22})
-    load_case(ended(record(3, 0, b"\x12\x34\x56\x78"), one, record(5, 0, b"\x00\x01\x00\x00"), record(0, 3, b"\x66"), END), "A 2", places={2: 0x77, 3: 0x66})
-    load_case(ended(record(2, 0x1234, b"\x00\x00"), record(4, 5, b"\x00\x00"), one, ":00123401B9"), "A 1", places={2: 0x77})
+    load_case(ended(ONE, LINEAR, record(0, 0, b"\x55"), END), "! 17 00010000 @3", 0)
+    load_case(ended(record(0, 0xFFFF, b"\x11"), LINEAR, record(0, 0, b"\x22"), END), "A 2", 0xFFFC, places={3: 0x11, 4: 0x22})
+    load_case(ended(record(3, 0, b"\x12\x34\x56\x78"), ONE, record(5, 0, b"\x00\x01\x00\x00"), record(0, 3, b"\x66"), END), "A 2", places={2: 0x77, 3: 0x66})
+    load_case(ended(record(2, 0x1234, b"\x00\x00"), record(4, 5, b"\x00\x00"), ONE, ":00123401B9"), "A 1", places={2: 0x77})
+
+
+def of_records_over_one_another():
     heading("loads: records over one another, the last one holds")
     load_case(ended(record(0, 0, b"\x11\x12\x13\x14"), record(0, 2, b"\x21\x22\x23"), END), "A 2", places={0: 0x11, 1: 0x12, 2: 0x21, 3: 0x22, 4: 0x23})
     load_case(ended(record(0, 2, b"\x21\x22\x23"), record(0, 0, b"\x11\x12\x13\x14"), END), "A 2", places={0: 0x11, 1: 0x12, 2: 0x13, 3: 0x14, 4: 0x23})
     load_case(ended(*(record(0, 3, bytes([b])) for b in (1, 2, 3, 0xCC)), END), "A 4", places={3: 0xCC})
-    load_case(ended(record(0, 1, b"\x11"), segment, linear, record(4, 0, b"\x00\x00"), record(0, 1, b"\x22"), END), "A 2", places={1: 0x22})
+    load_case(ended(record(0, 1, b"\x11"), SEGMENT, LINEAR, record(4, 0, b"\x00\x00"), record(0, 1, b"\x22"), END), "A 2", places={1: 0x22})
     heading("loads: empty data records are counted, also outside the window")
     load_case(ended(":0000000000", END), "A 1", places={})
-    load_case(ended(record(0, 0xFFFF, b""), linear, record(0, 0x8000, b""), one, END), "! 17 00010002 @4")
-    load_case(ended(record(0, 0xFFFF, b""), one, linear, record(0, 0x8000, b""), END), "A 3", places={2: 0x77})
+    load_case(ended(record(0, 0xFFFF, b""), LINEAR, record(0, 0x8000, b""), ONE, END), "! 17 00010002 @4")
+    load_case(ended(record(0, 0xFFFF, b""), ONE, LINEAR, record(0, 0x8000, b""), END), "A 3", places={2: 0x77})
     load_case(ended(*[":0000000000"] * 20, END), "A 14", page=0, places={})
+
+
+def of_refused_loads():
     heading("loads: each refusal from 1 to 9 with its line, and 13")
-    for line, said in zip(BAD, SAID):
+    for line, said in zip(BAD, BAD_SAID):
         load_case(line, f"{said} @1")
         load_case(ended(line, END), f"{said} @1")
-        load_case(ended("", one, "", "", line, END), f"{said} @5")
-        load_case(ended("", one, "", line, END, end="\r\n"), f"{said} @4")
-        load_case(ended(one, line, record(0, 8, b"\x77"), END), f"{said} @2")
-        load_case(ended(one, record(0, 8, b"\x77"), line, END), "! 17 00000008 @2")
-        load_case(ended(one, END, line), "A 1", places={2: 0x77})
+        load_case(ended("", ONE, "", "", line, END), f"{said} @5")
+        load_case(ended("", ONE, "", line, END, end="\r\n"), f"{said} @4")
+        load_case(ended(ONE, line, record(0, 8, b"\x77"), END), f"{said} @2")
+        load_case(ended(ONE, record(0, 8, b"\x77"), line, END), "! 17 00000008 @2")
+        load_case(ended(ONE, END, line), "A 1", places={2: 0x77})
     load_case("", "! 13 @0")
     load_case("\n\r\n", "! 13 @0")
-    load_case(ended(one), "! 13 @0")
-    load_case(one, "! 13 @0")
-    load_case(ended(one, segment, linear), "! 13 @0")
-    load_case(ended(one) + ":00000001FE", "! 6 FF FE @2")
-    load_case(ended(one) + END + "\r", "! 2 @2")
-    load_case(ended(one) + "\r\r\n" + END, "! 1 @2")
-    load_case(ended(one) + END, "A 1", places={2: 0x77})
-    load_case(ended(one, END, end="\r\n"), "A 1", places={2: 0x77})
-    load_case("\n\n" + one + "\n\r\n" + END + "\r\n", "A 1", places={2: 0x77})
+    load_case(ended(ONE), "! 13 @0")
+    load_case(ONE, "! 13 @0")
+    load_case(ended(ONE, SEGMENT, LINEAR), "! 13 @0")
+    load_case(ended(ONE) + ":00000001FE", "! 6 FF FE @2")
+    load_case(ended(ONE) + END + "\r", "! 2 @2")
+    load_case(ended(ONE) + "\r\r\n" + END, "! 1 @2")
+    load_case(ended(ONE) + END, "A 1", places={2: 0x77})
+    load_case(ended(ONE, END, end="\r\n"), "A 1", places={2: 0x77})
+    load_case("\n\n" + ONE + "\n\r\n" + END + "\r\n", "A 1", places={2: 0x77})
+
+
+def of_the_incident():
     heading("the incident: what stands behind the end record changes nothing")
     dump = ended(record(0, 0, some_bytes(16, 1)), record(0, 0x20, some_bytes(16, 2)), END)
     stored = dict(zip([*range(16), *range(32, 48)], some_bytes(16, 1) + some_bytes(16, 2)))
     old = ended(record(0, 8, some_bytes(16, 99)), record(0, 0x18, some_bytes(16, 77)), END)
-    for tail in ("", old, old[5:], old[1:], old[14:], old.lower(), "\n\n" + old, "\x00" * 40, "\xff" * 40, "garbage", ":0000000", "\r", "\r\n", ":", END, ended(END) * 9, ended(*BAD), record(0, 0x40, b"\x01"), ended(linear, one, segment)):
+    for tail in ("", old, old[5:], old[1:], old[14:], old.lower(), "\n\n" + old, "\x00" * 40, "\xff" * 40, "garbage", ":0000000", "\r", "\r\n", ":", END, ended(END) * 9, ended(*BAD), record(0, 0x40, b"\x01"), ended(LINEAR, ONE, SEGMENT)):
         load_case(dump + tail, "A 2", 0, 48, places=stored)
         text_case(dump + tail, ["D 0000 0 10 @1", "D 0020 0 10 @2", "E @3", "done @3", "done @3"], pool=16)
     load_case(dump.replace("\n", "\r\n") + old[3:], "A 2", 0, 48, places=stored)
@@ -856,7 +898,7 @@ def of_chance_again():
         load_case(text, first=0, page=(128, 65536)[numbers.below(2)])
 
 
-def main():
+def make_all():
     of_document_01()
     of_the_checksum()
     of_the_digits()
@@ -865,11 +907,26 @@ def main():
     of_the_fields()
     of_the_pool()
     of_chance()
-    of_texts()
+    of_the_stops()
+    of_line_ends()
+    of_rows_of_answers()
+    of_first_answers()
+    of_short_texts()
     of_one_record()
     of_objects()
-    of_loads()
+    of_refused_payloads()
+    of_addresses()
+    of_windows()
+    of_records_half_inside()
+    of_bases()
+    of_records_over_one_another()
+    of_refused_loads()
+    of_the_incident()
     of_chance_again()
+
+
+def hold_to_every_answer():
+    """Each form has a case for each answer that it can be given, and no case is too long for `replay`."""
     told = {c[0]: set() for c in cases}
     for c, a in zip(cases, answers):
         assert len(c) <= 4096, f"a case is too long: {c}"
@@ -879,16 +936,26 @@ def main():
                          ("O", ["W", *range(11, 16)]), ("M", ["A", *range(1, 10), 13, 16, 17])):
         for w in (f"! {w}" if isinstance(w, int) else w for w in wanted):
             assert any(t == w or t.startswith(w + " ") for t in told[form]), f"no case {form} is answered {w}"
-    made = {"stdin": cases, "stdout": answers}
-    number = sum(not c.startswith("#") for c in cases)
+
+
+def store(name, text):
+    """Writes the text to the file of that name; with --check, holds the file to it."""
+    path = FOLDER / name
+    if "--check" not in sys.argv[1:]:
+        path.write_text(text, encoding="ascii")
+    elif not path.exists() or path.read_bytes() != text.encode("ascii"):
+        sys.exit(f"crates/replay/{name} is not what tests/make_cases.py makes")
+
+
+def main():
+    make_all()
+    hold_to_every_answer()
     size = 0
-    for name, rows in made.items():
+    for name, rows in (("stdin", cases), ("stdout", answers)):
         text = "\n".join(rows) + "\n"
         size += len(text)
-        if "--check" not in sys.argv[1:]:
-            (FOLDER / name).write_text(text, encoding="ascii")
-        elif not (FOLDER / name).exists() or (FOLDER / name).read_bytes() != text.encode("ascii"):
-            sys.exit(f"crates/replay/{name} is not what tests/make_cases.py makes")
+        store(name, text)
+    number = sum(not c.startswith("#") for c in cases)
     forms = ", ".join(f"{sum(c.startswith(form) for c in cases)} {form}" for form in "CLTWOM")
     print(f"{number} cases ({forms}), {size} bytes in the two files")
 
