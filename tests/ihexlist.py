@@ -1,13 +1,15 @@
 #!/usr/bin/env python3
 """Runs the built program ihexlist and compares what it prints to the byte. `rt check ihexlist` builds it.
 
-The expected listings are written out by hand, or made by the few lines of `listing` below, which know no code of the program.
+The expected listings are written out by hand, or made by the few lines of `listing` below and the model of the reader in
+model.py, which know no code of the program.
 The last line is 'N passed, M failed'; the exit status is 1 if any failed.
 """
 import os
-import re
 import subprocess
 import sys
+
+import model
 
 ROOT = os.path.dirname(os.path.dirname(os.path.abspath(__file__)))
 LIMIT = 65536
@@ -49,52 +51,24 @@ def listed(name, text, expected):
 
 
 def record(kind, address, payload):
-    """The line of a record, with its checksum."""
-    body = bytes([len(payload), address >> 8, address & 255, kind]) + payload
-    return b':' + (body + bytes([-sum(body) & 255])).hex().upper().encode()
+    return model.record(kind, address, payload).encode()
 
 
 def entry(line):
-    """What document 01 has printed for a line: the rules of its table, in their order."""
-    if line[:1] != b':':
-        return b'! 1'
-    digits = line[1:]
-    if not re.fullmatch(b'[0-9A-Fa-f]*', digits):
-        return b'! 2'
-    if len(digits) < 10:
-        return b'! 3'
-    if len(digits) > 520:
-        return b'! 4'
-    if len(digits) % 2:
-        return b'! 5'
-    row = bytes.fromhex(digits.decode())
-    if sum(row) & 255:
-        return b'! 6 %02X %02X' % (-sum(row[:-1]) & 255, row[-1])
-    payload, kind = row[4:-1], row[3]
-    if row[0] != len(payload):
-        return b'! 7'
-    if kind > 5:
-        return b'! 8 %02X' % kind
-    if kind and len(payload) != (0, 0, 2, 4, 2, 4)[kind]:
-        return b'! 9'
-    shown = payload.hex().upper().encode()
-    if kind == 0:
-        return b'D ' + row[1:3].hex().upper().encode() + (b' ' + shown if shown else b'')
-    return b'E' if kind == 1 else b'X%d %s' % (kind, shown)
-
-
-def lines(text):
-    """A text cut at each LF, with one CR directly before it dropped; a last line without LF counts if it has a byte."""
-    cut = text.split(b'\n')
-    ended = [line[:-1] if line.endswith(b'\r') else line for line in cut[:-1]]
-    return ended + ([cut[-1]] if cut[-1] else [])
+    """What document 01 has printed for a line."""
+    refusal, given = model.read(line)
+    if refusal is not None:
+        return refusal.encode()
+    kind, address, payload = given
+    told = model.told_other(kind, payload) if kind else 'D %04X %s' % (address, payload.hex().upper())
+    return told.rstrip().encode()
 
 
 def listing(text):
     if len(text) > LIMIT:
         return b'input too long\n'
     out = []
-    for line in lines(text):
+    for line in model.lines_of(text):
         if line:
             out.append(entry(line))
             if out[-1] == b'E':

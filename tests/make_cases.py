@@ -4,13 +4,14 @@
     tests/make_cases.py            writes the two files
     tests/make_cases.py --check    says whether the stored files are what it would write
 
-The answers come from a model of document 01 that is written here and shares nothing with the port.
-The examples of document 01 and the limits stand here with their answers as well, and the model is
-held to them. src/main.rt of `replay` says what a case looks like.
+The answers come from a model of document 01 that shares nothing with the port: its record reader is
+model.py, the rest stands here. The examples of document 01 and the limits stand here with their answers
+as well, and the model is held to them. src/main.rt of `replay` says what a case looks like.
 """
 import pathlib
-import re
 import sys
+
+from model import checksum, lines_of, read, record, told_other
 
 FOLDER = pathlib.Path(__file__).resolve().parent.parent / "crates" / "replay"
 TOP = 2**64 - 1
@@ -18,50 +19,20 @@ TOP = 2**64 - 1
 POOL, OUT, PAGE, MARKS = 0xEE, 0xDD, 0xCC, 0xAA
 
 
-# The model.
-
-def checksum(data):
-    return -sum(data) % 256
-
+# The model, behind the record reader.
 
 def judge(line, pool, position):
     """What the record reader answers, and the pool behind the call."""
-    if line[:1] != b":":
-        return "! 1", pool
-    digits = line[1:]
-    if not re.fullmatch(rb"[0-9A-Fa-f]*", digits, re.DOTALL):
-        return "! 2", pool
-    if len(digits) < 10:
-        return "! 3", pool
-    if len(digits) > 520:
-        return "! 4", pool
-    if len(digits) % 2 == 1:
-        return "! 5", pool
-    *body, stated = bytes.fromhex(digits.decode("ascii"))
-    computed = checksum(body)
-    if computed != stated:
-        return f"! 6 {computed:02X} {stated:02X}", pool
-    length, high, low, kind, *payload = body
-    payload = bytes(payload)
-    if length != len(payload):
-        return "! 7", pool
-    if kind > 5:
-        return f"! 8 {kind:02X}", pool
+    refusal, given = read(line)
+    if refusal is not None:
+        return refusal, pool
+    kind, address, payload = given
     if kind != 0:
-        if len(payload) != {1: 0, 2: 2, 3: 4, 4: 2, 5: 4}[kind]:
-            return "! 9", pool
-        return ("E" if kind == 1 else f"X{kind} {payload.hex().upper()}"), pool
+        return told_other(kind, payload), pool
     if position + len(payload) > len(pool):
         return "! 10", pool
     pool = pool[:position] + payload + pool[position + len(payload):]
-    return f"D {high * 256 + low:04X} {position:X} {len(payload):X}", pool
-
-
-def lines_of(text):
-    """The lines of a text, without their ends."""
-    *ended, last = text.split(b"\n")
-    rows = [line[:-1] if line.endswith(b"\r") else line for line in ended]
-    return rows + [last] if last else rows
+    return f"D {address:04X} {position:X} {len(payload):X}", pool
 
 
 class TextReader:
@@ -274,12 +245,6 @@ def load_case(text, answer=None, first=0, page=8, marks=None, places=None):
             sys.exit(f"the model stores {after.hex()} and marks {marked.hex()} for the load of {text!r} at {first:X}")
     cases.append(f"M {first:X} {page:X} {marks:X} {text.hex().upper()}".rstrip())
     answers.append(f"{told} |{told_long(after)} |{told_long(marked)}")
-
-
-def record(kind, address, payload, length=None, check=None):
-    """The line of a record in capitals; length byte and checksum as given, else the right ones."""
-    body = bytes([len(payload) if length is None else length, address >> 8, address & 255, kind]) + bytes(payload)
-    return ":" + (body + bytes([checksum(body) if check is None else check])).hex().upper()
 
 
 def some_bytes(n, start=0):

@@ -1,0 +1,52 @@
+"""A model of document 01's record reader, which shares nothing with the port."""
+import re
+
+
+def checksum(data):
+    return -sum(data) % 256
+
+
+def record(kind, address, payload, length=None, check=None):
+    """The line of a record in capitals; length byte and checksum as given, else the right ones."""
+    body = bytes([len(payload) if length is None else length, address >> 8, address & 255, kind]) + bytes(payload)
+    return ":" + (body + bytes([checksum(body) if check is None else check])).hex().upper()
+
+
+def read(line):
+    """The refusal of a line, told with its numbers, and None; or None, and the record's type, address and payload."""
+    if line[:1] != b":":
+        return "! 1", None
+    digits = line[1:]
+    if not re.fullmatch(rb"[0-9A-Fa-f]*", digits):
+        return "! 2", None
+    if len(digits) < 10:
+        return "! 3", None
+    if len(digits) > 520:
+        return "! 4", None
+    if len(digits) % 2 == 1:
+        return "! 5", None
+    *body, stated = bytes.fromhex(digits.decode("ascii"))
+    computed = checksum(body)
+    if computed != stated:
+        return f"! 6 {computed:02X} {stated:02X}", None
+    length, high, low, kind, *payload = body
+    if length != len(payload):
+        return "! 7", None
+    if kind > 5:
+        return f"! 8 {kind:02X}", None
+    if kind != 0 and len(payload) != {1: 0, 2: 2, 3: 4, 4: 2, 5: 4}[kind]:
+        return "! 9", None
+    return None, (kind, high * 256 + low, bytes(payload))
+
+
+def told_other(kind, payload):
+    """What is told of a record that is no data record."""
+    return "E" if kind == 1 else f"X{kind} {payload.hex().upper()}"
+
+
+def lines_of(text):
+    """The lines of a text, without their ends: cut at each LF, with one CR directly before it dropped. A last line without
+    LF counts if it has a byte."""
+    *ended, last = text.split(b"\n")
+    rows = [line[:-1] if line.endswith(b"\r") else line for line in ended]
+    return rows + [last] if last else rows
