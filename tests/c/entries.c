@@ -143,37 +143,35 @@ static uint32_t read_line(const char *l, size_t pool_len, size_t at)
     return r;
 }
 
-static void lines(void)
-{
-    static const struct {
-        const char *line;
-        uint32_t code;
-        uint64_t a, b, c;
-    } rows[] = {
-        {"", IHEX_REFUSED + IHEX_MISSING_START_CODE, 0, 0, 0},
-        {"00000001FF", IHEX_REFUSED + IHEX_MISSING_START_CODE, 0, 0, 0},
-        {":", IHEX_REFUSED + IHEX_RECORD_TOO_SHORT, 0, 0, 0},
-        {":G", IHEX_REFUSED + IHEX_CONTAINS_INVALID_CHARACTERS, 0, 0, 0},
-        {":0100000", IHEX_REFUSED + IHEX_RECORD_TOO_SHORT, 0, 0, 0},
-        {":00000001FF0", IHEX_REFUSED + IHEX_RECORD_NOT_EVEN_LENGTH, 0, 0, 0},
-        {":00000001FE", IHEX_REFUSED + IHEX_CHECKSUM_MISMATCH, 0xFF, 0xFE, 0},
-        {":01000000FF", IHEX_REFUSED + IHEX_PAYLOAD_LENGTH_MISMATCH, 0, 0, 0},
-        {":01000006F9", IHEX_REFUSED + IHEX_PAYLOAD_LENGTH_MISMATCH, 0, 0, 0},
-        {":00000006FA", IHEX_REFUSED + IHEX_UNSUPPORTED_RECORD_TYPE, 6, 0, 0},
-        {":0100000100FE", IHEX_REFUSED + IHEX_INVALID_LENGTH_FOR_TYPE, 0, 0, 0},
-        {":00000001FF\r", IHEX_REFUSED + IHEX_CONTAINS_INVALID_CHARACTERS, 0, 0, 0},
-        {":00123401B9", IHEX_END_OF_FILE, 0, 0, 0},
-        {":020000021200EA", IHEX_EXTENDED_SEGMENT_ADDRESS, 0x1200, 0, 0},
-        {":0400000312345678E5", IHEX_START_SEGMENT_ADDRESS, 0x1234, 0x5678, 0},
-        {":02000004FFFFFC", IHEX_EXTENDED_LINEAR_ADDRESS, 0xFFFF, 0, 0},
-        {":04000005000000CD2A", IHEX_START_LINEAR_ADDRESS, 0xCD, 0, 0},
-        {":0400000512345678E3", IHEX_START_LINEAR_ADDRESS, 0x12345678, 0, 0},
-    };
-    static const uint8_t payload[] = {0x10, 0x20, 0x30, 0x40};
-    static char longest[IHEX_MAX_LINE + 2];
-    static uint8_t zeros[IHEX_MAX_PAYLOAD];
-    size_t i;
+/* lines that leave the pool as it was: refused ones, and records without data */
+static const struct {
+    const char *line;
+    uint32_t code;
+    uint64_t a, b, c;
+} rows[] = {
+    {"", IHEX_REFUSED + IHEX_MISSING_START_CODE, 0, 0, 0},
+    {"00000001FF", IHEX_REFUSED + IHEX_MISSING_START_CODE, 0, 0, 0},
+    {":", IHEX_REFUSED + IHEX_RECORD_TOO_SHORT, 0, 0, 0},
+    {":G", IHEX_REFUSED + IHEX_CONTAINS_INVALID_CHARACTERS, 0, 0, 0},
+    {":0100000", IHEX_REFUSED + IHEX_RECORD_TOO_SHORT, 0, 0, 0},
+    {":00000001FF0", IHEX_REFUSED + IHEX_RECORD_NOT_EVEN_LENGTH, 0, 0, 0},
+    {":00000001FE", IHEX_REFUSED + IHEX_CHECKSUM_MISMATCH, 0xFF, 0xFE, 0},
+    {":01000000FF", IHEX_REFUSED + IHEX_PAYLOAD_LENGTH_MISMATCH, 0, 0, 0},
+    {":01000006F9", IHEX_REFUSED + IHEX_PAYLOAD_LENGTH_MISMATCH, 0, 0, 0},
+    {":00000006FA", IHEX_REFUSED + IHEX_UNSUPPORTED_RECORD_TYPE, 6, 0, 0},
+    {":0100000100FE", IHEX_REFUSED + IHEX_INVALID_LENGTH_FOR_TYPE, 0, 0, 0},
+    {":00000001FF\r", IHEX_REFUSED + IHEX_CONTAINS_INVALID_CHARACTERS, 0, 0, 0},
+    {":00123401B9", IHEX_END_OF_FILE, 0, 0, 0},
+    {":020000021200EA", IHEX_EXTENDED_SEGMENT_ADDRESS, 0x1200, 0, 0},
+    {":0400000312345678E5", IHEX_START_SEGMENT_ADDRESS, 0x1234, 0x5678, 0},
+    {":02000004FFFFFC", IHEX_EXTENDED_LINEAR_ADDRESS, 0xFFFF, 0, 0},
+    {":04000005000000CD2A", IHEX_START_LINEAR_ADDRESS, 0xCD, 0, 0},
+    {":0400000512345678E3", IHEX_START_LINEAR_ADDRESS, 0x12345678, 0, 0},
+};
 
+static void lines_without_data(void)
+{
+    size_t i;
     for (i = 0; i < sizeof rows / sizeof rows[0]; i++) {
         CHECK(read_line(rows[i].line, 8, 2) == rows[i].code);
         CHECK(values(rows[i].a, rows[i].b, rows[i].c));
@@ -181,7 +179,13 @@ static void lines(void)
         /* no pool at all */
         CHECK(read_line(rows[i].line, 0, 0) == rows[i].code);
     }
+}
 
+/* the payload of :04012000102030403B */
+static const uint8_t payload[] = {0x10, 0x20, 0x30, 0x40};
+
+static void lines_with_data(void)
+{
     CHECK(read_line(":04012000102030403B", 8, 2) == IHEX_DATA);
     CHECK(values(0x0120, 2, 4));
     CHECK(holds(&pool_, 2, payload, 4));
@@ -201,8 +205,13 @@ static void lines(void)
     CHECK(read_line(":00FFFF0002", 4, 4) == IHEX_DATA);
     CHECK(values(0xFFFF, 4, 0));
     CHECK(untouched(&pool_));
+}
 
-    /* 520 digits, and one more */
+/* 520 digits, and one more */
+static void longest_line(void)
+{
+    static char longest[IHEX_MAX_LINE + 2];
+    static uint8_t zeros[IHEX_MAX_PAYLOAD];
     memset(longest, '0', IHEX_MAX_LINE);
     memcpy(longest, ":FF", 3);
     memcpy(longest + IHEX_MAX_LINE - 2, "01", 2);
@@ -245,43 +254,49 @@ static int stands(size_t p, size_t l, uint8_t f)
     return position.value == p && line.value == l && flags.value == f;
 }
 
-static void texts(void)
-{
-    static const char text[] = ":04012000102030403B\n\n:00000001FE\n:00000001FF\n:G";
-    static const uint8_t payload[] = {0x10, 0x20, 0x30, 0x40};
+/* data, an empty line, a wrong checksum, an end record, and a line behind it */
+static const char mixed[] = ":04012000102030403B\n\n:00000001FE\n:00000001FF\n:G";
 
+static void stops(void)
+{
     begin(IHEX_STOP_AFTER_EOF);
-    CHECK(next(text, 8, 1) == IHEX_DATA);
+    CHECK(next(mixed, 8, 1) == IHEX_DATA);
     CHECK(values(0x0120, 1, 4) && stands(20, 1, IHEX_STOP_AFTER_EOF));
     CHECK(holds(&pool_, 1, payload, 4));
-    CHECK(next(text, 8, 1) == IHEX_REFUSED + IHEX_CHECKSUM_MISMATCH);
+    CHECK(next(mixed, 8, 1) == IHEX_REFUSED + IHEX_CHECKSUM_MISMATCH);
     CHECK(values(0xFF, 0xFE, 0) && stands(33, 3, IHEX_STOP_AFTER_EOF));
-    CHECK(next(text, 8, 1) == IHEX_END_OF_FILE);
+    CHECK(next(mixed, 8, 1) == IHEX_END_OF_FILE);
     CHECK(values(0, 0, 0) && stands(45, 4, IHEX_STOP_AFTER_EOF | IHEX_FINISHED));
-    CHECK(next(text, 8, 1) == IHEX_DONE);
+    CHECK(next(mixed, 8, 1) == IHEX_DONE);
     CHECK(values(0, 0, 0) && stands(45, 4, IHEX_STOP_AFTER_EOF | IHEX_FINISHED));
     CHECK(untouched(&pool_));
 
     begin(IHEX_STOP_AFTER_FIRST_ERROR | IHEX_STOP_AFTER_EOF);
-    CHECK(next(text, 8, 1) == IHEX_DATA);
-    CHECK(next(text, 8, 1) == IHEX_REFUSED + IHEX_CHECKSUM_MISMATCH);
+    CHECK(next(mixed, 8, 1) == IHEX_DATA);
+    CHECK(next(mixed, 8, 1) == IHEX_REFUSED + IHEX_CHECKSUM_MISMATCH);
     CHECK(stands(33, 3, IHEX_STOP_AFTER_FIRST_ERROR | IHEX_STOP_AFTER_EOF | IHEX_FINISHED));
-    CHECK(next(text, 8, 1) == IHEX_DONE);
+    CHECK(next(mixed, 8, 1) == IHEX_DONE);
 
     begin(IHEX_STOP_AFTER_FIRST_ERROR);
     CHECK(next(":00000001FF\n:00000001FF\n:G\n:", 0, 0) == IHEX_END_OF_FILE);
     CHECK(next(":00000001FF\n:00000001FF\n:G\n:", 0, 0) == IHEX_END_OF_FILE);
     CHECK(next(":00000001FF\n:00000001FF\n:G\n:", 0, 0) == IHEX_REFUSED + IHEX_CONTAINS_INVALID_CHARACTERS);
     CHECK(next(":00000001FF\n:00000001FF\n:G\n:", 0, 0) == IHEX_DONE);
+}
 
-    /* the pool is full: the state is as it was, and more room reads the line */
+/* the pool is full: the state is as it was, and more room reads the line */
+static void text_with_full_pool(void)
+{
     begin(0);
-    CHECK(next(text, 4, 1) == IHEX_REFUSED + IHEX_POOL_FULL);
+    CHECK(next(mixed, 4, 1) == IHEX_REFUSED + IHEX_POOL_FULL);
     CHECK(values(0, 0, 0) && stands(0, 0, 0) && untouched(&pool_));
-    CHECK(next(text, 4, 0) == IHEX_DATA);
+    CHECK(next(mixed, 4, 0) == IHEX_DATA);
     CHECK(values(0x0120, 0, 4) && stands(20, 1, 0) && holds(&pool_, 0, payload, 4));
+}
 
-    /* line ends, and a last line without one */
+/* line ends, and a last line without one */
+static void line_ends(void)
+{
     begin(0);
     CHECK(next("\r\n:00000001FF\r\n\r\r\n:00000001FF\r", 0, 0) == IHEX_END_OF_FILE);
     CHECK(stands(15, 2, 0));
@@ -290,14 +305,17 @@ static void texts(void)
     CHECK(next("\r\n:00000001FF\r\n\r\r\n:00000001FF\r", 0, 0) == IHEX_REFUSED + IHEX_CONTAINS_INVALID_CHARACTERS);
     CHECK(stands(30, 4, 0));
     CHECK(next("\r\n:00000001FF\r\n\r\r\n:00000001FF\r", 0, 0) == IHEX_DONE);
+}
 
-    /* no text; a position behind it; bits that mean nothing */
+/* no text; a position behind it; bits that mean nothing */
+static void states(void)
+{
     begin(0);
     CHECK(next("", 0, 0) == IHEX_DONE);
     CHECK(values(0, 0, 0) && stands(0, 0, IHEX_FINISHED));
     begin(0xF8 | IHEX_STOP_AFTER_EOF);
     position.value = SIZE_MAX;
-    CHECK(next(text, 8, 0) == IHEX_DONE);
+    CHECK(next(mixed, 8, 0) == IHEX_DONE);
     CHECK(stands(SIZE_MAX, 0, IHEX_STOP_AFTER_EOF | IHEX_FINISHED) && untouched(&pool_));
 }
 
@@ -344,11 +362,8 @@ static int wrote_nothing(uint64_t value)
     return a.value == value && untouched(&out_);
 }
 
-static void records(void)
+static void written_records(void)
 {
-    static const uint8_t short_types[] = {0, 2, 3, 4};
-    size_t i;
-
     CHECK(write_record(IHEX_DATA, 0x0120, 0, 16, 4, 32, 600) == IHEX_OK);
     CHECK(wrote(":0401200010111213" "95"));
     CHECK(write_record(IHEX_DATA, 0xFFFF, 9, 32, 0, 32, 11) == IHEX_OK);
@@ -363,7 +378,12 @@ static void records(void)
     CHECK(wrote(":02000004FFFFFC"));
     CHECK(write_record(IHEX_START_LINEAR_ADDRESS, 0x12345678, 9, 9, 9, 0, 19) == IHEX_OK);
     CHECK(wrote(":0400000512345678E3"));
+}
 
+static void bad_records(void)
+{
+    static const uint8_t short_types[] = {0, 2, 3, 4};
+    size_t i;
     for (i = 0; i < sizeof short_types; i++) {
         CHECK(write_record(short_types[i], 65535, 0, 0, 0, 8, 600) == IHEX_OK);
         CHECK(write_record(short_types[i], 65536, 0, 0, 0, 8, 600) == IHEX_BAD_RECORD);
@@ -373,8 +393,11 @@ static void records(void)
     CHECK(write_record(6, 0, 0, 0, 0, 8, 600) == IHEX_BAD_RECORD);
     CHECK(wrote_nothing(0));
     CHECK(write_record(255, 0, 0, 0, 0, 0, 0) == IHEX_BAD_RECORD);
+}
 
-    /* outside the pool, too long, no room: in this order */
+/* outside the pool, too long, no room: in this order */
+static void refused_records(void)
+{
     CHECK(write_record(IHEX_DATA, 0, 0, 29, 4, 32, 600) == IHEX_REFUSED + IHEX_PAYLOAD_OUTSIDE_POOL);
     CHECK(wrote_nothing(0));
     CHECK(write_record(IHEX_DATA, 0, 0, SIZE_MAX, 2, 32, 600) == IHEX_REFUSED + IHEX_PAYLOAD_OUTSIDE_POOL);
@@ -409,29 +432,36 @@ static uint32_t write_list(const struct ihex_record *list, size_t n, size_t pool
     return write_bytes(list, n * sizeof *list, pool_len, out_len);
 }
 
-static void objects(void)
-{
-    static const struct ihex_record all[] = {
-        {IHEX_EXTENDED_SEGMENT_ADDRESS, 0xEE, 0, 0x1200, 0, 0},
-        {IHEX_DATA, 0, 0, 0x0120, 16, 4},
-        {IHEX_START_SEGMENT_ADDRESS, 0, 0x5678, 0x1234, 0, 0},
-        {IHEX_EXTENDED_LINEAR_ADDRESS, 0, 0, 0xFFFF, 0, 0},
-        {IHEX_START_LINEAR_ADDRESS, 0, 0, 0x12345678, 0, 0},
-        {IHEX_END_OF_FILE, 0, 0xFFFF, 0xFFFFFFFF, UINT64_MAX, UINT64_MAX},
-    };
-    static const char text[] =
-        ":020000021200EA\n:040120001011121395\n:0400000312345678E5\n:02000004FFFFFC\n:0400000512345678E3\n:00000001FF\n";
-    static const uint8_t bytes[] = {
-        0, 0xEE, 0, 0, 0x20, 0x01, 0, 0, 0x02, 0x01, 0, 0, 0, 0, 0, 0, 0x03, 0, 0, 0, 0, 0, 0, 0, /* data */
-        1, 0xEE, 0, 0, 0, 0, 0, 0, 0, 0, 0, 0, 0, 0, 0, 0, 0, 0, 0, 0, 0, 0, 0, 0,             /* end */
-    };
-    struct ihex_record some[4];
-    size_t n = strlen(text), i;
+/* a record of each type */
+static const struct ihex_record all[] = {
+    {IHEX_EXTENDED_SEGMENT_ADDRESS, 0xEE, 0, 0x1200, 0, 0},
+    {IHEX_DATA, 0, 0, 0x0120, 16, 4},
+    {IHEX_START_SEGMENT_ADDRESS, 0, 0x5678, 0x1234, 0, 0},
+    {IHEX_EXTENDED_LINEAR_ADDRESS, 0, 0, 0xFFFF, 0, 0},
+    {IHEX_START_LINEAR_ADDRESS, 0, 0, 0x12345678, 0, 0},
+    {IHEX_END_OF_FILE, 0, 0xFFFF, 0xFFFFFFFF, UINT64_MAX, UINT64_MAX},
+};
 
+/* a list as its bytes; the data lies at position 0102 */
+static const uint8_t listed[] = {
+    0, 0xEE, 0, 0, 0x20, 0x01, 0, 0, 0x02, 0x01, 0, 0, 0, 0, 0, 0, 0x03, 0, 0, 0, 0, 0, 0, 0, /* data */
+    1, 0xEE, 0, 0, 0, 0, 0, 0, 0, 0, 0, 0, 0, 0, 0, 0, 0, 0, 0, 0, 0, 0, 0, 0,             /* end */
+};
+
+static void layout(void)
+{
     CHECK(sizeof(struct ihex_record) == IHEX_RECORD_SIZE);
     CHECK(offsetof(struct ihex_record, second) == 2 && offsetof(struct ihex_record, number) == 4);
     CHECK(offsetof(struct ihex_record, at) == 8 && offsetof(struct ihex_record, len) == 16);
+    CHECK(write_bytes(listed, 48, 300, 600) == IHEX_OK);
+    CHECK(wrote(":03012000020304D3\n:00000001FF\n"));
+}
 
+static void written_objects(void)
+{
+    static const char text[] =
+        ":020000021200EA\n:040120001011121395\n:0400000312345678E5\n:02000004FFFFFC\n:0400000512345678E3\n:00000001FF\n";
+    size_t n = strlen(text);
     CHECK(write_list(all, 6, 32, 600) == IHEX_OK);
     CHECK(wrote(text));
     CHECK(write_list(all, 6, 32, n) == IHEX_OK);
@@ -446,15 +476,16 @@ static void objects(void)
     CHECK(write_list(NULL, 0, 32, 600) == IHEX_REFUSED + IHEX_MISSING_END_OF_FILE_RECORD);
     CHECK(wrote_nothing(0));
     CHECK(write_list(NULL, 0, 0, 0) == IHEX_REFUSED + IHEX_MISSING_END_OF_FILE_RECORD);
+}
 
-    /* position 0102 */
-    CHECK(write_bytes(bytes, 48, 300, 600) == IHEX_OK);
-    CHECK(wrote(":03012000020304D3\n:00000001FF\n"));
-
-    /* no list: before all else */
-    for (i = 1; i < sizeof bytes; i++)
+/* no list: before all else */
+static void bad_lists(void)
+{
+    struct ihex_record some[4];
+    size_t i;
+    for (i = 1; i < sizeof listed; i++)
         if (i != 24)
-            CHECK(write_bytes(bytes, i, 0, 0) == IHEX_BAD_RECORD && wrote_nothing(0));
+            CHECK(write_bytes(listed, i, 0, 0) == IHEX_BAD_RECORD && wrote_nothing(0));
     memcpy(some, all + 2, sizeof some);
     some[1].number = 65536;
     CHECK(write_list(some, 4, 32, 600) == IHEX_BAD_RECORD && wrote_nothing(0));
@@ -463,8 +494,12 @@ static void objects(void)
     CHECK(write_list(some, 4, 32, 600) == IHEX_OK);
     some[3].type = 6;
     CHECK(write_list(some, 4, 32, 0) == IHEX_BAD_RECORD && wrote_nothing(0));
+}
 
-    /* 13, 14, then the first record with 11 or 12, then 15 */
+/* 13, 14, then the first record with 11 or 12, then 15 */
+static void refused_objects(void)
+{
+    struct ihex_record some[4];
     memset(some, 0, sizeof some);
     some[0].type = some[1].type = IHEX_END_OF_FILE;
     CHECK(write_list(some, 3, 32, 600) == IHEX_REFUSED + IHEX_MISSING_END_OF_FILE_RECORD && wrote_nothing(0));
@@ -519,10 +554,12 @@ static int not_loaded(uint64_t x, uint64_t y, size_t l)
     return a.value == x && b.value == y && line.value == l && untouched(&page_) && untouched(&marks_);
 }
 
-static void loads(void)
-{
-    static const char doc[] = ":020000021200EA\n:010005007783\n:00000001FF\n", end[] = ":00000001FF";
+/* a text of an end record alone */
+static const char end_line[] = ":00000001FF";
 
+static void loads_in_windows(void)
+{
+    static const char doc[] = ":020000021200EA\n:010005007783\n:00000001FF\n";
     CHECK(load(doc, 0x12000, 8, 8) == IHEX_OK);
     CHECK(loaded(1, "00000100", 5, "\x77"));
     CHECK(load(doc, 0x12005, 1, 1) == IHEX_OK);
@@ -545,12 +582,15 @@ static void loads(void)
     /* the last statement stands; text behind the end is not read; no data at all */
     CHECK(load(":0100000011EE\n:0100000022DD\n:00000001FF\n:G\n", 0, 2, 2) == IHEX_OK);
     CHECK(loaded(2, "10", 0, "\x22"));
-    CHECK(load(end, 0xFFFFFFFF, 0, 0) == IHEX_OK);
+    CHECK(load(end_line, 0xFFFFFFFF, 0, 0) == IHEX_OK);
     CHECK(loaded(0, "", 0, ""));
-    CHECK(load(end, 0, 3, 3) == IHEX_OK);
+    CHECK(load(end_line, 0, 3, 3) == IHEX_OK);
     CHECK(loaded(0, "000", 0, ""));
+}
 
-    /* refusals of lines, with their numbers */
+/* refusals of lines, with their numbers, and of texts without an end */
+static void refused_loads(void)
+{
     CHECK(load(":0100000011EE\n\n\r\n:00000001FE\n:00000001FF\n", 0, 2, 2) == IHEX_REFUSED + IHEX_CHECKSUM_MISMATCH);
     CHECK(not_loaded(0xFF, 0xFE, 4));
     CHECK(load(":00000006FA", 0, 2, 2) == IHEX_REFUSED + IHEX_UNSUPPORTED_RECORD_TYPE);
@@ -561,17 +601,19 @@ static void loads(void)
     CHECK(not_loaded(0, 0, 0));
     CHECK(load("", 0, 0, 0) == IHEX_REFUSED + IHEX_MISSING_END_OF_FILE_RECORD);
     CHECK(not_loaded(0, 0, 0));
+}
 
-    /* windows */
-    CHECK(load(end, 0, 2, 3) == IHEX_REFUSED + IHEX_BAD_WINDOW);
+static void windows(void)
+{
+    CHECK(load(end_line, 0, 2, 3) == IHEX_REFUSED + IHEX_BAD_WINDOW);
     CHECK(not_loaded(0, 0, 0));
-    CHECK(load(end, 0, 0, 1) == IHEX_REFUSED + IHEX_BAD_WINDOW);
+    CHECK(load(end_line, 0, 0, 1) == IHEX_REFUSED + IHEX_BAD_WINDOW);
     CHECK(load(":G", 0, IHEX_MAX_PAGE + 1, IHEX_MAX_PAGE + 1) == IHEX_REFUSED + IHEX_BAD_WINDOW);
     CHECK(not_loaded(0, 0, 0));
-    CHECK(load(end, 0, IHEX_MAX_PAGE, IHEX_MAX_PAGE) == IHEX_OK && a.value == 0 && untouched(&page_));
-    CHECK(load(end, 0xFFFFFFFF, 2, 2) == IHEX_REFUSED + IHEX_BAD_WINDOW);
-    CHECK(load(end, 0xFFFF0000, IHEX_MAX_PAGE, IHEX_MAX_PAGE) == IHEX_OK);
-    CHECK(load(end, 0xFFFF0001, IHEX_MAX_PAGE, IHEX_MAX_PAGE) == IHEX_REFUSED + IHEX_BAD_WINDOW);
+    CHECK(load(end_line, 0, IHEX_MAX_PAGE, IHEX_MAX_PAGE) == IHEX_OK && a.value == 0 && untouched(&page_));
+    CHECK(load(end_line, 0xFFFFFFFF, 2, 2) == IHEX_REFUSED + IHEX_BAD_WINDOW);
+    CHECK(load(end_line, 0xFFFF0000, IHEX_MAX_PAGE, IHEX_MAX_PAGE) == IHEX_OK);
+    CHECK(load(end_line, 0xFFFF0001, IHEX_MAX_PAGE, IHEX_MAX_PAGE) == IHEX_REFUSED + IHEX_BAD_WINDOW);
 }
 
 /* ---- a full page, written and loaded again */
@@ -618,11 +660,23 @@ static void full_page(void)
 int main(void)
 {
     checksums();
-    lines();
-    texts();
-    records();
-    objects();
-    loads();
+    lines_without_data();
+    lines_with_data();
+    longest_line();
+    stops();
+    text_with_full_pool();
+    line_ends();
+    states();
+    written_records();
+    bad_records();
+    refused_records();
+    layout();
+    written_objects();
+    bad_lists();
+    refused_objects();
+    loads_in_windows();
+    refused_loads();
+    windows();
     full_page();
     printf("%d passed, %d failed\n", passed, failed);
     return failed != 0;
