@@ -20,6 +20,8 @@ WORK = {
     "object": "write an object",
     "load": "load a full page",
 }
+# Each work with the sizes of payload that it is measured at.
+CASES = [(what, size) for what in WORK if what != "load" for size in (16, 32, 255)] + [("load", 16)]
 REPETITIONS = 2
 
 
@@ -68,44 +70,51 @@ def whole(x):
     return f"{x:,.0f}"
 
 
-def main():
+def measured():
+    """Who is measured: the crate only where its source is at hand."""
     given, _ = output([DRIVER] + words("crate", "record", 16, 1, 1))
-    at_hand = given.strip() != "not at hand"
-    if not at_hand:
-        print("The source of the crate ihex is not at hand: it was not measured.\n")
-    who = [one for one in ALL if at_hand or one != "crate"]
-    cases = [(what, size) for what in WORK if what != "load" for size in (16, 32, 255)]
-    cases.append(("load", 16))
+    if given.strip() != "not at hand":
+        return list(ALL)
+    print("The source of the crate ihex is not at hand: it was not measured.\n")
+    return [one for one in ALL if one != "crate"]
+
+
+def counted(who):
+    """Instructions a record, by who, what and size; all must come to the same results."""
     count = {}
-    for what, size in cases:
+    for what, size in CASES:
         results = set()
         for one in who:
             count[one, what, size], result = instructions(one, what, size, records_of(size))
             results.add(result)
         if len(results) != 1:
             sys.exit(f"{what} {size}: the results differ, {results}")
+    return count
 
+
+def show_instructions(who, count):
     print(f"By `rust/bench/run`, on {MACHINE}, with {RUSTC} at opt-level 3 and {CC} at -O3.\n")
     print(f"Instructions a record, of {FULL:,} records of 16 bytes and {SOME:,} of the others:\n")
-    head = ["Work", "Payload"] + list(who)
-    if at_hand:
-        head.append("port : crate")
+    with_crate = "crate" in who
     rows = []
-    for what, size in cases:
+    for what, size in CASES:
         row = [WORK[what], str(size)] + [whole(count[one, what, size]) for one in who]
-        if at_hand:
+        if with_crate:
             row.append(f"{100 * count['port', what, size] / count['crate', what, size]:.1f} %")
         rows.append(row)
-    table(head, rows)
+    table(["Work", "Payload"] + who + (["port : crate"] if with_crate else []), rows)
 
-    if MACHINE == "x86_64":
-        print("Nanoseconds a record, the best of seven runs of ten repetitions:\n")
-        rows = []
-        for what, size in cases:
-            times = [f"{nanoseconds(one, what, size, records_of(size)):.1f}" for one in who]
-            rows.append([WORK[what], str(size)] + times)
-        table(["Work", "Payload"] + list(who), rows)
 
+def show_times(who):
+    print("Nanoseconds a record, the best of seven runs of ten repetitions:\n")
+    rows = []
+    for what, size in CASES:
+        times = [f"{nanoseconds(one, what, size, records_of(size)):.1f}" for one in who]
+        rows.append([WORK[what], str(size)] + times)
+    table(["Work", "Payload"] + who, rows)
+
+
+def show_growth():
     print("Instructions a record of 16 bytes at 1, 2, 4 and 8 times the size, of the port:\n")
     sizes = (512, 1024, 2048, 4096)
     rows = []
@@ -114,9 +123,11 @@ def main():
         rows.append([WORK[what]] + [f"{n:,.1f}" for n in grown])
     table(["Work"] + [f"{records:,} records" for records in sizes], rows)
 
+
+def show_bars(who, count):
     reading, writing = count["port", "text", 16], count["port", "object", 16]
     bars = [("loading, as a multiple of reading", count["port", "load", 16] / reading, 2.5)]
-    if at_hand:
+    if "crate" in who:
         bars += [
             ("reading a text, % of the crate's as built here", 100 * reading / count["crate", "text", 16], 18),
             ("writing an object, % of the crate's as built here", 100 * writing / count["crate", "object", 16], 10),
@@ -127,6 +138,16 @@ def main():
     ]
     rows = [[name, f"{is_:.1f}", f"{bar}", "met" if is_ <= bar else "MISSED"] for name, is_, bar in bars]
     table(["Bar", "Is", "At most", ""], rows)
+
+
+def main():
+    who = measured()
+    count = counted(who)
+    show_instructions(who, count)
+    if MACHINE == "x86_64":
+        show_times(who)
+    show_growth()
+    show_bars(who, count)
 
 
 main()
