@@ -1,3 +1,5 @@
+//! Loading: a text into a page with marks, which the crate does not have.
+
 use std::error::Error;
 use std::fmt;
 

@@ -1,3 +1,5 @@
+//! Reading: a line, and a text answer by answer, with the names and shapes of the crate.
+
 use std::error::Error;
 use std::fmt;
 use std::iter::FusedIterator;

@@ -1,3 +1,5 @@
+//! Writing: a record, and a list of records, with the names and shapes of the crate.
+
 use std::error::Error;
 use std::fmt;
 
