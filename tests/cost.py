@@ -40,8 +40,8 @@ def stages(log):
     """A row a stage of the gate."""
     yield "| Stage of `.ci/run` | Tests | Seconds |"
     yield "|---|---|---|"
-    for name, said, seconds in re.findall(r"^== ([^:]+): (ok|\d+ passed, \d+ failed) \((\S+) s\)", log, re.M):
-        yield f"| {name} | {said.split(' ')[0] if said != 'ok' else 1} | {seconds} |"
+    for name, tests, seconds in re.findall(r"^== ([^:\n]+): (\d+) passed(?:, \d+ failed)? \((\S+) s\)", log, re.M):
+        yield f"| {name} | {tests} | {seconds} |"
     whole = re.search(r"^== all: (\S+) s\n(\d+) passed", log, re.M)
     if whole:
         yield f"| all | {whole[2]} | {whole[1]} |"
