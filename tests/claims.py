@@ -1,6 +1,6 @@
 #!/usr/bin/env python3
 """Holds docs/CLAIMS.md to the repository: in a cell of its tables each file in backquotes is there,
-and each name in backquotes behind a file stands in that file."""
+and each name in backquotes behind a file stands in that file, outside its comments."""
 import pathlib
 import re
 import sys
@@ -16,6 +16,8 @@ for number, row in enumerate((repo / "docs" / "CLAIMS.md").read_text(encoding="u
             if re.match(r"(crates|tests|docs|rust)/\S+$", name):
                 path = repo / name
                 text = path.read_text(encoding="utf-8") if path.is_file() else None
+                if text and name.endswith((".antt", ".rt")):
+                    text = re.sub(r"(?m)(^|\s)(--|//).*$", "", text)
                 there = text is not None
             else:
                 there = text is not None and re.search(r"(?<![\w-])" + re.escape(name) + r"(?![\w-])", text)

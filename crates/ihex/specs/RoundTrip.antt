@@ -66,7 +66,7 @@ Has-room rs pool [] = Unit
 Has-room [] pool (call ∷ calls) = Unit
 Has-room (r ∷ rs) pool (call ∷ calls) = Room-for (meant r pool) call × Has-room rs pool calls
 
--- what a writer of an object left in the output, read with both stops on and room in the pools: the same records with the same payloads, then "done"
+-- the n bytes that a writer of an object says it wrote, read with both stops on and room in the pools: the same records with the same payloads, then "done"
 abbrev pub Written-reads-back : Type 0
 Written-reads-back =
     (rs : List Record) (pool out : List ℕ) (n : ℕ) (out′ : List ℕ) → Every In-range rs → Every Byte pool → length out < 2 ^ 64 → WriteObject rs pool out (Wrote n) out′

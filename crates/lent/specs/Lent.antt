@@ -1,4 +1,4 @@
--- The two lent forms called with values: the contract of `first_record`, and what is claimed. `next_of` and `object_of` have the contracts of the functions that they call.
+-- The two lent forms called with values: the contract of `first_record`, and what is claimed. `next_of` has the contract of `State::next`, and `object_of` that of `create_object_file_representation`, of the first n records.
 -- Assumes nothing.
 use Prim.Native.Nat.{ℕ, _^_, _<_}
 use mathlib.Core.Path.{_≡_}

@@ -89,7 +89,7 @@ pub record Whole (rs : List Record) (pool cs : List ℕ) : Type 0 where
 abbrev pub Object-whole : Type 0
 Object-whole = (rs : List Record) (pool cs : List ℕ) → object rs pool ≡ chars cs → Whole rs pool cs
 
--- and such a list has it: none of 11 to 14 is given otherwise
+-- and such a list has it: it is refused by none of 11 to 14. Which one another list gets, `object` says
 abbrev pub Whole-object : Type 0
 Whole-object = (rs : List Record) (pool cs : List ℕ) → Whole rs pool cs → object rs pool ≡ chars cs
 
@@ -104,7 +104,7 @@ pub data Surveys (pool : List ℕ) : List Record → Survey → Type 0 where
   at-first : {s : Survey} → SurveyNew s → Surveys pool [] s
   then-add : {rs whole : List Record} {r : Record} {s t : Survey} → Surveys pool rs s → SurveyAdd s r pool t → whole ≡ rs ++ (r ∷ []) → Surveys pool whole t
 
--- it answers what the definition of an object says, where the output, or else the text, is no longer than a number can say
+-- it answers what the definition of an object says, for no more records than the largest number, where the room is less than that number, or else the text no longer than it
 abbrev pub Survey-answers : Type 0
 Survey-answers =
     (rs : List Record) (pool : List ℕ) (s : Survey) (room : ℕ) (a : Written) → length rs ≤ most → (room < most) ⊎ (length (joined-lines rs pool) ≤ most)

@@ -2,8 +2,8 @@
 
 use original::{Reader, ReaderError, ReaderOptions, Record};
 
-/// Fills page and marks from a text, and counts its data records. That evening `stop_after_eof` was
-/// off. Bytes outside the window are passed over.
+/// Fills page and marks from a text, and counts its data records. Bytes outside the window are passed
+/// over.
 pub fn fill(
     text: &str,
     stop_after_eof: bool,
