@@ -1,4 +1,5 @@
 pub mod Local
+pub mod Asking
 pub mod Lies
 pub mod Front
 pub mod Claims

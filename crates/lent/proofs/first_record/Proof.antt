@@ -49,7 +49,8 @@ use Rattle.reader.specs.Held.{Opened, Asked}
 use Rattle.reader.specs.declared.Reader.{Reader}
 use Rattle.reader.specs.declared.State.{State}
 use Rattle.reader.specs.declared.Reply.{Reply}
-use Rattle.lent.proofs.Local.{Back, below, local-in, local-out, ends, lends-local, local-back}
+use Rattle.lent.proofs.Local.{Back, local-in, local-out, ends, lends-local, local-back}
+use Rattle.lent.proofs.Asking.{NextArg, Next, next-args, next-ghost, next-tokens, goes-next}
 use Rattle.reader.proofs.Reply as Rp
 use Rattle.reader.proofs.Reply.Laws as Rp′
 use Rattle.reader.proofs.Reader as T
@@ -75,12 +76,9 @@ abbrev stayed : Stays (first.ended .signature .params) (first.ended .kept)
 stayed = (stay-none-slice (0 ∷ []) tt (plain (λ _. u8)) yes, (gave-slice (1 ∷ []) tt (plain (λ _. u8)), (stay-none (λ _. usize) yes, tt)))
 
 module _ {M : Type 1} (𝓤 : URA M) (H : Heap 𝓤) (A : Atoms 𝓤) (mem : Memory → SProp 𝓤) (run : Routine → Fun 𝓤) where
-  -- the contracts that the proof cites
+  -- the contract of `new`
   abbrev New : Contract 𝓤
   New = tripleOf 𝓤 H A new.signature (new.spec 𝓤 H A mem run)
-
-  abbrev Next : Contract 𝓤
-  Next = tripleOf 𝓤 H A next.signature (next.spec 𝓤 H A mem run)
 
 module _ {M : Type 1} (𝓤 : URA M) (H : Heap 𝓤) (A : Atoms 𝓤) (W : Given 𝓤 H A) (at-mem : Memory → SProp 𝓤) (run : Routine → Fun 𝓤) (κ κ″ : Lft) (q q″ : Share) (s x : RefT (List ℕ)) (put : ℕ) (put-fits : put < 2 ^ 64) where
   -- the struct's type as a local of a body has it
@@ -138,22 +136,14 @@ module _ {M : Type 1} (𝓤 : URA M) (H : Heap 𝓤) (A : Atoms 𝓤) (W : Given
   new-said r = exE 𝓤 _ (λ ws. snd∗ 𝓤 (sem 𝓤 H A (lasts new.ended (κ, tt) (s, tt) ws)) (fact 𝓤 (Opened s default-options r)))
 
   -- the call of `next`, with the reader at l lent for ν ∷ κ under the name γ
-  abbrev NextArg : Type 0
-  NextArg = RefT Reader × (RefT (List ℕ) × (ℕ × Unit {0}))
-
   abbrev args : ℕ → GName → NextArg
-  args l γ = (record { ptr = (l, 0); name = γ; now = made }, (x, (put, tt)))
+  args = next-args made x put
 
   abbrev to-next : ℕ → ℕ → GName → Next 𝓤 H A at-mem run .Ghost
-  to-next ν l γ = (((ν ∷ κ, (κ, (κ″, tt))), (PosShare·left q, (PosShare·right q, (q″, tt))), (below ν κ, tt), args l γ, (vptr l 0 ∷ [], (vp ∷ [], (vint w64 put ∷ [], tt)))), tt)
+  to-next = next-ghost made x put 𝓤 H A at-mem run κ κ″ q q″
 
   abbrev Toks : ℕ → Item 𝓤
-  Toks ν = ‵ (flft (ν ∷ κ) (PosShare·left q)) ⊛ ‵ (flft κ (PosShare·right q)) ⊛ ‵ (flft κ″ q″) ⊛ ‵ ftrue
-
-  goes-next : (ν l : ℕ) (γ : GName) → ent 𝓤 (⋆ 𝓤 H A (Toks ν ∷ ‵ (MutRef (named 0) (ν ∷ κ) R .own (args l γ .0) (vptr l 0 ∷ [])) ∷ ‵ (MutSlice (named 2) κ″ u8 .own x (vp ∷ [])) ∷ [])) (Next 𝓤 H A at-mem run .pre (to-next ν l γ))
-  goes-next ν l γ =
-      qed W (Toks ν ∷ ‵ (MutRef (named 0) (ν ∷ κ) R .own (args l γ .0) (vptr l 0 ∷ [])) ∷ ‵ (MutSlice (named 2) κ″ u8 .own x (vp ∷ [])) ∷ []) ∵
-      nothing ! $ owned ! usize (Is usize) (uint-makes 𝓤 H A W w64) put _ (refl, put-fits) $ fjoin ! $ move ! (3 ∷ 0 ∷ []) $ fjoin ! $ move ! (2 ∷ 0 ∷ []) $ fjoin ! $ move ! (1 ∷ 0 ∷ []) $ join ! $ frame ! $ done !
+  Toks = next-tokens made x put 𝓤 H A at-mem run κ κ″ q q″
 
   abbrev Said : Reply → Reader → List ℕ → Type 0
   Said t h′ zs = Asked made (x .now) put t h′ zs
@@ -193,7 +183,7 @@ module _ {M : Type 1} (𝓤 : URA M) (H : Heap 𝓤) (A : Atoms 𝓤) (W : Given
         -- [the loan; the lender's part; ν's token; text's token; pool's token; what pool owns; what text owns; _8; …; _7; …; _6; …; _5; …; that _4 dies; _3; …; _2; …; _1; …; room for _0; …]: `next`
         move ! (2 ∷ 3 ∷ []) $ use2 W (‵ (flft (ν ∷ κ) (PosShare·left q)) ⊛ ‵ (flft κ (PosShare·right q)) ⊛ raw (Back 𝓤 H A W ν κ q)) (local-in 𝓤 H A W ν κ q) $ split ! $ move ! (1 ∷ []) $ split ! $
         nothing ! $ move ! (6 ∷ 0 ∷ []) $ join ! $ move ! (1 ∷ 0 ∷ []) $ join ! $ move ! (2 ∷ 0 ∷ []) $ join ! $ move ! (0 ∷ 2 ∷ 4 ∷ []) $
-        use3 W (raw (Next 𝓤 H A at-mem run .pre (to-next ν l₄ γ))) (goes-next ν l₄ γ) $
+        use3 W (raw (Next 𝓤 H A at-mem run .pre (to-next ν l₄ γ))) (goes-next made x put 𝓤 H A at-mem run κ κ″ q q″ W put-fits ν l₄ γ) $
         calls-at ! fm (Next 𝓤 H A at-mem run) known-next (to-next ν l₄ γ) (and-then ! (load ! (from ! (stop !)) (look ! 8 refl)) (and-then ! (load ! (from ! (stop !)) (look ! 4 refl)) (and-then ! (load ! (from ! (stop !)) (look ! 13 refl)) (no-more !)))) (λ u′.
         use1 W (later (some (λ (t : Reply). (Toks ν ⊛ ‵ (Rp.the-row .own t (u′ ∷ []))) ⊛ raw (ensured 𝓤 H A next.ended (next.clauses 𝓤 H A at-mem run) (ν ∷ κ, (κ, (κ″, tt))) (args l₄ γ) tt t)))) (id⊢ 𝓤 _) $ await ! tt $ pick ! (λ t.
         split ! $ move ! (1 ∷ []) $ use1 W (some (λ (zs : Lasts next.ended (ν ∷ κ, (κ, (κ″, tt))) (args l₄ γ)). ‵ (lasts next.ended (ν ∷ κ, (κ, (κ″, tt))) (args l₄ γ) zs) ⊛ raw (fact 𝓤 (Said t (zs .0) (zs .1 .0))))) (id⊢ 𝓤 _) $ pick ! (λ zs.

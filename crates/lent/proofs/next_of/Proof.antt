@@ -37,7 +37,7 @@ use denote.Struct.Declared.{Declared}
 use denote.Struct.Laws as LL
 use denote.Struct.Rest.{own-shut}
 use denote.Struct.Steps.{spelt}
-use denote.Triple.Statement.{Contract, Triple}
+use denote.Triple.Statement.{Triple}
 use denote.Triple.Call.{calls-at}
 use denote.Triple.Entry.{Vals, onEntry}
 use denote.Triple.Spec.{Meets, tripleOf}
@@ -49,12 +49,13 @@ use Rattle.reader.specs.Held.{Asked}
 use Rattle.reader.specs.declared.Reader.{Reader}
 use Rattle.reader.specs.declared.State.{State}
 use Rattle.reader.specs.declared.Reply.{Reply}
-use Rattle.lent.proofs.Local.{Back, below, local-in, local-out, ends, lends-local, local-back}
+use Rattle.lent.proofs.Local.{Back, local-in, local-out, ends, lends-local, local-back}
 use Rattle.reader.specs.declared.Step.{Step}
 use Rattle.reader.proofs.State as S
 use Rattle.reader.proofs.State.Laws as S′
 use Rattle.reader.proofs.Step as N
 use Rattle.reader.proofs.Step.Laws as N′
+use Rattle.lent.proofs.Asking.{NextArg, Next, next-args, next-ghost, next-tokens, goes-next}
 use Rattle.reader.proofs.Reply as Rp
 use Rattle.reader.proofs.Reply.Laws as Rp′
 use Rattle.reader.proofs.Reader as T
@@ -79,11 +80,6 @@ machN n = LL.val N.the-type N′.the-laws n
 
 abbrev stayed : Stays (of.ended .signature .params) (of.ended .kept)
 stayed = (stay-none-slice (0 ∷ []) tt (plain (λ _. u8)) yes, (stay-none (λ _. S.the-row) yes, (gave-slice (1 ∷ []) tt (plain (λ _. u8)), (stay-none (λ _. usize) yes, tt))))
-
-module _ {M : Type 1} (𝓤 : URA M) (H : Heap 𝓤) (A : Atoms 𝓤) (mem : Memory → SProp 𝓤) (run : Routine → Fun 𝓤) where
-  -- the contract that the proof cites
-  abbrev Next : Contract 𝓤
-  Next = tripleOf 𝓤 H A next.signature (next.spec 𝓤 H A mem run)
 
 module _ {M : Type 1} (𝓤 : URA M) (H : Heap 𝓤) (A : Atoms 𝓤) (W : Given 𝓤 H A) (at-mem : Memory → SProp 𝓤) (run : Routine → Fun 𝓤) (κ κ″ : Lft) (q q″ : Share) (s x : RefT (List ℕ)) (st : State) (is-st : Is S.the-row st (machS st ∷ [])) (put : ℕ) (put-fits : put < 2 ^ 64) where
   -- the struct's type as a local of a body has it
@@ -133,22 +129,14 @@ module _ {M : Type 1} (𝓤 : URA M) (H : Heap 𝓤) (A : Atoms 𝓤) (W : Given
       qed W (‵ Own ∷ []) ∵ nothing ! $ owned ! S.the-row (Is S.the-row) (LL.makes S.the-type S′.the-plain 𝓤 H A) st _ is-st $ fjoin ! $ move ! (1 ∷ 0 ∷ []) $ fjoin ! $ by ! (own-shut 𝓤 H A W D L (s, (st, tt)))
 
   -- the call of `next`, with the reader at l lent for ν ∷ κ under the name γ
-  abbrev NextArg : Type 0
-  NextArg = RefT Reader × (RefT (List ℕ) × (ℕ × Unit {0}))
-
   abbrev args : ℕ → GName → NextArg
-  args l γ = (record { ptr = (l, 0); name = γ; now = made }, (x, (put, tt)))
+  args = next-args made x put
 
   abbrev to-next : ℕ → ℕ → GName → Next 𝓤 H A at-mem run .Ghost
-  to-next ν l γ = (((ν ∷ κ, (κ, (κ″, tt))), (PosShare·left q, (PosShare·right q, (q″, tt))), (below ν κ, tt), args l γ, (vptr l 0 ∷ [], (vp ∷ [], (vint w64 put ∷ [], tt)))), tt)
+  to-next = next-ghost made x put 𝓤 H A at-mem run κ κ″ q q″
 
   abbrev Toks : ℕ → Item 𝓤
-  Toks ν = ‵ (flft (ν ∷ κ) (PosShare·left q)) ⊛ ‵ (flft κ (PosShare·right q)) ⊛ ‵ (flft κ″ q″) ⊛ ‵ ftrue
-
-  goes-next : (ν l : ℕ) (γ : GName) → ent 𝓤 (⋆ 𝓤 H A (Toks ν ∷ ‵ (MutRef (named 0) (ν ∷ κ) R .own (args l γ .0) (vptr l 0 ∷ [])) ∷ ‵ (MutSlice (named 2) κ″ u8 .own x (vp ∷ [])) ∷ [])) (Next 𝓤 H A at-mem run .pre (to-next ν l γ))
-  goes-next ν l γ =
-      qed W (Toks ν ∷ ‵ (MutRef (named 0) (ν ∷ κ) R .own (args l γ .0) (vptr l 0 ∷ [])) ∷ ‵ (MutSlice (named 2) κ″ u8 .own x (vp ∷ [])) ∷ []) ∵
-      nothing ! $ owned ! usize (Is usize) (uint-makes 𝓤 H A W w64) put _ (refl, put-fits) $ fjoin ! $ move ! (3 ∷ 0 ∷ []) $ fjoin ! $ move ! (2 ∷ 0 ∷ []) $ fjoin ! $ move ! (1 ∷ 0 ∷ []) $ join ! $ frame ! $ done !
+  Toks = next-tokens made x put 𝓤 H A at-mem run κ κ″ q q″
 
   abbrev Said : Reply → Reader → List ℕ → Type 0
   Said t h′ zs = Asked made (x .now) put t h′ zs
@@ -188,7 +176,7 @@ module _ {M : Type 1} (𝓤 : URA M) (H : Heap 𝓤) (A : Atoms 𝓤) (W : Given
         -- [the loan; the lender's part; ν's token; text's token; pool's token; what pool owns; what text owns; _10; …; _6; …; that _5 dies; _4; …; room for _0; …]: `next`
         move ! (2 ∷ 3 ∷ []) $ use2 W (‵ (flft (ν ∷ κ) (PosShare·left q)) ⊛ ‵ (flft κ (PosShare·right q)) ⊛ raw (Back 𝓤 H A W ν κ q)) (local-in 𝓤 H A W ν κ q) $ split ! $ move ! (1 ∷ []) $ split ! $
         nothing ! $ move ! (6 ∷ 0 ∷ []) $ join ! $ move ! (1 ∷ 0 ∷ []) $ join ! $ move ! (2 ∷ 0 ∷ []) $ join ! $ move ! (0 ∷ 2 ∷ 4 ∷ []) $
-        use3 W (raw (Next 𝓤 H A at-mem run .pre (to-next ν l₅ γ))) (goes-next ν l₅ γ) $
+        use3 W (raw (Next 𝓤 H A at-mem run .pre (to-next ν l₅ γ))) (goes-next made x put 𝓤 H A at-mem run κ κ″ q q″ W put-fits ν l₅ γ) $
         calls-at ! fm (Next 𝓤 H A at-mem run) known (to-next ν l₅ γ) (and-then ! (load ! (from ! (stop !)) (look ! 10 refl)) (and-then ! (load ! (from ! (stop !)) (look ! 6 refl)) (and-then ! (load ! (from ! (stop !)) (look ! 15 refl)) (no-more !)))) (λ u.
         use1 W (later (some (λ (t : Reply). (Toks ν ⊛ ‵ (Rp.the-row .own t (u ∷ []))) ⊛ raw (ensured 𝓤 H A next.ended (next.clauses 𝓤 H A at-mem run) (ν ∷ κ, (κ, (κ″, tt))) (args l₅ γ) tt t)))) (id⊢ 𝓤 _) $ await ! tt $ pick ! (λ t.
         split ! $ move ! (1 ∷ []) $ use1 W (some (λ (zs : Lasts next.ended (ν ∷ κ, (κ, (κ″, tt))) (args l₅ γ)). ‵ (lasts next.ended (ν ∷ κ, (κ, (κ″, tt))) (args l₅ γ) zs) ⊛ raw (fact 𝓤 (Said t (zs .0) (zs .1 .0))))) (id⊢ 𝓤 _) $ pick ! (λ zs.
