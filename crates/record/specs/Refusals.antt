@@ -65,3 +65,8 @@ bad-window = refusal 16 []
 
 abbrev pub outside-window : (address : ℕ) → Refusal
 outside-window address = refusal 17 (address ∷ [])
+
+-- of a reader of chunks, beside 1 to 10
+
+abbrev pub carry-too-small : Refusal
+carry-too-small = refusal 18 []

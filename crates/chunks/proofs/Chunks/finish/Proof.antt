@@ -1,0 +1,107 @@
+-- `chunks::Chunks::finish` meets its contract: 18, "done", nothing begun, or the line that is begun read as the last.
+-- Assumes nothing.
+use mathlib.Core.Path.{sym}
+use native.Mathlib.Omega.{arith}
+use borrow.Author.Needs.{needs}
+use denote.Ref.{now}
+use lib.Seq.{length-take-le}
+use Rattle.chunks.proofs.FirstTests.{small-carry, much-used, big-enough, finish-small, finish-done, finish-none, finish-line}
+use Rattle.chunks.proofs.Chunks.finish.Statement.{statement}
+use Rattle.chunks.proofs.Chunks.finish.Tie as tie
+
+plain-requires : tie.Need-plain-requires
+plain-requires c κs = search needs
+
+returns : tie.Need-returns
+returns c =
+    let a = c .before .before .before .before .args in
+    finish-small (a .self) (now (a .carry)) (now (a .pool)) (a .at) (c .plain .result) (small-carry (a .self) (now (a .carry)) (search needs)) (c .plain .ensures)
+
+plain-requires-2 : tie.Need-plain-requires-2
+plain-requires-2 c κs = search needs
+
+returns-2 : tie.Need-returns-2
+returns-2 c =
+    let a = c .before .before .before .before .before .before .args in
+    finish-small (a .self) (now (a .carry)) (now (a .pool)) (a .at) (c .plain2 .result) (much-used (a .self) (now (a .carry)) (search needs)) (c .plain2 .ensures)
+
+plain-requires-3 : tie.Need-plain-requires-3
+plain-requires-3 c κs = search needs
+
+returns-3 : tie.Need-returns-3
+returns-3 c =
+    let a = c .before .before .before .before .before .before .before .args in
+    finish-done (a .self) (now (a .carry)) (now (a .pool)) (a .at) (c .plain3 .result) (big-enough (a .self) (now (a .carry)) (search needs) (search needs)) (c .before .if3 .taken) (c .plain3 .ensures)
+
+with-cr-requires : tie.Need-with-cr-requires
+with-cr-requires c κs = search needs
+
+over-requires : tie.Need-over-requires
+over-requires c κs = search needs
+
+plain-requires-4 : tie.Need-plain-requires-4
+plain-requires-4 c κs = search needs
+
+same-length : tie.Need-same-length
+same-length c = search needs
+
+returns-4 : tie.Need-returns-4
+returns-4 c =
+    let a = c .before .before .before .before .before .before .before .before .before .before .before .before .before .args in
+    let w = c .before .before .before .before .before .with-cr in
+    finish-none (a .self) (now (a .carry)) (now (a .pool)) (a .at) (w .result) (w .last .0) (search needs) (search needs) (c .before .before .before .before .before .before .before .if3 .left) (w .ensures) (c .before .over .result) (c .plain4 .result) (c .before .before .if4 .taken) (c .before .over .ensures) (c .plain4 .ensures)
+
+slice-reshare-prefix-read-record : tie.Need-slice-reshare-prefix-read-record
+slice-reshare-prefix-read-record c = search needs
+
+slice-aggregate-read-record : tie.Need-slice-aggregate-read-record
+slice-aggregate-read-record c =
+    let w = c .before .before .before .before .with-cr in
+    sym (length-take-le (w .result) (w .last .0) (omega (arith, w .ensures .within, w .kept .0)))
+
+read-record-requires : tie.Need-read-record-requires
+read-record-requires c κs = search needs
+
+number-behind-requires : tie.Need-number-behind-requires
+number-behind-requires c κs = search needs
+
+settle-requires : tie.Need-settle-requires
+settle-requires c κs = search needs
+
+same-length-2 : tie.Need-same-length-2
+same-length-2 c = search needs
+
+same-length-3 : tie.Need-same-length-3
+same-length-3 c = search needs
+
+returns-5 : tie.Need-returns-5
+returns-5 c =
+    let a = c .before .before .before .before .before .before .before .before .before .before .before .before .before .before .before .before .before .before .args in
+    let w = c .before .before .before .before .before .before .before .before .before .before .with-cr in
+    let q = c .before .before .before .before .read-record in
+    let n = c .before .number-behind in
+    finish-line (a .self) (now (a .carry)) (now (a .pool)) (a .at) (w .result) (w .last .0) (c .before .before .before .before .before .before .before .before .before .before .before .before .before .before .before .if1 .left) (c .before .before .before .before .before .before .before .before .before .before .before .before .before .if2 .left) (c .before .before .before .before .before .before .before .before .before .before .before .before .if3 .left) (w .ensures) (q .result) (n .result) (c .settle .result) (q .last .1 .0) (c .before .before .before .before .before .before .before .if4 .left) (w .kept .0) (q .ensures) (n .ensures) (c .settle .ensures)
+
+pub finish-spec : {M : Type 1} → statement M
+finish-spec =
+    tie.close
+    (tie.spec
+    plain-requires
+    returns
+    plain-requires-2
+    returns-2
+    plain-requires-3
+    returns-3
+    with-cr-requires
+    over-requires
+    plain-requires-4
+    same-length
+    returns-4
+    slice-reshare-prefix-read-record
+    slice-aggregate-read-record
+    read-record-requires
+    number-behind-requires
+    settle-requires
+    same-length-2
+    same-length-3
+    returns-5)

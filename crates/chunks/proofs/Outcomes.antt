@@ -1,0 +1,160 @@
+-- From an answer to a line to the outcome of a call.
+-- Assumes nothing.
+use Prim.Native.Nat.{ℕ, _<_}
+use mathlib.Core.Path.{_≡_, refl, sym, ap, _∙_}
+use mathlib.Core.Logic.{_≢_}
+use mathlib.Core.Bool.{Bool, true, false, _||_}
+use mathlib.Core.Option.{Option}
+use mathlib.Core.List.{List, [], _∷_}
+use native.Mathlib.Omega.{arith}
+use lib.Dec.{eqb, ltb}
+use lib.ListN.{length, take}
+use borrow.Author.Tests.{eq-eqb, ne-eqb, ltb-true, ltb-false}
+use Rattle.record.specs.Common.{if_then_else_}
+use Rattle.record.specs.Refusals.{number-of, missing-start-code, contains-invalid-characters, record-too-long}
+use Rattle.record.specs.Digits.{all-digits}
+use Rattle.record.specs.Line.{wrong, judge}
+use Rattle.record.specs.declared.Record.{Record}
+use Rattle.reader.specs.declared.Answer.{Answer}
+use Rattle.reader.specs.declared.Answer.the-variants.{Read, Refused}
+use Rattle.reader.specs.declared.ReaderError.{ReaderError}
+use Rattle.reader.specs.Told.{Told, gives, refuses, done, told, refusal-of}
+use Rattle.reader.specs.Answer.{Reads, answered, poured}
+use Rattle.reader.specs.Text.{is-full, ends-row}
+use Rattle.reader.proofs.Reading.{full-keeps}
+use Rattle.chunks.specs.declared.Chunks.{Chunks}
+use Rattle.chunks.specs.declared.Place.{Place}
+use Rattle.chunks.specs.declared.Place.the-variants.{Nowhere}
+use Rattle.chunks.specs.declared.ChunkReply.the-variants as reply
+use Rattle.chunks.specs.declared.ChunkStep.{ChunkStep}
+use Rattle.chunks.specs.Next.{tells, word, is-record, past-line, number-behind, place, at-place, in-carry, answered-line, Meets}
+use Rattle.chunks.specs.Helpers.{Settles, Plain}
+use Rattle.chunks.proofs.Brief.{too-long, judge-over}
+
+-- ---- one answer
+
+module _ (s : Chunks) (answer : Answer) (position line : ℕ) (last : Bool) (lies : Place) where
+  pub settle-read : (r : Record) (state : Chunks) (finished : Bool) → answer ≡ Read r → state ≡ past-line s position line finished
+      → finished ≡ (last || ends-row (s .options) (told (Read r)))
+      → Settles s (told answer) position line last lies (record { reply = reply.Read r; state = state; lies = lies })
+  unfolding is-full is-record
+  settle-read r state finished e f g = rw (e, f, g) (record { answer = refl; state = refl; place = refl })
+
+  pub settle-full : (e : ReaderError) (r : ChunkStep) → answer ≡ Refused e → number-of (refusal-of e) ≡ 10 → Plain (reply.Refused e) s r
+      → Settles s (told answer) position line last lies r
+  unfolding is-full is-record
+  settle-full e r a n p =
+      rw a (record { answer = ap word (p .reply-is); state = p .state-is ∙ rw (eq-eqb (number-of (refusal-of e)) 10 n); place = p .lies-is })
+
+  pub settle-refused : (e : ReaderError) (state : Chunks) (finished : Bool) (r : ChunkStep) → answer ≡ Refused e → number-of (refusal-of e) ≢ 10
+      → state ≡ past-line s position line finished → finished ≡ (last || s .options .«stop_after_first_error») → Plain (reply.Refused e) state r
+      → Settles s (told answer) position line last lies r
+  unfolding is-full is-record ends-row
+  settle-refused e state finished r a n f g p =
+      rw a (record {
+        answer = ap word (p .reply-is);
+        state = p .state-is ∙ f ∙ rw (ne-eqb (number-of (refusal-of e)) 10 n, g);
+        place = p .lies-is;
+      })
+
+-- ---- a line over 521 bytes gives neither a record nor PoolFull
+
+record Refusing (t : Told) : Type 0 where
+  not-full : is-full t ≡ false
+  no-record : is-record t ≡ false
+
+long : (colon digits : Bool) (n at : ℕ)
+    → Refusing (answered (if colon then (if digits then wrong record-too-long else wrong contains-invalid-characters) else wrong missing-start-code) n at)
+unfolding answered is-full is-record
+long true true n at = record { not-full = refl; no-record = refl }
+long true false n at = record { not-full = refl; no-record = refl }
+long false digits n at = record { not-full = refl; no-record = refl }
+
+long-refused : (l : List ℕ) (n at : ℕ) → 521 < length l → Refusing (answered (judge l) n at)
+long-refused [] n at h = absurd (omega arith)
+long-refused (c ∷ ds) n at h = rw (judge-over c ds (omega arith)) (long (eqb c 58) (all-digits ds) n at)
+
+-- so what holds of an answer and of no refusal tells a short line
+short : (P : Told → Bool) (l : List ℕ) (n at : ℕ) → (521 < length l → P (answered (judge l) n at) ≡ false) → P (answered (judge l) n at) ≡ true → length l < 522
+short P l n at h e = go (ltb (length l) 522) refl
+  where
+    go : (t : Bool) → ltb (length l) 522 ≡ t → length l < 522
+    go true f = ltb-true (length l) 522 f
+    go false f =
+        let g : _≡_ {A = Bool} true false = sym e ∙ h (omega (arith, ltb-false (length l) 522 f)) in
+        let z : _≡_ {A = ℕ} 0 1 = cc in absurd (omega arith)
+
+pub full-short : (l : List ℕ) (n at : ℕ) → is-full (answered (judge l) n at) ≡ true → length l < 522
+full-short l n at e = short is-full l n at (λ h. long-refused l n at h .not-full) e
+
+pub record-short : (l : List ℕ) (n at : ℕ) → is-record (answered (judge l) n at) ≡ true → length l < 522
+record-short l n at e = short is-record l n at (λ h. long-refused l n at h .no-record) e
+
+-- ---- a line is answered
+
+full-no-record : (t : Told) → is-full t ≡ true → is-record t ≡ false
+unfolding is-full is-record
+full-no-record (gives kind numbers) e = let z : _≡_ {A = ℕ} 0 1 = cc in absurd (omega arith)
+full-no-record (refuses r) e = refl
+full-no-record done e = refl
+
+module _ (s : Chunks) (used chunk pool : List ℕ) (at : ℕ) (start : Option (List ℕ)) (empties : ℕ) (kept : List ℕ) (position : ℕ) (last : Bool) (line : ℕ) (lies : Place)
+    (a : Answer) (r : ChunkStep) (carry′ pool′ : List ℕ) where
+  t : Told
+  t = answered (judge kept) (length pool) at
+
+  pub met : Reads (judge kept) pool at a pool′ → Settles s (told a) position line last lies r → line ≡ number-behind s empties
+      → (is-record (answered (judge kept) (length pool) at) ≡ true → lies ≡ place chunk start kept)
+      → (is-record (answered (judge kept) (length pool) at) ≡ true → at-place lies chunk carry′ ≡ kept)
+      → (is-full (answered (judge kept) (length pool) at) ≡ true → take (length used) carry′ ≡ used)
+      → take (length (in-carry start kept)) carry′ ≡ in-carry start kept
+      → Meets (answered-line s used chunk pool at start empties kept position last) chunk r carry′ pool′
+  unfolding answered-line t
+  met reads settles number placed seen keeps holds = go (is-full t) refl
+    where
+      put-at : (b : Bool) → is-record t ≡ b → (if b then lies else Nowhere) ≡ (if b then place chunk start kept else Nowhere)
+      put-at true e = placed e
+      put-at false e = refl
+
+      stands : (b : Bool) → is-record t ≡ b → at-place (if b then lies else Nowhere) chunk carry′ ≡ (if b then kept else [])
+      stands true e = seen e
+      stands false e = refl
+
+      lies-is : r .lies ≡ (if is-record t then lies else Nowhere)
+      lies-is = settles .place ∙ ap (λ (x : Told). if is-record x then lies else Nowhere) (reads .answer)
+
+      nowhere : is-full t ≡ true → r .lies ≡ Nowhere
+      nowhere e = lies-is ∙ rw (full-no-record t e)
+
+      state-is : r .state ≡ (if is-full t then s else past-line s position line (last || ends-row (s .options) t))
+      state-is = settles .state ∙ ap (λ (x : Told). if is-full x then s else past-line s position line (last || ends-row (s .options) x)) (reads .answer)
+
+      go : (f : Bool) → is-full t ≡ f
+          → Meets (if f
+          then record { word = tells t; state = s; lies = Nowhere; shows = []; carried = used; pool = pool }
+          else record {
+            word = tells t;
+            state = past-line s position (number-behind s empties) (last || ends-row (s .options) t);
+            lies = if is-record t then place chunk start kept else Nowhere;
+            shows = if is-record t then kept else [];
+            carried = in-carry start kept;
+            pool = poured (judge kept) pool at;
+          }) chunk r carry′ pool′
+      go true e =
+          record {
+            answer = settles .answer ∙ ap tells (reads .answer);
+            state = state-is ∙ rw e;
+            lies = nowhere e;
+            shows = ap (λ (p : Place). at-place p chunk carry′) (nowhere e);
+            carry = keeps e;
+            left = reads .left ∙ full-keeps (judge kept) pool at e;
+          }
+      go false e =
+          record {
+            answer = settles .answer ∙ ap tells (reads .answer);
+            state = state-is ∙ rw (e, number);
+            lies = lies-is ∙ put-at (is-record t) refl;
+            shows = ap (λ (p : Place). at-place p chunk carry′) lies-is ∙ stands (is-record t) refl;
+            carry = holds;
+            left = reads .left;
+          }

@@ -1,0 +1,41 @@
+use lib.ListN.{take}
+use Rattle.chunks.specs.Begun.{with-CR, push}
+use Rattle.chunks.specs.Helpers.{held}
+use Rattle.chunks.proofs.Carry.{onward, added-CR, added}
+use mathlib.Core.Path.{_≡_, refl}
+use denote.Ref.{now}
+use borrow.Author.Needs.{needs}
+use Rattle.chunks.proofs.add.Statement.{statement}
+use Rattle.chunks.proofs.add.Tie as tie
+
+with-cr-requires : tie.Need-with-cr-requires
+with-cr-requires c κs = search needs
+
+same-length : tie.Need-same-length
+same-length c = search needs
+
+returns : tie.Need-returns
+returns c =
+    let a = c .before .before .before .before .before .before .args in
+    rw (added-CR (now (a .carry)) (a .used) (a .cr) (a .c) (c .if1 .taken)) (c .before .before .before .with-cr .ensures, refl)
+
+push-requires : tie.Need-push-requires
+push-requires c κs = search needs
+
+same-length-2 : tie.Need-same-length-2
+same-length-2 c = search needs
+
+returns-2 : tie.Need-returns-2
+returns-2 c =
+    let a = c .before .before .before .before .before .before .before .before .before .before .args in
+    let w = c .before .before .before .before .before .before .before .with-cr in
+    let p = c .before .before .push in
+    rw (added (now (a .carry)) (a .used) (a .cr) (a .c) (c .before .before .before .before .if1 .left)) (
+      onward (now (a .carry)) (a .used) (with-CR (held (now (a .carry)) (a .used) (a .cr))) (w .result) (w .last .0)
+          (push (with-CR (held (now (a .carry)) (a .used) (a .cr))) (a .c)) (p .result) (p .last .0) (w .ensures) (rw (← (w .ensures .holds)) (p .ensures)),
+      refl,
+    )
+
+pub add-spec : {M : Type 1} → statement M
+add-spec =
+    tie.close (tie.spec with-cr-requires same-length returns push-requires same-length-2 returns-2)

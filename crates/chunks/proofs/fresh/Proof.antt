@@ -1,0 +1,106 @@
+-- `chunks::fresh` meets its contract: what is left of the chunk has no LF and goes into the carry, or a line is read where it lies.
+-- Assumes nothing.
+use mathlib.Core.Path.{subst}
+use native.Mathlib.Omega.{arith}
+use borrow.Author.Needs.{needs}
+use denote.Ref.{now}
+use Rattle.chunks.specs.declared.Cut.{Cut}
+use Rattle.chunks.specs.Helpers.{CutAt, WholeLine, OpenLine}
+use Rattle.chunks.proofs.Paths.{fresh-open, fresh-line}
+use Rattle.chunks.proofs.fresh.Statement.{statement}
+use Rattle.chunks.proofs.fresh.Tie as tie
+
+opened : (c : tie.After-from)
+    → let a = c .before .before .before .before .before .before .args in
+    OpenLine (now (a .chunk)) (a .position) (a .empties) (c .from .given .0 .0) (c .from .given .0 .1 .0)
+opened c =
+    let a = c .before .before .before .before .before .before .args in
+    subst (λ (x : Cut). CutAt (now (a .chunk)) (a .position) (a .empties) x) (c .from .given .1) (c .before .before .find .ensures)
+
+found : (c : tie.After-from2)
+    → let a = c .before .before .before .before .before .before .args in
+    let g = c .from2 .given .0 in
+    WholeLine (now (a .chunk)) (a .position) (a .empties) (g .0) (g .1 .0) (g .1 .1 .0) (g .1 .1 .1 .0)
+found c =
+    let a = c .before .before .before .before .before .before .args in
+    subst (λ (x : Cut). CutAt (now (a .chunk)) (a .position) (a .empties) x) (c .from2 .given .1) (c .before .before .find .ensures)
+
+find-requires : tie.Need-find-requires
+find-requires c κs = search needs
+
+enum-known-from : tie.Need-enum-known-from
+enum-known-from c = search needs
+
+gather-requires : tie.Need-gather-requires
+gather-requires c κs = (opened (c .before .before) .inside, omega arith, c .before .before .before .before .before .before .before .before .pre .1)
+
+used-up-requires : tie.Need-used-up-requires
+used-up-requires c κs = search needs
+
+enum-known-from-2 : tie.Need-enum-known-from-2
+enum-known-from-2 c = search needs
+
+add-to : tie.Need-add-to
+add-to c = omega (arith, found (c .before) .inside)
+
+sub-read-record : tie.Need-sub-read-record
+sub-read-record c = search needs
+
+part-read-record-start : tie.Need-part-read-record-start
+part-read-record-start c = search needs
+
+part-read-record-end : tie.Need-part-read-record-end
+part-read-record-end c = found (c .before) .inside
+
+read-record-requires : tie.Need-read-record-requires
+read-record-requires c κs = search needs
+
+number-behind-requires : tie.Need-number-behind-requires
+number-behind-requires c κs = search needs
+
+settle-requires : tie.Need-settle-requires
+settle-requires c κs = search needs
+
+same-length : tie.Need-same-length
+same-length c = search needs
+
+returns : tie.Need-returns
+returns c =
+    let a = c .before .before .before .before .before .before .before .before .before .before .before .before .args in
+    let f = c .before .before .before .before .before .before .from .given .0 in
+    let g = c .before .before .before .gather in
+    fresh-open (a .s) (now (a .chunk)) (a .position) (a .empties) (f .0) (f .1 .0) (now (a .carry)) (now (a .pool)) (a .at)
+    (g .result .position) (g .result .used) (g .result .cr) (c .used-up .result) (g .last .1 .1 .0) (opened (c .before .before .before .before .before .before)) (g .ensures .0)
+    (omega (arith, g .ensures .1 .within, g .kept .1 .1 .0, c .before .before .before .before .before .before .before .before .before .before .before .before .pre)) (c .used-up .ensures)
+
+same-length-2 : tie.Need-same-length-2
+same-length-2 c = search needs
+
+returns-2 : tie.Need-returns-2
+returns-2 c =
+    let a = c .before .before .before .before .before .before .before .before .before .before .before .before .before .before .args in
+    let f = c .before .before .before .before .before .before .before .before .from2 .given .0 in
+    let q = c .before .before .before .before .read-record in
+    fresh-line (a .s) (now (a .chunk)) (a .position) (a .empties) (f .0) (f .1 .0) (f .1 .1 .0) (f .1 .1 .1 .0) (now (a .pool)) (a .at) (q .result) (c .before .number-behind .result) (c .settle .result)
+    (now (a .carry)) (q .last .1 .0) (found (c .before .before .before .before .before .before .before .before)) (q .ensures) (c .before .number-behind .ensures) (c .settle .ensures)
+
+pub fresh-spec : {M : Type 1} → statement M
+fresh-spec =
+    tie.close
+    (tie.spec
+    find-requires
+    enum-known-from
+    gather-requires
+    used-up-requires
+    enum-known-from-2
+    add-to
+    sub-read-record
+    part-read-record-start
+    part-read-record-end
+    read-record-requires
+    number-behind-requires
+    settle-requires
+    same-length
+    returns
+    same-length-2
+    returns-2)

@@ -1,0 +1,104 @@
+-- `chunks::older` meets its contract: the chunk is used up, an empty line is passed, or the line in the carry is read.
+-- Assumes nothing.
+use mathlib.Core.Path.{sym}
+use native.Mathlib.Omega.{arith}
+use borrow.Author.Needs.{needs}
+use denote.Ref.{now}
+use lib.Seq.{length-take-le}
+use Rattle.chunks.proofs.Paths.{older-open, older-line, older-empty}
+use Rattle.chunks.proofs.older.Statement.{statement}
+use Rattle.chunks.proofs.older.Tie as tie
+
+gather-requires : tie.Need-gather-requires
+gather-requires c κs = search needs
+
+used-up-requires : tie.Need-used-up-requires
+used-up-requires c κs = search needs
+
+same-length : tie.Need-same-length
+same-length c = search needs
+
+returns : tie.Need-returns
+returns c =
+    let a = c .before .before .before .before .before .before .before .before .before .args in
+    let g = c .before .before .before .before .gather in
+    older-open (a .s) (now (a .chunk)) (a .position) (now (a .carry)) (now (a .pool)) (a .at) (g .result .position) (g .result .used) (g .result .cr) (c .used-up .result) (g .last .1 .1 .0)
+    (g .ensures .0) (c .before .if1 .taken) (omega (arith, g .ensures .1 .within, g .kept .1 .1 .0, c .before .before .before .before .before .before .before .before .before .pre)) (c .used-up .ensures)
+
+add-next : tie.Need-add-next
+add-next c = search needs
+
+wrapping-add-usize-requires : tie.Need-wrapping-add-usize-requires
+wrapping-add-usize-requires c κs = search needs
+
+fresh-requires : tie.Need-fresh-requires
+fresh-requires c κs = search needs
+
+same-length-2 : tie.Need-same-length-2
+same-length-2 c = search needs
+
+same-length-3 : tie.Need-same-length-3
+same-length-3 c = search needs
+
+returns-2 : tie.Need-returns-2
+returns-2 c =
+    let a = c .before .before .before .before .before .before .before .before .before .before .before .before .before .before .before .before .before .args in
+    let g = c .before .before .before .before .before .before .before .before .before .before .before .before .gather in
+    let f = c .before .before .before .before .fresh in
+    older-empty (a .s) (now (a .chunk)) (a .position) (now (a .carry)) (now (a .pool)) (a .at) (g .result .position) (g .result .used) (g .result .cr) _ (f .result)
+    (g .last .1 .1 .0) (f .last .1 .1 .1 .1 .0) (f .last .1 .1 .1 .1 .1 .0) (g .ensures .0) (g .ensures .1) (c .before .before .before .before .before .before .before .before .before .if1 .left) (c .before .before .before .before .before .before .before .before .if2 .taken) (c .before .before .before .before .before .before .before .wrapping-add-usize .ensures) (f .ensures)
+
+slice-reshare-prefix-read-record : tie.Need-slice-reshare-prefix-read-record
+slice-reshare-prefix-read-record c = search needs
+
+slice-aggregate-read-record : tie.Need-slice-aggregate-read-record
+slice-aggregate-read-record c =
+    let g = c .before .before .before .before .before .gather in
+    sym (length-take-le (g .result .used) (g .last .1 .1 .0) (omega (arith, g .ensures .1 .within, g .kept .1 .1 .0, c .before .before .before .before .before .before .before .before .before .before .pre)))
+
+read-record-requires : tie.Need-read-record-requires
+read-record-requires c κs = search needs
+
+number-behind-requires : tie.Need-number-behind-requires
+number-behind-requires c κs = search needs
+
+settle-requires : tie.Need-settle-requires
+settle-requires c κs = search needs
+
+same-length-4 : tie.Need-same-length-4
+same-length-4 c = search needs
+
+same-length-5 : tie.Need-same-length-5
+same-length-5 c = search needs
+
+returns-3 : tie.Need-returns-3
+returns-3 c =
+    let a = c .before .before .before .before .before .before .before .before .before .before .before .before .before .before .before .before .args in
+    let g = c .before .before .before .before .before .before .before .before .before .before .before .gather in
+    let q = c .before .before .before .before .read-record in
+    older-line (a .s) (now (a .chunk)) (a .position) (now (a .carry)) (now (a .pool)) (a .at) (g .result .position) (g .result .used) (g .result .cr) (q .result) (c .before .number-behind .result) (c .settle .result)
+    (g .last .1 .1 .0) (q .last .1 .0) (g .ensures .0) (g .ensures .1) (c .before .before .before .before .before .before .before .before .if1 .left) (c .before .before .before .before .before .before .before .if2 .left)
+    (omega (arith, c .before .before .before .before .before .before .before .before .before .before .before .before .before .before .before .before .pre)) (omega (arith, g .ensures .1 .within, g .kept .1 .1 .0, c .before .before .before .before .before .before .before .before .before .before .before .before .before .before .before .before .pre)) (q .ensures) (c .before .number-behind .ensures) (c .settle .ensures)
+
+pub older-spec : {M : Type 1} → statement M
+older-spec =
+    tie.close
+    (tie.spec
+    gather-requires
+    used-up-requires
+    same-length
+    returns
+    add-next
+    wrapping-add-usize-requires
+    fresh-requires
+    same-length-2
+    same-length-3
+    returns-2
+    slice-reshare-prefix-read-record
+    slice-aggregate-read-record
+    read-record-requires
+    number-behind-requires
+    settle-requires
+    same-length-4
+    same-length-5
+    returns-3)

@@ -1,0 +1,78 @@
+-- What the helpers of the chunk reader promise each other.
+-- Assumes nothing.
+use Prim.Native.Nat.{ℕ, _+_, _≤_, _<_}
+use mathlib.Core.Path.{_≡_}
+use mathlib.Core.Logic.{_≢_}
+use mathlib.Core.Bool.{Bool, true, false, _||_}
+use mathlib.Core.Option.{Option, none, some}
+use mathlib.Core.List.{List, []}
+use lib.ListN.{length, take, drop, getD}
+use Rattle.record.specs.Common.{if_then_else_}
+use Rattle.reader.specs.Told.{Told}
+use Rattle.reader.specs.Lines.{LF}
+use Rattle.reader.specs.Text.{is-full, ends-row}
+use Rattle.chunks.specs.declared.Chunks.{Chunks}
+use Rattle.chunks.specs.declared.Place.{Place}
+use Rattle.chunks.specs.declared.Place.the-variants.{Nowhere}
+use Rattle.chunks.specs.declared.ChunkReply.{ChunkReply}
+use Rattle.chunks.specs.declared.ChunkStep.{ChunkStep}
+use Rattle.chunks.specs.declared.Cut.{Cut}
+use Rattle.chunks.specs.declared.Cut.the-variants.{Whole, Open}
+use Rattle.chunks.specs.Begun.{Begun, nothing, brief, Sought, ended, seek}
+use Rattle.chunks.specs.Next.{tells, word, is-record, holding, past-line}
+
+-- the carry's first bytes, and a CR that waits
+abbrev pub held : (carry : List ℕ) (used : ℕ) (cr : Bool) → Begun
+held carry used cr = record { kept = take used carry; cr = cr }
+
+-- the carry holds `kept` now; what it held before is its front, unless it is full
+pub record Grown (carry : List ℕ) (used : ℕ) (kept : List ℕ) (used′ : ℕ) (carry′ : List ℕ) : Type 0 where
+  pub holds : take used′ carry′ ≡ kept
+  pub within : used′ ≤ 522
+  pub more : used ≤ used′
+  pub earlier : used′ < 522 → take used carry′ ≡ take used carry
+
+-- the chunk was passed up to a LF or its end
+pub record Passed (chunk : List ℕ) (position : ℕ) (b : Begun) (position′ : ℕ) (b′ : Begun) : Type 0 where
+  pub goes-on : (start : Option (List ℕ)) (empties : ℕ) → seek start empties b (drop position chunk) ≡ seek start empties b′ (drop position′ chunk)
+  pub from : position ≤ position′
+  pub inside : position′ ≤ length chunk
+  pub feed : position′ < length chunk → getD chunk position′ 0 ≡ LF
+
+-- the search from a place of the chunk on, with nothing begun
+abbrev pub seek-at : (chunk : List ℕ) (position empties : ℕ) → Sought
+seek-at chunk position empties = seek (some (drop position chunk)) empties nothing (drop position chunk)
+
+-- the first line from a position on that ends in the chunk and has a byte
+pub record WholeLine (chunk : List ℕ) (position empties from len next empties′ : ℕ) : Type 0 where
+  pub line : seek-at chunk position empties ≡ ended (some (drop from chunk)) empties′ (brief (take len (drop from chunk))) (drop next chunk)
+  pub inside : from + len ≤ length chunk
+  pub beyond : next ≤ length chunk
+
+-- there is none: what is left from a place on has no LF
+pub record OpenLine (chunk : List ℕ) (position empties from empties′ : ℕ) : Type 0 where
+  pub goes-on : seek-at chunk position empties ≡ seek-at chunk from empties′
+  pub inside : from ≤ length chunk
+  pub no-feed : (k : ℕ) → from ≤ k → k < length chunk → getD chunk k 0 ≢ LF
+
+abbrev pub CutAt : (chunk : List ℕ) (position empties : ℕ) → Cut → Type 0
+CutAt chunk position empties (Whole from len next empties′) = WholeLine chunk position empties from len next empties′
+CutAt chunk position empties (Open from empties′) = OpenLine chunk position empties from empties′
+
+-- an answer to a line, with the state that it leaves
+pub record Settles (s : Chunks) (t : Told) (position line : ℕ) (last : Bool) (lies : Place) (r : ChunkStep) : Type 0 where
+  pub answer : word (r .reply) ≡ tells t
+  pub state : r .state ≡ (if is-full t then s else past-line s position line (last || ends-row (s .options) t))
+  pub place : r .lies ≡ (if is-record t then lies else Nowhere)
+
+-- a reply that names no line, with a state
+pub record Plain (reply : ChunkReply) (s : Chunks) (r : ChunkStep) : Type 0 where
+  pub reply-is : r .reply ≡ reply
+  pub state-is : r .state ≡ s
+  pub lies-is : r .lies ≡ Nowhere
+
+-- a place of n, or behind the last
+pub record Within (place n r : ℕ) : Type 0 where
+  pub inside : r ≤ n
+  pub same : place ≤ n → r ≡ place
+  pub last : n < place → r ≡ n

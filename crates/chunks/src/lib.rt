@@ -1,0 +1,513 @@
+// A text that comes in chunks, read to the answers of the whole text.
+use reader::Answer;
+use reader::ReaderError;
+use reader::ReaderOptions;
+use record::Record;
+use record::types;
+ghost use mathlib.Core.Path.{_≡_};
+ghost use mathlib.Core.Bool.{false, _||_};
+ghost use mathlib.Core.List.{[]};
+ghost use mathlib.Core.Option.{none};
+ghost use Prim.Native.Nat.{_≤_};
+ghost use lib.ListN.{length, take, drop};
+ghost use Rattle.record.specs.Digits.{is-digit};
+ghost use Rattle.reader.specs.Told.{told};
+ghost use Rattle.reader.specs.Text.{default-options, ends-row};
+ghost use Rattle.chunks.specs.Begun.{seek, push as pushed, with-CR, add as added};
+ghost use Rattle.chunks.specs.Next.{begun, holding, past-line, over, number-behind, of-sought, Meets, NextChunk, Finish, NewChunks, PartOf, Shown};
+ghost use Rattle.chunks.specs.Helpers.{held, Grown, Passed, seek-at, CutAt, Settles, Plain, Within};
+
+// Where a reader of chunks stands.
+pub struct Chunks {
+    // Where the next call goes on in its chunk.
+    pub position: usize,
+    // The number of the line that was answered last, and how many empty lines were passed behind it.
+    pub line: usize,
+    pub empties: usize,
+    // The line that is begun: so many bytes of the carry, and a CR behind them where `cr` is set.
+    pub used: usize,
+    pub cr: bool,
+    pub finished: bool,
+    pub options: ReaderOptions,
+}
+
+// What a call answers.
+pub enum ChunkReply {
+    Read(Record),
+    Refused(ReaderError),
+    // The chunk holds no more answers.
+    UsedUp,
+    Done,
+    // A carry under 522 bytes, or a state that counts more than 522 used.
+    CarryTooSmall,
+}
+
+// Where the line lies that gave a record.
+pub enum Place {
+    Nowhere,
+    InChunk { from: usize, len: usize },
+    InCarry { len: usize },
+}
+
+// A reply, where the reader stands then, and where the line lies that gave the record.
+pub struct ChunkStep {
+    pub reply: ChunkReply,
+    pub state: Chunks,
+    pub lies: Place,
+}
+
+// What the carry holds.
+struct Held {
+    used: usize,
+    cr: bool,
+}
+
+// The same, and how far the chunk was taken into it.
+struct Gathered {
+    position: usize,
+    used: usize,
+    cr: bool,
+}
+
+// A line that ends in the chunk and has a byte, or where the line begins that does not end in it.
+enum Cut {
+    Whole {
+        from: usize,
+        len: usize,
+        next: usize,
+        empties: usize,
+    },
+    Open {
+        from: usize,
+        empties: usize,
+    },
+}
+
+// A part of a slice, as much of it as there is.
+fn part<'a>(s: &'a [u8], from: usize, len: usize) -> &'a [u8]
+    ensures { λ r. ⌜ PartOf (s .entry) from len r ⌝ }
+{
+    if from > s.len() {
+        return &s[..0];
+    }
+    if len > s.len() - from {
+        return &s[from..];
+    }
+    let to = from + len;
+    &s[from..to]
+}
+
+// The line that gave a record, in the buffer where it lies; nothing after any other answer.
+pub fn shown<'a>(lies: Place, chunk: &'a [u8], carry: &'a [u8]) -> &'a [u8]
+    ensures { λ r. ⌜ Shown lies (chunk .entry) (carry .entry) r ⌝ }
+{
+    match lies {
+        Place::InChunk { from, len } => part(chunk, from, len),
+        Place::InCarry { len } => part(carry, 0, len),
+        Place::Nowhere => part(chunk, 0, 0),
+    }
+}
+
+// Whether a byte is a hexadecimal digit.
+fn is_digit(c: u8) -> bool
+    ensures { λ r. ⌜ r ≡ is-digit c ⌝ }
+{
+    if c < 48 {
+        return false;
+    }
+    if c <= 57 {
+        return true;
+    }
+    if c < 65 {
+        return false;
+    }
+    if c <= 70 {
+        return true;
+    }
+    if c < 97 {
+        return false;
+    }
+    c <= 102
+}
+
+// One byte more of the line in the carry. Behind 521 only one is kept: the first that is no digit, or the last.
+fn push(carry: &mut [u8], used: usize, c: u8) -> usize
+    requires { ⌜ (used ≤ 522) × (522 ≤ length (now carry)) ⌝ }
+    ensures { λ r. ⌜ Grown (now (carry .entry)) used (pushed (take used (now (carry .entry))) c) r (now (carry .exit)) ⌝ }
+{
+    if used < 522 {
+        carry[used] = c;
+        return used + 1;
+    }
+    if is_digit(carry[521]) {
+        carry[521] = c;
+    }
+    used
+}
+
+// The CR that waited is the line's.
+fn with_cr(carry: &mut [u8], used: usize, cr: bool) -> usize
+    requires { ⌜ (used ≤ 522) × (522 ≤ length (now carry)) ⌝ }
+    ensures { λ r. ⌜ Grown (now (carry .entry)) used (with-CR (held (now (carry .entry)) used cr)) r (now (carry .exit)) ⌝ }
+{
+    if cr {
+        return push(carry, used, 13);
+    }
+    used
+}
+
+// A byte that is no LF.
+fn add(carry: &mut [u8], used: usize, cr: bool, c: u8) -> Held
+    requires { ⌜ (used ≤ 522) × (522 ≤ length (now carry)) ⌝ }
+    ensures { λ r. ⌜ Grown (now (carry .entry)) used (added (held (now (carry .entry)) used cr) c .kept) (r .used) (now (carry .exit)) ⌝ }
+    ensures { λ r. ⌜ r .cr ≡ added (held (now (carry .entry)) used cr) c .cr ⌝ }
+{
+    let n = with_cr(carry, used, cr);
+    if c == 13 {
+        return Held { used: n, cr: true };
+    }
+    let m = push(carry, n, c);
+    Held { used: m, cr: false }
+}
+
+// Takes the chunk's bytes from a position into the carry, up to a LF or the chunk's end.
+fn gather(chunk: &[u8], position: usize, carry: &mut [u8], used: usize, cr: bool) -> Gathered
+    requires { ⌜ (position ≤ length (now chunk)) × (used ≤ 522) × (522 ≤ length (now carry)) ⌝ }
+    ensures { λ r. ⌜ Passed (now (chunk .entry)) position (held (now (carry .entry)) used cr) (r .position) (held (now (carry .exit)) (r .used) (r .cr)) ⌝ }
+    ensures { λ r. ⌜ Grown (now (carry .entry)) used (take (r .used) (now (carry .exit))) (r .used) (now (carry .exit)) ⌝ }
+{
+    let mut i = position;
+    let mut n = used;
+    let mut w = cr;
+    while i < chunk.len() {
+        let c = chunk[i];
+        if c == 10 {
+            return Gathered {
+                position: i,
+                used: n,
+                cr: w,
+            };
+        }
+        let h = add(carry, n, w, c);
+        n = h.used;
+        w = h.cr;
+        i += 1;
+    }
+    Gathered {
+        position: i,
+        used: n,
+        cr: w,
+    }
+}
+
+// The first line from a position on that ends in the chunk and has a byte, where nothing is begun.
+fn find(chunk: &[u8], position: usize, empties: usize) -> Cut
+    requires { ⌜ position ≤ length (now chunk) ⌝ }
+    ensures { λ r. ⌜ CutAt (now (chunk .entry)) position empties r ⌝ }
+{
+    let mut from = position;
+    let mut passed = empties;
+    while from < chunk.len() {
+        let mut n = 0;
+        let line = reader::first_line(&chunk[from..], &mut n);
+        let len = line.len();
+        let next = from + n;
+        if chunk[next - 1] != 10 {
+            return Cut::Open {
+                from,
+                empties: passed,
+            };
+        }
+        if len > 0 {
+            return Cut::Whole {
+                from,
+                len,
+                next,
+                empties: passed,
+            };
+        }
+        from = next;
+        passed = std::num::wrapping_add_usize(passed, 1);
+    }
+    Cut::Open {
+        from,
+        empties: passed,
+    }
+}
+
+fn either(a: bool, b: bool) -> bool
+    ensures { λ r. ⌜ r ≡ (a || b) ⌝ }
+{
+    if a {
+        return true;
+    }
+    b
+}
+
+// Whether a record is the last that is read.
+fn ends(options: ReaderOptions, given: Record) -> bool
+    ensures { λ r. ⌜ r ≡ ends-row options (told (Answer.Read given)) ⌝ }
+{
+    if given.record_type() == types::END_OF_FILE {
+        return options.stop_after_eof;
+    }
+    false
+}
+
+// The number of a line, with so many empty lines ahead of it since the last one that was answered.
+fn number_behind(s: Chunks, empties: usize) -> usize
+    ensures { λ r. ⌜ r ≡ number-behind s empties ⌝ }
+{
+    std::num::wrapping_add_usize(s.line, std::num::wrapping_add_usize(empties, 1))
+}
+
+// The state behind a line that was answered.
+fn past_line(s: Chunks, position: usize, line: usize, finished: bool) -> Chunks
+    ensures { λ r. ⌜ r ≡ past-line s position line finished ⌝ }
+{
+    let options = s.options;
+    Chunks {
+        position,
+        line,
+        empties: 0,
+        used: 0,
+        cr: false,
+        finished,
+        options,
+    }
+}
+
+// A reply that names no line.
+fn plain(reply: ChunkReply, state: Chunks) -> ChunkStep
+    ensures { λ r. ⌜ Plain reply state r ⌝ }
+{
+    ChunkStep {
+        reply,
+        state,
+        lies: Place::Nowhere,
+    }
+}
+
+// The reply to a line that was answered, and the state behind it; PoolFull does not use the line up.
+fn settle(
+    s: Chunks,
+    answer: Answer,
+    position: usize,
+    line: usize,
+    last: bool,
+    lies: Place,
+) -> ChunkStep
+    ensures { λ r. ⌜ Settles s (told answer) position line last lies r ⌝ }
+{
+    let options = s.options;
+    match answer {
+        Answer::Read(r) => {
+            let finished = either(last, ends(options, r));
+            ChunkStep {
+                reply: ChunkReply::Read(r),
+                state: past_line(s, position, line, finished),
+                lies,
+            }
+        }
+        Answer::Refused(e) => {
+            if e.number() == 10 {
+                return plain(ChunkReply::Refused(e), s);
+            }
+            let finished = either(last, options.stop_after_first_error);
+            plain(
+                ChunkReply::Refused(e),
+                past_line(s, position, line, finished),
+            )
+        }
+    }
+}
+
+// The chunk is used up, and the carry holds a line that is begun.
+fn used_up(s: Chunks, empties: usize, used: usize, cr: bool) -> ChunkStep
+    ensures { λ r. ⌜ Plain ChunkReply.UsedUp (record { position = 0; line = s .line; empties = empties; used = used; cr = cr; finished = false; options = s .options }) r ⌝ }
+{
+    let options = s.options;
+    let state = Chunks {
+        position: 0,
+        line: s.line,
+        empties,
+        used,
+        cr,
+        finished: false,
+        options,
+    };
+    plain(ChunkReply::UsedUp, state)
+}
+
+// Nothing is begun: the first line of the chunk from a position on is judged where it lies.
+fn fresh(
+    s: Chunks,
+    chunk: &[u8],
+    position: usize,
+    empties: usize,
+    carry: &mut [u8],
+    pool: &mut [u8],
+    at: usize,
+) -> ChunkStep
+    requires { ⌜ (position ≤ length (now chunk)) × (522 ≤ length (now carry)) ⌝ }
+    ensures { λ r. ⌜ Meets (of-sought s [] (now (chunk .entry)) (now (pool .entry)) at (seek-at (now (chunk .entry)) position empties)) (now (chunk .entry)) r (now (carry .exit)) (now (pool .exit)) ⌝ }
+{
+    match find(chunk, position, empties) {
+        Cut::Open { from, empties: n } => {
+            let g = gather(chunk, from, carry, 0, false);
+            used_up(s, n, g.used, g.cr)
+        }
+        Cut::Whole {
+            from,
+            len,
+            next,
+            empties: n,
+        } => {
+            let to = from + len;
+            let answer = reader::read_record(&chunk[from..to], pool, at);
+            settle(
+                s,
+                answer,
+                next,
+                number_behind(s, n),
+                false,
+                Place::InChunk { from, len },
+            )
+        }
+    }
+}
+
+// A line is begun: it is gathered in the carry and judged there. An empty one, whose CR was cut from its LF, is passed.
+fn older(
+    s: Chunks,
+    chunk: &[u8],
+    position: usize,
+    carry: &mut [u8],
+    pool: &mut [u8],
+    at: usize,
+) -> ChunkStep
+    requires { ⌜ (position ≤ length (now chunk)) × (s .used ≤ 522) × (522 ≤ length (now carry)) ⌝ }
+    ensures { λ r. ⌜ Meets (of-sought s (take (s .used) (now (carry .entry))) (now (chunk .entry)) (now (pool .entry)) at (seek none (s .empties) (begun s (now (carry .entry))) (drop position (now (chunk .entry))))) (now (chunk .entry)) r (now (carry .exit)) (now (pool .exit)) ⌝ }
+{
+    let g = gather(chunk, position, carry, s.used, s.cr);
+    let feed = g.position;
+    let used = g.used;
+    if feed == chunk.len() {
+        return used_up(s, s.empties, used, g.cr);
+    }
+    let next = feed + 1;
+    if used == 0 {
+        let empties = std::num::wrapping_add_usize(s.empties, 1);
+        return fresh(s, chunk, next, empties, carry, pool, at);
+    }
+    let answer = reader::read_record(&carry[..used], pool, at);
+    settle(
+        s,
+        answer,
+        next,
+        number_behind(s, s.empties),
+        false,
+        Place::InCarry { len: used },
+    )
+}
+
+// A place of n bytes, or behind the last.
+fn within(place: usize, n: usize) -> usize
+    ensures { λ r. ⌜ Within place n r ⌝ }
+{
+    if place > n {
+        return n;
+    }
+    place
+}
+
+// The state at the text's end.
+fn over(s: Chunks) -> Chunks
+    ensures { λ r. ⌜ r ≡ over s ⌝ }
+{
+    let options = s.options;
+    Chunks {
+        position: s.position,
+        line: s.line,
+        empties: s.empties,
+        used: s.used,
+        cr: s.cr,
+        finished: true,
+        options,
+    }
+}
+
+impl Chunks {
+    // At the beginning of any text, with both stops on.
+    pub fn new() -> Chunks
+        ensures { λ r. ⌜ NewChunks default-options r ⌝ }
+    {
+        Chunks::new_with_options(ReaderOptions::default())
+    }
+
+    // At the beginning of any text.
+    pub fn new_with_options(options: ReaderOptions) -> Chunks
+        ensures { λ r. ⌜ NewChunks options r ⌝ }
+    {
+        Chunks {
+            position: 0,
+            line: 0,
+            empties: 0,
+            used: 0,
+            cr: false,
+            finished: false,
+            options,
+        }
+    }
+
+    // The next answer that the chunk holds, from where the state stands in it. The payload of a data record goes into the pool at a position.
+    pub fn next(self, chunk: &[u8], carry: &mut [u8], pool: &mut [u8], at: usize) -> ChunkStep
+        ensures { λ r. ⌜ NextChunk self (now (chunk .entry)) (now (carry .entry)) (now (pool .entry)) at r (now (carry .exit)) (now (pool .exit)) ⌝ }
+    {
+        if carry.len() < 522 {
+            return plain(ChunkReply::CarryTooSmall, self);
+        }
+        if self.used > 522 {
+            return plain(ChunkReply::CarryTooSmall, self);
+        }
+        if self.finished {
+            return plain(ChunkReply::Done, self);
+        }
+        let position = within(self.position, chunk.len());
+        if self.used > 0 {
+            return older(self, chunk, position, carry, pool, at);
+        }
+        if self.cr {
+            return older(self, chunk, position, carry, pool, at);
+        }
+        fresh(self, chunk, position, self.empties, carry, pool, at)
+    }
+
+    // Ends the text: what is begun is its last line.
+    pub fn finish(self, carry: &mut [u8], pool: &mut [u8], at: usize) -> ChunkStep
+        ensures { λ r. ⌜ Finish self (now (carry .entry)) (now (pool .entry)) at r (now (carry .exit)) (now (pool .exit)) ⌝ }
+    {
+        if carry.len() < 522 {
+            return plain(ChunkReply::CarryTooSmall, self);
+        }
+        if self.used > 522 {
+            return plain(ChunkReply::CarryTooSmall, self);
+        }
+        if self.finished {
+            return plain(ChunkReply::Done, self);
+        }
+        let used = with_cr(carry, self.used, self.cr);
+        if used == 0 {
+            return plain(ChunkReply::Done, over(self));
+        }
+        let answer = reader::read_record(&carry[..used], pool, at);
+        settle(
+            self,
+            answer,
+            0,
+            number_behind(self, self.empties),
+            true,
+            Place::InCarry { len: used },
+        )
+    }
+}
