@@ -68,7 +68,7 @@ unfolding seek settled waiting first-line rest
 at-feed start empties kept true text = refl
 at-feed start empties kept false text = refl
 
-rest-on : (c : ℕ) (text : List ℕ) → eqb c LF ≡ false → rest (c ∷ text) ≡ rest text
+pub rest-on : (c : ℕ) (text : List ℕ) → eqb c LF ≡ false → rest (c ∷ text) ≡ rest text
 unfolding rest
 rest-on c text e = rw e
 

@@ -6,3 +6,9 @@ pub mod InPlace
 pub mod Outcomes
 pub mod Paths
 pub mod FirstTests
+pub mod Pieces
+pub mod Rows
+pub mod Kept
+pub mod Stops
+pub mod Calls
+pub mod Claims

@@ -92,7 +92,7 @@ record-short l n at e = short is-record l n at (λ h. long-refused l n at h .no-
 
 -- ---- a line is answered
 
-full-no-record : (t : Told) → is-full t ≡ true → is-record t ≡ false
+pub full-no-record : (t : Told) → is-full t ≡ true → is-record t ≡ false
 unfolding is-full is-record
 full-no-record (gives kind numbers) e = let z : _≡_ {A = ℕ} 0 1 = cc in absurd (omega arith)
 full-no-record (refuses r) e = refl

@@ -1,3 +1,5 @@
 pub mod Begun
 pub mod Next
 pub mod Helpers
+pub mod Rows
+pub mod Claims
