@@ -5,7 +5,7 @@ use mathlib.Core.Path.{_≡_, refl, sym, _∙_, ap, ap₂, subst}
 use mathlib.Core.Logic.{_≢_, _⊎_, inl, inr}
 use mathlib.Core.Bool.{Bool, true, false, _||_}
 use mathlib.Core.Option.{Option, none}
-use mathlib.Core.List.{List, [], _∷_, _++_}
+use mathlib.Core.List.{List, [], _∷_}
 use native.Mathlib.Omega.{arith}
 use lib.Dec.{ltb}
 use lib.ListN.{length, take, drop, length-append, length-drop}
@@ -27,11 +27,10 @@ use Rattle.reader.proofs.Reading.{full-keeps}
 use Rattle.reader.proofs.Room.{never-full}
 use Rattle.reader.proofs.Stays.{never-done}
 use Rattle.chunks.specs.declared.Chunks.{Chunks}
-use Rattle.chunks.specs.declared.ChunkStep.{ChunkStep}
 use Rattle.chunks.specs.declared.Place.the-variants.{Nowhere}
 use Rattle.chunks.specs.Begun.{Begun, is-empty, with-CR, Sought, ended, unended, look}
 use Rattle.chunks.specs.Next.{Word, tells, used-up, word, is-record, begun, past-line, over, number-behind, place, in-carry, Outcome, unchanged, answered-line, of-sought, too-small, next-outcome, finish-outcome, Meets}
-use Rattle.chunks.specs.Claims.{Same-but-carry, Carry-blind, Too-small, Eighteen, Carry-first, Eighteen-changes-nothing, Full-keeps, Gives-then, Full-then-room, Only-done, Finish-ends, Done-stays, Moves}
+use Rattle.chunks.specs.Claims.{Same-but-carry, Carry-blind, Too-small, Carry-first, Eighteen-changes-nothing, Full-keeps, Gives-then, Full-then-room, Only-done, Finish-ends, Done-stays, Moves}
 use Rattle.chunks.proofs.FirstTests.{small-carry, much-used, big-enough, next-18, next-over, next-on, nothing-left, finish-18, finish-over, finish-on}
 use Rattle.chunks.proofs.Rows.{Fine, fine}
 

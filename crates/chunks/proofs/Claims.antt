@@ -1,12 +1,11 @@
 -- The claims on rows, and that each call has one outcome: a row is the one over the pieces, which are the lines as they are kept; a reply
 -- is found again from its word.
 -- Assumes nothing.
-use Prim.Native.Nat.{ℕ, _<_}
+use Prim.Native.Nat.{ℕ}
 use mathlib.Core.Path.{_≡_, refl, sym, _∙_, ap, ap₂, subst}
 use mathlib.Core.List.{List, [], _∷_}
 use native.Mathlib.Omega.{arith}
 use lib.Dec.{eqb}
-use lib.ListN.{length}
 use Rattle.record.specs.Common.{if_then_else_, Every}
 use Rattle.record.specs.Refusals.{number-of}
 use Rattle.reader.specs.declared.ReaderOptions.{ReaderOptions}
@@ -17,7 +16,7 @@ use Rattle.reader.specs.declared.Answer.the-variants as answer
 use Rattle.reader.specs.Told.{Told, gives, refuses, done}
 use Rattle.reader.specs.Lines.{lines}
 use Rattle.reader.specs.Row.{Numbered}
-use Rattle.reader.specs.Calls.{Call, replies}
+use Rattle.reader.specs.Calls.{replies}
 use Rattle.reader.proofs.Claims.{untold, untold-told}
 use Rattle.reader.proofs.Texts.{rows, lines-few}
 use Rattle.chunks.specs.declared.Chunks.{Chunks}
@@ -27,13 +26,13 @@ use Rattle.chunks.specs.declared.ChunkReply.{ChunkReply}
 use Rattle.chunks.specs.declared.ChunkReply.the-variants.{Read, Refused, UsedUp, Done, CarryTooSmall}
 use Rattle.chunks.specs.declared.ChunkStep.{ChunkStep}
 use Rattle.chunks.specs.Begun.{nothing}
-use Rattle.chunks.specs.Next.{Word, tells, used-up, word, new-chunks, Meets}
-use Rattle.chunks.specs.Rows.{joined, Seen, Nth, numbered, showing}
+use Rattle.chunks.specs.Next.{Word, tells, used-up, word, new-chunks}
+use Rattle.chunks.specs.Rows.{joined, Nth, numbered, showing}
 use Rattle.chunks.specs.Claims.{Judged-as-kept, Any-cuts, givens-of, Same-row, Shows-the-line, without-pools, Nothing-else, New-unique, Next-unique, Finish-unique, Shown-unique}
 use Rattle.chunks.proofs.Brief.{judge-brief}
-use Rattle.chunks.proofs.Pieces.{M, pieces, pieces-lines}
+use Rattle.chunks.proofs.Pieces.{pieces, pieces-lines}
 use Rattle.chunks.proofs.Rows.{from-place, unseen, rows-met}
-use Rattle.chunks.proofs.Kept.{kept-rows, said-of, showing-replies, said-numbered, lines-stand, shows-right, Shown-right}
+use Rattle.chunks.proofs.Kept.{kept-rows, showing-replies, said-numbered, lines-stand, shows-right, Shown-right}
 use Rattle.chunks.proofs.Stops.{alike-rows, behind-stop}
 
 pub judged-as-kept : Judged-as-kept

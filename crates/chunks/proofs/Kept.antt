@@ -1,6 +1,6 @@
 -- The row over the lines: a line is answered and shown as what is kept of it, and without the lines shown the row is the text reader's.
 -- Assumes nothing.
-use Prim.Native.Nat.{ℕ, suc, _+_, _-_, _%_, _≤_, _<_}
+use Prim.Native.Nat.{ℕ, suc, _+_, _-_, _≤_, _<_}
 use mathlib.Core.Path.{_≡_, refl, sym, _∙_, ap, ap₂}
 use mathlib.Core.Bool.{Bool, true, false}
 use mathlib.Core.List.{List, [], _∷_, _++_, append-assoc}
@@ -12,7 +12,7 @@ use Rattle.record.specs.Common.{if_then_else_, Every}
 use Rattle.record.specs.Line.{Said, judge}
 use Rattle.reader.specs.declared.ReaderOptions.{ReaderOptions}
 use Rattle.reader.specs.Told.{Told}
-use Rattle.reader.specs.Answer.{answered, poured}
+use Rattle.reader.specs.Answer.{answered}
 use Rattle.reader.specs.Lines.{lines}
 use Rattle.reader.specs.Row.{Numbered, on, sayings}
 use Rattle.reader.specs.Text.{is-full, ends-row}
@@ -25,7 +25,7 @@ use Rattle.chunks.proofs.Brief.{judge-brief}
 use Rattle.chunks.proofs.Outcomes.{full-no-record}
 use Rattle.chunks.proofs.Paths.{as-it-is}
 use Rattle.chunks.proofs.Pieces.{M, briefs}
-use Rattle.chunks.proofs.Rows.{answer-to, show-none, show-full, show-line}
+use Rattle.chunks.proofs.Rows.{answer-to, show-full, show-line}
 
 -- what lines say
 unfoldable pub said-of : List Nth → List Numbered

@@ -29,7 +29,7 @@ use Rattle.chunks.specs.declared.ChunkReply.the-variants as reply
 use Rattle.chunks.specs.declared.ChunkStep.{ChunkStep}
 use Rattle.chunks.specs.Next.{tells, word, is-record, past-line, number-behind, place, at-place, in-carry, answered-line, Meets}
 use Rattle.chunks.specs.Helpers.{Settles, Plain}
-use Rattle.chunks.proofs.Brief.{too-long, judge-over}
+use Rattle.chunks.proofs.Brief.{judge-over}
 
 -- ---- one answer
 

@@ -23,7 +23,7 @@ use Rattle.chunks.specs.declared.Place.the-variants.{InChunk, InCarry}
 use Rattle.chunks.specs.declared.ChunkReply.the-variants.{UsedUp}
 use Rattle.chunks.specs.declared.ChunkStep.{ChunkStep}
 use Rattle.chunks.specs.Begun.{Begun, nothing, is-empty, brief, counted, Sought, ended, unended, seek}
-use Rattle.chunks.specs.Next.{word, is-record, number-behind, begun, holding, place, at-place, in-carry, answered-line, of-sought, Meets}
+use Rattle.chunks.specs.Next.{word, is-record, number-behind, begun, place, at-place, in-carry, of-sought, Meets}
 use Rattle.chunks.specs.Helpers.{held, Grown, Passed, seek-at, WholeLine, OpenLine, Settles, Plain}
 use Rattle.chunks.proofs.Brief.{judge-brief, brief-short}
 use Rattle.chunks.proofs.InPlace.{settled}

@@ -4,7 +4,7 @@ use Prim.Native.Nat.{ℕ, suc, _+_, _%_, _^_}
 use mathlib.Core.Path.{_≡_, refl, sym, ap, ap₂, _∙_}
 use mathlib.Core.Bool.{Bool, true, false}
 use mathlib.Core.Option.{Option, some}
-use mathlib.Core.List.{List, [], _∷_, _++_, foldl}
+use mathlib.Core.List.{List, [], _∷_, _++_}
 use native.Mathlib.Omega.{arith}
 use lib.Dec.{eqb}
 use borrow.Author.Tests.{eqb-true}
@@ -12,7 +12,7 @@ use Rattle.record.specs.Common.{if_then_else_}
 use Rattle.record.proofs.Tests.{both-ways}
 use Rattle.reader.specs.Lines.{LF, CR, first-line, rest, lines}
 use Rattle.reader.proofs.Cutting.{lines-cons}
-use Rattle.chunks.specs.Begun.{Begun, nothing, is-empty, push, brief, with-CR, add, counted, Sought, ended, unended, seek, look}
+use Rattle.chunks.specs.Begun.{Begun, nothing, is-empty, brief, with-CR, add, counted, Sought, ended, unended, seek, look}
 use Rattle.chunks.specs.Rows.{Nth, nth, numbered}
 use Rattle.chunks.proofs.Waiting.{waiting, whole, settle-CR, whole-more, brief-empty}
 use Rattle.chunks.proofs.InPlace.{rest-on}

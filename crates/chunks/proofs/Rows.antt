@@ -22,9 +22,8 @@ use Rattle.reader.specs.Text.{is-full, ends-row}
 use Rattle.reader.specs.Calls.{Call, given-done}
 use Rattle.chunks.specs.declared.Chunks.{Chunks}
 use Rattle.chunks.specs.declared.ChunkStep.{ChunkStep}
-use Rattle.chunks.specs.declared.Place.the-variants.{Nowhere}
 use Rattle.chunks.specs.Begun.{Begun, nothing, is-empty, push, with-CR, add, counted, Sought, ended, unended, seek, look}
-use Rattle.chunks.specs.Next.{Word, tells, used-up, word, is-record, begun, holding, past-line, over, number-behind, place, in-carry, at-place, Outcome, unchanged, answered-line, of-sought, too-small, Meets, NextChunk, Finish}
+use Rattle.chunks.specs.Next.{Word, tells, used-up, word, is-record, begun, holding, past-line, number-behind, at-place, unchanged, answered-line, of-sought, too-small, Meets, NextChunk, Finish}
 use Rattle.chunks.specs.Rows.{joined, Seen, seen-at, Fed, no-more, told-next, next-chunk, told-last, Nth, nth, seen-for, showing}
 use Rattle.chunks.proofs.Brief.{length-push}
 use Rattle.chunks.proofs.Pieces.{M, twice, pieces, pieces-end, pieces-mod, found, pieces-look}

@@ -14,9 +14,9 @@ use Rattle.reader.specs.declared.ReaderOptions.{ReaderOptions}
 use Rattle.reader.specs.Told.{Told}
 use Rattle.reader.specs.Answer.{answered}
 use Rattle.reader.specs.Lines.{lines, through}
-use Rattle.reader.specs.Row.{on, sayings, stops, stopped}
+use Rattle.reader.specs.Row.{sayings, stops, stopped}
 use Rattle.reader.specs.Text.{is-full, ends-row}
-use Rattle.reader.specs.Calls.{Call, given-done}
+use Rattle.reader.specs.Calls.{Call}
 use Rattle.reader.proofs.Cutting.{lines-closed, Head, through-head}
 use Rattle.reader.proofs.Room.{ends-stops}
 use Rattle.chunks.specs.Next.{is-record}

@@ -1,9 +1,9 @@
 -- What is claimed of the chunk reader beyond its contracts, and proved in `proofs/Claims.antt`, `proofs/Calls.antt` and `proofs/Stops.antt`.
 -- Assumes nothing.
-use Prim.Native.Nat.{ℕ, suc, _+_, _-_, _^_, _≤_, _<_}
+use Prim.Native.Nat.{ℕ, _+_, _-_, _^_, _≤_, _<_}
 use mathlib.Core.Path.{_≡_}
 use mathlib.Core.Logic.{_≢_, _⊎_}
-use mathlib.Core.Bool.{Bool, true, false}
+use mathlib.Core.Bool.{true, false}
 use mathlib.Core.Option.{some}
 use mathlib.Core.List.{List, [], _∷_}
 use denote.Ref.{RefT}
@@ -21,7 +21,7 @@ use Rattle.chunks.specs.declared.Chunks.{Chunks}
 use Rattle.chunks.specs.declared.Place.{Place}
 use Rattle.chunks.specs.declared.ChunkStep.{ChunkStep}
 use Rattle.chunks.specs.Begun.{brief}
-use Rattle.chunks.specs.Next.{Word, tells, word, is-record, new-chunks, Outcome, unchanged, next-outcome, finish-outcome, NextChunk, Finish, NewChunks, Shown}
+use Rattle.chunks.specs.Next.{tells, word, is-record, new-chunks, Outcome, unchanged, next-outcome, finish-outcome, NextChunk, Finish, NewChunks, Shown}
 use Rattle.chunks.specs.Rows.{joined, Seen, Fed, numbered, showing}
 
 -- what is kept of a line is judged as the line is

@@ -3,9 +3,9 @@
 use Prim.Native.Nat.{ℕ, _+_, _≤_, _<_}
 use mathlib.Core.Path.{_≡_}
 use mathlib.Core.Logic.{_≢_}
-use mathlib.Core.Bool.{Bool, true, false, _||_}
-use mathlib.Core.Option.{Option, none, some}
-use mathlib.Core.List.{List, []}
+use mathlib.Core.Bool.{Bool, _||_}
+use mathlib.Core.Option.{Option, some}
+use mathlib.Core.List.{List}
 use lib.ListN.{length, take, drop, getD}
 use Rattle.record.specs.Common.{if_then_else_}
 use Rattle.reader.specs.Told.{Told}
@@ -19,7 +19,7 @@ use Rattle.chunks.specs.declared.ChunkStep.{ChunkStep}
 use Rattle.chunks.specs.declared.Cut.{Cut}
 use Rattle.chunks.specs.declared.Cut.the-variants.{Whole, Open}
 use Rattle.chunks.specs.Begun.{Begun, nothing, brief, Sought, ended, seek}
-use Rattle.chunks.specs.Next.{tells, word, is-record, holding, past-line}
+use Rattle.chunks.specs.Next.{tells, word, is-record, past-line}
 
 -- the carry's first bytes, and a CR that waits
 abbrev pub held : (carry : List ℕ) (used : ℕ) (cr : Bool) → Begun

@@ -1,10 +1,11 @@
-use lib.ListN.{take}
+-- `chunks::add` meets its contract: a CR waits, any other byte is pushed behind the CR that waited.
+-- Assumes nothing.
+use mathlib.Core.Path.{refl}
+use denote.Ref.{now}
+use borrow.Author.Needs.{needs}
 use Rattle.chunks.specs.Begun.{with-CR, push}
 use Rattle.chunks.specs.Helpers.{held}
 use Rattle.chunks.proofs.Carry.{onward, added-CR, added}
-use mathlib.Core.Path.{_≡_, refl}
-use denote.Ref.{now}
-use borrow.Author.Needs.{needs}
 use Rattle.chunks.proofs.add.Statement.{statement}
 use Rattle.chunks.proofs.add.Tie as tie
 

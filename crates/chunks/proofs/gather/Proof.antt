@@ -1,10 +1,10 @@
-use Rattle.chunks.proofs.Pass.{Passing, pass-first, pass-more, pass-last}
-use lib.ListN.{length}
-use mathlib.Core.Path.{_≡_, refl, _∙_}
-use denote.Ref.{now}
-use borrow.Author.Needs.{needs}
-use native.Mathlib.Omega.{arith}
+-- `chunks::gather` meets its contract. The loop's invariant: the search with what was held at first is the search from here with what is held now.
+-- Assumes nothing.
 use Prim.Native.Nat.{_-_}
+use native.Mathlib.Omega.{arith}
+use lib.ListN.{length}
+use borrow.Author.Needs.{needs}
+use Rattle.chunks.proofs.Pass.{Passing, pass-first, pass-more, pass-last}
 use Rattle.chunks.proofs.gather.Statement.{statement}
 use Rattle.chunks.proofs.gather.Tie as tie
 

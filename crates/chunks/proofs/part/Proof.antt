@@ -1,12 +1,12 @@
 -- `chunks::part` meets its contract.
 -- Assumes nothing.
 use native.Mathlib.Nat.{zero-add}
+use denote.Ref.{now}
 use lib.ListN.{length}
 use borrow.Author.Tests.{le-leb, lt-leb}
 use borrow.Author.Needs.{needs}
-use denote.Ref.{now}
-use Rattle.chunks.proofs.Carry.{no-part, whole-part}
 use Rattle.record.proofs.Parts.{part-is}
+use Rattle.chunks.proofs.Carry.{no-part, whole-part}
 use Rattle.chunks.proofs.part.Statement.{statement}
 use Rattle.chunks.proofs.part.Tie as tie
 

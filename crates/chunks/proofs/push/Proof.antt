@@ -1,8 +1,10 @@
-use denote.Ref.{now}
-use Rattle.chunks.proofs.Carry.{stored, replaced, left-alone}
-use mathlib.Core.Path.{_≡_, sym, _∙_}
+-- `chunks::push` meets its contract: a byte more, the last one replaced, or all left as it was.
+-- Assumes nothing.
+use mathlib.Core.Path.{sym, _∙_}
 use native.Mathlib.Omega.{arith}
+use denote.Ref.{now}
 use borrow.Author.Needs.{needs}
+use Rattle.chunks.proofs.Carry.{stored, replaced, left-alone}
 use Rattle.chunks.proofs.push.Statement.{statement}
 use Rattle.chunks.proofs.push.Tie as tie
 

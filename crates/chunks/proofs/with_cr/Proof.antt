@@ -1,7 +1,9 @@
-use Rattle.chunks.specs.Begun.{with-CR}
-use Rattle.chunks.proofs.Carry.{no-CR}
+-- `chunks::with_cr` meets its contract.
+-- Assumes nothing.
 use denote.Ref.{now}
 use borrow.Author.Needs.{needs}
+use Rattle.chunks.specs.Begun.{with-CR}
+use Rattle.chunks.proofs.Carry.{no-CR}
 use Rattle.chunks.proofs.with_cr.Statement.{statement}
 use Rattle.chunks.proofs.with_cr.Tie as tie
 
