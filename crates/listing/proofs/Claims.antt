@@ -1,13 +1,17 @@
--- The claims of `specs/Claims.antt`, proved. The example computes; an answer is found again from what is told.
+-- The claims of `specs/Claims.antt`, proved. The example computes; an answer is found again from what is told; a reply is shown as in a turn of the listing.
 -- Assumes nothing.
+use Prim.Native.Nat.{ℕ}
 use mathlib.Core.Path.{_≡_, refl, sym, _∙_, ap}
+use mathlib.Core.Bool.{Bool}
+use mathlib.Core.List.{List}
 use Rattle.record.specs.Line.{judge}
 use Rattle.reader.specs.Row.{row}
 use Rattle.listing.specs.declared.Listed.{Listed}
 use Rattle.listing.specs.declared.Listed.the-variants.{Wrote, NoRoom}
 use Rattle.listing.specs.Listing.{listing}
-use Rattle.listing.specs.Listed.{Told, wrote, no-room, told}
-use Rattle.listing.specs.Claims.{Example, List-unique}
+use Rattle.listing.specs.Listed.{Told, wrote, no-room, told, Writes}
+use Rattle.listing.specs.Claims.{Example, List-unique, List-reply-unique, List-first-unique, List-last-unique, Shown-as-listed}
+use Rattle.listing.proofs.Turning.{spoken}
 
 pub example : Example
 unfolding listing row judge
@@ -22,6 +26,21 @@ unfolding untold
 untold-told (Wrote n) = refl
 untold-told NoRoom = refl
 
-pub list-unique : List-unique
-list-unique input out r r′ o o′ x y =
+writes-unique : {b : Bool} {xs out : List ℕ} (r r′ : Listed) (o o′ : List ℕ) → Writes b xs out r o → Writes b xs out r′ o′ → (r ≡ r′) × (o ≡ o′)
+writes-unique r r′ o o′ x y =
     (sym (untold-told r) ∙ ap untold (x .answer ∙ sym (y .answer)) ∙ untold-told r′, x .left ∙ sym (y .left))
+
+pub list-unique : List-unique
+list-unique input out = writes-unique
+
+pub list-reply-unique : List-reply-unique
+list-reply-unique reply pool out = writes-unique
+
+pub list-first-unique : List-first-unique
+list-first-unique out = writes-unique
+
+pub list-last-unique : List-last-unique
+list-last-unique count out = writes-unique
+
+pub shown-as-listed : Shown-as-listed
+shown-as-listed line pool reply pool′ size t p = spoken pool size reply pool′ line (judge line) refl t p .shows

@@ -1,10 +1,11 @@
 -- A number in decimal: its last digit behind those of a tenth of it, however many digits are allowed.
 -- Assumes nothing.
-use Prim.Native.Nat.{ℕ, zero, suc, _+_, _*_, _/_, _%_, _≤_, _<_}
+use Prim.Native.Nat.{ℕ, zero, suc, _+_, _*_, _^_, _/_, _%_, _≤_, _<_}
 use mathlib.Core.Path.{_≡_, refl, ap}
 use mathlib.Core.Bool.{Bool, true, false}
 use mathlib.Core.List.{List, [], _∷_, _++_}
 use native.Mathlib.Omega.{arith}
+use native.Mathlib.Nat.{pow-succ'}
 use lib.Dec.{ltb}
 use lib.ListN.{length, length-append}
 use borrow.Author.Tests.{lt-ltb, le-ltb, ltb-false}
@@ -41,6 +42,8 @@ longer most k f h n l =
     omega (arith, ap length (decimal-more n g), f (n / 10) (omega arith)))
     (λ g. omega (arith, ap length (decimal-small n g)))
 
-pub decimal-length : (n : ℕ) → n < 100000 → length (decimal n) ≤ 5
-decimal-length =
-    longer 10000 4 (longer 1000 3 (longer 100 2 (longer 10 1 (λ n h. omega (arith, ap length (decimal-small n h))) (omega arith)) (omega arith)) (omega arith)) (omega arith)
+-- a number below a power of ten has no more digits than its zeros
+pub decimal-length : (k n : ℕ) → n < 10 ^ suc k → length (decimal n) ≤ suc k
+decimal-length zero n h = omega (arith, ap length (decimal-small n h))
+decimal-length (suc k) n h =
+    omega (arith, longer (10 ^ suc k) (suc k) (decimal-length k) (omega arith) n (rw (pow-succ' 10 (suc k)) at h))

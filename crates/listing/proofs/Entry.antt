@@ -34,7 +34,7 @@ payload-some (b ∷ bs) h = refl
 pub payload-length : (bs : List ℕ) → 0 < length bs → length (payload bs) ≡ 1 + 2 * length bs
 payload-length bs h = ap length (payload-some bs h) ∙ omega (arith, spelt-length bs)
 
-payload-most : (bs : List ℕ) → length (payload bs) ≤ 1 + 2 * length bs
+pub payload-most : (bs : List ℕ) → length (payload bs) ≤ 1 + 2 * length bs
 unfolding payload
 payload-most [] = omega arith
 payload-most (b ∷ bs) = omega (arith, payload-length (b ∷ bs) (omega arith))

@@ -4,4 +4,5 @@ pub mod Entry
 pub mod Sizes
 pub mod Turning
 pub mod Whole
+pub mod Lines
 pub mod Claims

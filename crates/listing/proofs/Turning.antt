@@ -31,8 +31,8 @@ use Rattle.reader.proofs.Claims.{told-apart}
 use Rattle.reader.specs.Along.{unread, Countable}
 use Rattle.reader.proofs.Along.{heard, ended as finished, unread-judged}
 use Rattle.reader.proofs.Stays.{never-done}
-use Rattle.listing.specs.Listing.{record-entry, refusal-entry, entry, ended, entries, listing-options, answers}
-use Rattle.listing.specs.Helpers.{Puts, is-done, shown, Lies, Fits-in, EntriesPut}
+use Rattle.listing.specs.Listing.{record-entry, refusal-entry, entry, ended, shown, entries, listing-options, answers}
+use Rattle.listing.specs.Helpers.{Puts, is-done, Lies, Fits-in, EntriesPut}
 use Rattle.listing.proofs.Putting.{put-none, put-then, put-as}
 use Rattle.listing.proofs.Entry.{not-full}
 use Rattle.reader.proofs.Texts.{lines-few, cut-behind}
@@ -106,7 +106,7 @@ module _ (pool : List ℕ) (size : 255 ≤ length pool) (reply : Reply) (pool′
       let e = reply-is reply (StartLinearAddress number) t in
       record { taken = refl; last = refl; shows = ap (λ (x : Reply). shown x pool′) e; lies = subst (λ (x : Reply). Lies x pool′) (sym e) tt }
 
-  spoken : (line : List ℕ) (said : Said) → judge line ≡ said → told-reply reply ≡ answered said (length pool) 0 → pool′ ≡ poured said pool 0 → Spoken said (length pool) reply pool′
+  pub spoken : (line : List ℕ) (said : Said) → judge line ≡ said → told-reply reply ≡ answered said (length pool) 0 → pool′ ≡ poured said pool 0 → Spoken said (length pool) reply pool′
   unfolding answered poured stops entry
   spoken line (wrong r) j t p = spoken-wrong line r j t
   spoken line (says kind address payload) j t p =

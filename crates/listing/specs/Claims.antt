@@ -1,13 +1,17 @@
--- What is claimed of the listing beyond the contract of `list`, and proved in `proofs/Claims.antt` and `proofs/Whole.antt`.
+-- What is claimed of the listing beyond the contracts, and proved in `proofs/Claims.antt` and `proofs/Whole.antt`.
 -- Assumes nothing.
 use Prim.Native.Nat.{ℕ, _+_, _*_, _≤_}
 use mathlib.Core.Path.{_≡_}
 use mathlib.Core.List.{List, [], _++_}
 use lib.ListN.{length}
 use Rattle.record.specs.Common.{text}
+use Rattle.record.specs.Line.{judge}
+use Rattle.reader.specs.declared.Reply.{Reply}
+use Rattle.reader.specs.Answer.{answered, poured}
+use Rattle.reader.specs.Text.{told-reply}
 use Rattle.listing.specs.declared.Listed.{Listed}
-use Rattle.listing.specs.Listing.{ended, listing}
-use Rattle.listing.specs.Listed.{Lists}
+use Rattle.listing.specs.Listing.{entry, ended, shown, listing}
+use Rattle.listing.specs.Listed.{Lists, ListsReply, ListsFirst, ListsLast}
 
 -- document 01's example
 abbrev pub Example : Type 0
@@ -19,6 +23,22 @@ Example =
 abbrev pub Fits : Type 0
 Fits = (input : List ℕ) → length (listing input) ≤ 2 * length input + 32
 
--- no second answer, and no second output, meets the contract
+-- no second answer, and no second output, meets a contract
 abbrev pub List-unique : Type 0
 List-unique = (input out : List ℕ) (r r′ : Listed) (o o′ : List ℕ) → Lists input out r o → Lists input out r′ o′ → (r ≡ r′) × (o ≡ o′)
+
+abbrev pub List-reply-unique : Type 0
+List-reply-unique = (reply : Reply) (pool out : List ℕ) (r r′ : Listed) (o o′ : List ℕ) → ListsReply reply pool out r o → ListsReply reply pool out r′ o′ → (r ≡ r′) × (o ≡ o′)
+
+abbrev pub List-first-unique : Type 0
+List-first-unique = (out : List ℕ) (r r′ : Listed) (o o′ : List ℕ) → ListsFirst out r o → ListsFirst out r′ o′ → (r ≡ r′) × (o ≡ o′)
+
+abbrev pub List-last-unique : Type 0
+List-last-unique = (count : ℕ) (out : List ℕ) (r r′ : Listed) (o o′ : List ℕ) → ListsLast count out r o → ListsLast count out r′ o′ → (r ≡ r′) × (o ≡ o′)
+
+-- what is shown of a reply to a line, with its payload at the beginning of a pool of 255 bytes or more, is what the listing has for that line
+abbrev pub Shown-as-listed : Type 0
+Shown-as-listed =
+    (line pool : List ℕ) (reply : Reply) (pool′ : List ℕ)
+    → 255 ≤ length pool → told-reply reply ≡ answered (judge line) (length pool) 0 → pool′ ≡ poured (judge line) pool 0
+    → shown reply pool′ ≡ ended (entry (judge line))

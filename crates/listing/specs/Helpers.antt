@@ -1,4 +1,4 @@
--- What the helpers of `list` ask of and promise each other.
+-- What the helpers of `list` and of `list_reply` ask of and promise each other.
 -- Assumes nothing.
 use Prim.Native.Nat.{ℕ, _+_, _≤_}
 use mathlib.Core.Path.{_≡_}
@@ -12,8 +12,7 @@ use Rattle.record.specs.Record.{meant, Inside}
 use Rattle.record.specs.declared.Record.{Record}
 use Rattle.reader.specs.declared.Reply.{Reply}
 use Rattle.reader.specs.declared.Reply.the-variants.{Read, Refused, Done}
-use Rattle.reader.specs.Told.{refusal-of}
-use Rattle.listing.specs.Listing.{record-entry, refusal-entry, ended, entries, answers}
+use Rattle.listing.specs.Listing.{record-entry, shown, entries, answers}
 
 -- these characters stand in the output from a place on, and the place behind them is answered
 pub record Puts (out : List ℕ) (at : ℕ) (characters : List ℕ) (r : ℕ) (out′ : List ℕ) : Type 0 where
@@ -36,12 +35,6 @@ abbrev pub is-done : Reply → Bool
 is-done (Read r) = false
 is-done (Refused e) = false
 is-done Done = true
-
--- the line of a reply
-abbrev pub shown : Reply → (pool : List ℕ) → List ℕ
-shown (Read r) pool = ended (record-entry (meant r pool))
-shown (Refused e) pool = ended (refusal-entry (refusal-of e))
-shown Done pool = []
 
 abbrev pub Lies : Reply → (pool : List ℕ) → Type 0
 Lies (Read r) pool = Inside r (length pool)

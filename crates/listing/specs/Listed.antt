@@ -1,15 +1,19 @@
--- What `list` answers and leaves in the output.
+-- What `list`, and what lists one line, answer and leave in the output.
 -- Assumes nothing.
 use Prim.Native.Nat.{ℕ, _+_, _*_}
 use mathlib.Core.Path.{_≡_}
-use mathlib.Core.Bool.{Bool}
+use mathlib.Core.Bool.{Bool, _&&_}
 use mathlib.Core.List.{List, _++_}
 use lib.Dec.{leb}
 use lib.ListN.{length, drop}
 use Rattle.record.specs.Common.{if_then_else_}
+use Rattle.record.specs.declared.Record.{Record}
+use Rattle.record.specs.declared.Record.the-variants.{Data, EndOfFile, ExtendedSegmentAddress, StartSegmentAddress, ExtendedLinearAddress, StartLinearAddress}
+use Rattle.reader.specs.declared.Reply.{Reply}
+use Rattle.reader.specs.declared.Reply.the-variants.{Read, Refused, Done}
 use Rattle.listing.specs.declared.Listed.{Listed}
 use Rattle.listing.specs.declared.Listed.the-variants.{Wrote, NoRoom}
-use Rattle.listing.specs.Listing.{listing}
+use Rattle.listing.specs.Listing.{shown, heading, count-line, listing}
 
 pub data Told : Type 0 where
   wrote : (n : ℕ) → Told
@@ -19,11 +23,41 @@ abbrev pub told : Listed → Told
 told (Wrote n) = wrote n
 told NoRoom = no-room
 
--- room for the listing of any input of that length: what is asked, whether or not this listing is shorter
-abbrev pub room : (input out : List ℕ) → Bool
-room input out = leb (2 * length input + 32) (length out)
+-- the characters stand at the output's beginning where there is room, and else the output is as it was
+pub record Writes (room : Bool) (characters out : List ℕ) (r : Listed) (out′ : List ℕ) : Type 0 where
+  pub answer : told r ≡ (if room then wrote (length characters) else no-room)
+  pub left : out′ ≡ (if room then characters ++ drop (length characters) out else out)
+
+-- an output of so many bytes has room for the listing of any text of the given length, and for a line with a payload of that length
+abbrev pub room : (given out : ℕ) → Bool
+room given out = leb (2 * given + 32) out
+
+-- the same of a record, whose payload lies in a pool of so many bytes
+abbrev pub record-room : Record → (pool out : ℕ) → Bool
+record-room (Data offset at len) pool out = leb (at + len) pool && room len out
+record-room EndOfFile pool out = room 0 out
+record-room (ExtendedSegmentAddress a) pool out = room 0 out
+record-room (StartSegmentAddress cs ip) pool out = room 0 out
+record-room (ExtendedLinearAddress a) pool out = room 0 out
+record-room (StartLinearAddress a) pool out = room 0 out
+
+abbrev pub reply-room : Reply → (pool out : ℕ) → Bool
+reply-room (Read r) pool out = record-room r pool out
+reply-room (Refused e) pool out = room 0 out
+reply-room Done pool out = room 0 out
 
 -- the contract of `list`
-pub record Lists (input out : List ℕ) (r : Listed) (out′ : List ℕ) : Type 0 where
-  pub answer : told r ≡ (if room input out then wrote (length (listing input)) else no-room)
-  pub left : out′ ≡ (if room input out then listing input ++ drop (length (listing input)) out else out)
+abbrev pub Lists : (input out : List ℕ) (r : Listed) (out′ : List ℕ) → Type 0
+Lists input out r out′ = Writes (room (length input) (length out)) (listing input) out r out′
+
+-- the contract of `list_reply`
+abbrev pub ListsReply : (reply : Reply) (pool out : List ℕ) (r : Listed) (out′ : List ℕ) → Type 0
+ListsReply reply pool out r out′ = Writes (reply-room reply (length pool) (length out)) (shown reply pool) out r out′
+
+-- the contract of `list_first`
+abbrev pub ListsFirst : (out : List ℕ) (r : Listed) (out′ : List ℕ) → Type 0
+ListsFirst out r out′ = Writes (room 0 (length out)) heading out r out′
+
+-- the contract of `list_last`
+abbrev pub ListsLast : (count : ℕ) (out : List ℕ) (r : Listed) (out′ : List ℕ) → Type 0
+ListsLast count out r out′ = Writes (room 0 (length out)) (count-line count) out r out′

@@ -10,9 +10,13 @@ use Rattle.record.specs.Refusals.{Refusal, refusal}
 use Rattle.record.specs.Line.{Said, says, wrong}
 use Rattle.record.specs.Meaning.{Meaning, data-at, end-of-file, extended-segment, start-segment, extended-linear, start-linear, meaning}
 use Rattle.record.specs.Written.{capital-digit, spelt, two-bytes, four-bytes}
+use Rattle.record.specs.Record.{meant}
 use Rattle.reader.specs.declared.ReaderOptions.{ReaderOptions}
+use Rattle.reader.specs.declared.Reply.{Reply}
+use Rattle.reader.specs.declared.Reply.the-variants.{Read, Refused, Done}
 use Rattle.reader.specs.Lines.{LF}
 use Rattle.reader.specs.Row.{Numbered, on, row}
+use Rattle.reader.specs.Told.{refusal-of}
 
 -- a number in decimal, of at most so many digits: the last digit stands behind those of a tenth of the number
 unfoldable pub digits : (most n : ℕ) → List ℕ
@@ -59,6 +63,18 @@ entry (wrong r) = refusal-entry r
 abbrev pub ended : List ℕ → List ℕ
 ended line = line ++ (LF ∷ [])
 
+-- the line of a reply, whose payload lies in the pool; none of "done"
+abbrev pub shown : Reply → (pool : List ℕ) → List ℕ
+shown (Read r) pool = ended (record-entry (meant r pool))
+shown (Refused e) pool = ended (refusal-entry (refusal-of e))
+shown Done pool = []
+
+abbrev pub heading : List ℕ
+heading = ended (text "records")
+
+abbrev pub count-line : (count : ℕ) → List ℕ
+count-line count = ended (decimal count ++ text " answers")
+
 unfoldable pub entries : List Numbered → List ℕ
 unfolding entry
 entries [] = []
@@ -75,4 +91,4 @@ unfoldable pub listing : (input : List ℕ) → List ℕ
 unfolding entries decimal row
 listing input =
     if ltb 65536 (length input) then ended (text "input too long") else
-    ended (text "records") ++ entries (answers input) ++ ended (decimal (length (answers input)) ++ text " answers")
+    heading ++ entries (answers input) ++ count-line (length (answers input))

@@ -1,4 +1,4 @@
-// The listing of a text: a line for each answer of the reader, and how many there are.
+// The listing of a text: a line for each answer of the reader, and how many there are; as a whole, or line by line.
 use reader::ReaderError;
 use reader::ReaderOptions;
 use reader::Reply;
@@ -12,11 +12,11 @@ ghost use Rattle.record.specs.Record.{meant};
 ghost use Rattle.record.specs.Written.{capital-digit, spelt, two-bytes};
 ghost use Rattle.record.specs.Meaning.{data-at};
 ghost use Rattle.reader.specs.Told.{refusal-of};
-ghost use Rattle.listing.specs.Listing.{decimal, spaced, record-entry, refusal-entry};
-ghost use Rattle.listing.specs.Listed.{Lists};
-ghost use Rattle.listing.specs.Helpers.{Puts, Printable, Fits-in, is-done, shown, values-of, numbered, EntriesPut, HasRoom};
+ghost use Rattle.listing.specs.Listing.{decimal, spaced, record-entry, refusal-entry, shown, heading, count-line};
+ghost use Rattle.listing.specs.Listed.{room, record-room, reply-room, Lists, ListsReply, ListsFirst, ListsLast};
+ghost use Rattle.listing.specs.Helpers.{Puts, Printable, Fits-in, is-done, values-of, numbered, EntriesPut, HasRoom};
 
-// What `list` answers: how many characters it wrote, or that the output may be too small.
+// What is answered: how many characters were written, or that the output may be too small.
 pub enum Listed {
     Wrote(usize),
     NoRoom,
@@ -257,22 +257,110 @@ fn put_entries(text: &[u8], out: &mut [u8], at: usize) -> Entries
     }
 }
 
-// The listing of a text, at the output's beginning. A line of n bytes with its LF is listed in at most 2n characters, and the
-// first and the last line of the listing, with what a last line without LF may take, in less than 32.
+// The first line of a listing.
+fn put_first(out: &mut [u8], at: usize) -> usize
+    requires { ⌜ at + 8 ≤ length (now out) ⌝ }
+    ensures { λ r. ⌜ Puts (now (out .entry)) at heading r (now (out .exit)) ⌝ }
+{
+    put_text(b"records\n", out, at)
+}
+
+// The last line of a listing.
+fn put_last(count: usize, out: &mut [u8], at: usize) -> usize
+    requires { ⌜ at + length (count-line count) ≤ length (now out) ⌝ }
+    ensures { λ r. ⌜ Puts (now (out .entry)) at (count-line count) r (now (out .exit)) ⌝ }
+{
+    let behind = put_decimal(count, out, at);
+    put_text(b" answers\n", out, behind)
+}
+
+// Whether an output of so many bytes has room for the listing of so many, or for a line with so many bytes of payload. A line of
+// n bytes with its LF is listed in at most 2n characters, and the first and the last line of the listing, with what a last line
+// without LF may take, in less than 32.
+fn has_room(given: usize, out: usize) -> bool
+    ensures { λ r. ⌜ r ≡ room given out ⌝ }
+{
+    if out < 32 {
+        return false;
+    }
+    given <= (out - 32) / 2
+}
+
+// The same for the line of a record, whose payload must lie in a pool of so many bytes.
+fn record_room(given: Record, pool: usize, out: usize) -> bool
+    ensures { λ r. ⌜ r ≡ record-room given pool out ⌝ }
+{
+    match given {
+        Record::Data { offset: _, at, len } => {
+            if at > pool {
+                return false;
+            }
+            if len > pool - at {
+                return false;
+            }
+            has_room(len, out)
+        }
+        Record::EndOfFile => has_room(0, out),
+        Record::ExtendedSegmentAddress(_) => has_room(0, out),
+        Record::StartSegmentAddress { cs: _, ip: _ } => has_room(0, out),
+        Record::ExtendedLinearAddress(_) => has_room(0, out),
+        Record::StartLinearAddress(_) => has_room(0, out),
+    }
+}
+
+// The same for the line of a reply.
+fn reply_room(reply: Reply, pool: usize, out: usize) -> bool
+    ensures { λ r. ⌜ r ≡ reply-room reply pool out ⌝ }
+{
+    match reply {
+        Reply::Read(given) => record_room(given, pool, out),
+        Reply::Refused(_) => has_room(0, out),
+        Reply::Done => has_room(0, out),
+    }
+}
+
+// The listing of a text, at the output's beginning. There is no room in less than 32 bytes and two for each byte of the text.
 pub fn list(text: &[u8], out: &mut [u8]) -> Listed
     ensures { λ r. ⌜ Lists (now (text .entry)) (now (out .entry)) r (now (out .exit)) ⌝ }
 {
-    if out.len() < 32 {
-        return Listed::NoRoom;
-    }
-    if (out.len() - 32) / 2 < text.len() {
+    if !has_room(text.len(), out.len()) {
         return Listed::NoRoom;
     }
     if text.len() > 65536 {
         return Listed::Wrote(put_text(b"input too long\n", out, 0));
     }
-    let first = put_text(b"records\n", out, 0);
+    let first = put_first(out, 0);
     let entries = put_entries(text, out, first);
-    let last = put_decimal(entries.count, out, entries.at);
-    Listed::Wrote(put_text(b" answers\n", out, last))
+    Listed::Wrote(put_last(entries.count, out, entries.at))
+}
+
+// The line of a reply, at the output's beginning; none of "done". There is no room in less than 32 bytes and two for each byte
+// of its payload, nor for a payload that does not lie in the pool.
+pub fn list_reply(reply: Reply, pool: &[u8], out: &mut [u8]) -> Listed
+    ensures { λ r. ⌜ ListsReply reply (now (pool .entry)) (now (out .entry)) r (now (out .exit)) ⌝ }
+{
+    if !reply_room(reply, pool.len(), out.len()) {
+        return Listed::NoRoom;
+    }
+    Listed::Wrote(put_reply(reply, pool, out, 0))
+}
+
+// The first line of a listing, at the output's beginning. There is no room in less than 32 bytes.
+pub fn list_first(out: &mut [u8]) -> Listed
+    ensures { λ r. ⌜ ListsFirst (now (out .entry)) r (now (out .exit)) ⌝ }
+{
+    if !has_room(0, out.len()) {
+        return Listed::NoRoom;
+    }
+    Listed::Wrote(put_first(out, 0))
+}
+
+// The last line of a listing of so many answers, likewise.
+pub fn list_last(count: usize, out: &mut [u8]) -> Listed
+    ensures { λ r. ⌜ ListsLast count (now (out .entry)) r (now (out .exit)) ⌝ }
+{
+    if !has_room(0, out.len()) {
+        return Listed::NoRoom;
+    }
+    Listed::Wrote(put_last(count, out, 0))
 }

@@ -8,8 +8,8 @@ use lib.ListN.{length, length-append}
 use Rattle.record.specs.Record.{meant}
 use Rattle.reader.specs.declared.Reply.{Reply}
 use Rattle.reader.specs.Told.{refusal-of}
-use Rattle.listing.specs.Listing.{record-entry, refusal-entry}
-use Rattle.listing.specs.Helpers.{shown, Lies}
+use Rattle.listing.specs.Listing.{record-entry, refusal-entry, shown}
+use Rattle.listing.specs.Helpers.{Lies}
 use Rattle.listing.proofs.Putting.{put-none, put-then, put-as}
 use borrow.Author.Needs.{needs}
 use Rattle.listing.proofs.put_reply.Statement.{statement}
