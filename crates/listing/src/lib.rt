@@ -274,9 +274,8 @@ fn put_last(count: usize, out: &mut [u8], at: usize) -> usize
     put_text(b" answers\n", out, behind)
 }
 
-// Whether an output of so many bytes has room for the listing of so many, or for a line with so many bytes of payload. A line of
-// n bytes with its LF is listed in at most 2n characters, and the first and the last line of the listing, with what a last line
-// without LF may take, in less than 32.
+// Whether an output has room for the listing of so many bytes, or for a line with such a payload. A line of n bytes with its LF
+// is listed in at most 2n characters, and the rest, the first and the last line and what a missing LF may take, in less than 32.
 fn has_room(given: usize, out: usize) -> bool
     ensures { λ r. ⌜ r ≡ room given out ⌝ }
 {
