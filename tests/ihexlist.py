@@ -1,8 +1,7 @@
 #!/usr/bin/env python3
 """Runs the built program ihexlist and compares what it prints to the byte. `rt check ihexlist` builds it.
 
-The expected listings are written out by hand, or made by the few lines of `listing` below and the model of the reader in
-model.py, which know no code of the program.
+The expected listings are written out by hand, or made by the model of the reader in model.py, which knows no code of the program.
 The last line is 'N passed, M failed'; the exit status is 1 if any failed.
 """
 import os
@@ -54,26 +53,8 @@ def record(kind, address, payload):
     return model.record(kind, address, payload).encode()
 
 
-def entry(line):
-    """What document 01 has printed for a line."""
-    refusal, given = model.read(line)
-    if refusal is not None:
-        return refusal.encode()
-    kind, address, payload = given
-    told = model.told_other(kind, payload) if kind else 'D %04X %s' % (address, payload.hex().upper())
-    return told.rstrip().encode()
-
-
 def listing(text):
-    if len(text) > LIMIT:
-        return b'input too long\n'
-    out = []
-    for line in model.lines_of(text):
-        if line:
-            out.append(entry(line))
-            if out[-1] == b'E':
-                break
-    return b''.join(line + b'\n' for line in [b'records'] + out + [b'%d answers' % len(out)])
+    return b'input too long\n' if len(text) > LIMIT else model.listing(text)
 
 
 def of(*entries):

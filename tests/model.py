@@ -50,3 +50,24 @@ def lines_of(text):
     *ended, last = text.split(b"\n")
     rows = [line[:-1] if line.endswith(b"\r") else line for line in ended]
     return rows + [last] if last else rows
+
+
+def entry(line):
+    """What document 01 has printed for a line."""
+    refusal, given = read(line)
+    if refusal is not None:
+        return refusal.encode()
+    kind, address, payload = given
+    told = told_other(kind, payload) if kind else "D %04X %s" % (address, payload.hex().upper())
+    return told.rstrip().encode()
+
+
+def listing(text):
+    """The listing of a text of any length."""
+    out = []
+    for line in lines_of(text):
+        if line:
+            out.append(entry(line))
+            if out[-1] == b"E":
+                break
+    return b"".join(line + b"\n" for line in [b"records"] + out + [b"%d answers" % len(out)])
