@@ -1,0 +1,318 @@
+#!/usr/bin/env python3
+"""Runs the built program ihexfollow on texts that come in pieces, and compares what it prints to the byte. `rt check ihexfollow` builds it.
+
+The expected listings are written out by hand, or made by the model of the reader in model.py. A piece is sent when the program has
+taken the one before it. The last line is 'N passed, M failed'; the exit status is 1 if any failed.
+"""
+import fcntl
+import os
+import random
+import select
+import signal
+import struct
+import subprocess
+import sys
+import termios
+import time
+
+import model
+
+ROOT = os.path.dirname(os.path.dirname(os.path.abspath(__file__)))
+SECONDS = 30
+MOMENT = 0.02
+
+passed = failed = 0
+
+
+def command():
+    run = os.path.join(ROOT, 'tools', 'run')
+    words = subprocess.run([run, '--command', 'ihexfollow'], stdout=subprocess.PIPE, check=True, cwd=ROOT).stdout
+    return words.decode().splitlines()
+
+
+COMMAND = command()
+
+
+def told(name, ok, why=''):
+    global passed, failed
+    if ok:
+        passed += 1
+    else:
+        failed += 1
+        print('FAILED %s%s' % (name, ': ' + why if why else ''))
+
+
+class Run:
+    """The program, with what it has printed so far."""
+
+    def __init__(self, **files):
+        self.child = subprocess.Popen(COMMAND, stdin=subprocess.PIPE, stdout=subprocess.PIPE, stderr=subprocess.PIPE, bufsize=0, **files)
+        self.ends = time.monotonic() + SECONDS
+        self.printed, self.closed = b'', False
+        os.set_blocking(self.child.stdin.fileno(), False)
+
+    def wait(self, ready, seconds):
+        """Takes what the program prints within so many seconds, or less where a piece can be sent."""
+        if time.monotonic() > self.ends:
+            raise TimeoutError
+        reads, writes, _ = select.select([] if self.closed else [self.child.stdout], ready, [], seconds)
+        if reads:
+            got = os.read(self.child.stdout.fileno(), 65536)
+            self.printed += got
+            self.closed = not got
+        return writes
+
+    def untaken(self):
+        """How many bytes of what was sent the program has not read yet."""
+        return struct.unpack('i', fcntl.ioctl(self.child.stdin, termios.FIONREAD, b'\0' * 4))[0]
+
+    def send(self, piece):
+        """Sends a piece, and returns when the program has taken it or has ended."""
+        while piece and not self.closed:
+            if self.wait([self.child.stdin], SECONDS):
+                try:
+                    piece = piece[os.write(self.child.stdin.fileno(), piece):]
+                except BrokenPipeError:
+                    break
+        while not self.closed and self.untaken():
+            self.wait([], 0.0002)
+
+    def shows(self, expected):
+        """Whether the program prints so much, and then no more for a moment, with its input open."""
+        while len(self.printed) < len(expected) and not self.closed:
+            self.wait([], SECONDS)
+        self.wait([], MOMENT)
+        return self.printed == expected and not self.closed
+
+    def finish(self):
+        """What was printed in all, with the input's end where the program waits for it."""
+        self.child.stdin.close()
+        return self.ended()
+
+    def ended(self):
+        """The same, with the input still open."""
+        while not self.closed:
+            self.wait([], SECONDS)
+        return self.printed
+
+    def over(self):
+        if self.child.poll() is None and not self.closed:
+            self.child.kill()
+        errors = self.child.stderr.read()
+        for pipe in (self.child.stdin, self.child.stdout, self.child.stderr):
+            pipe.close()
+        return self.child.wait(), errors
+
+
+def tried(name, body, statuses=(0,)):
+    """`body`, on a run of the program, answers '' or what is wrong; the program ends well."""
+    run = Run()
+    try:
+        why = body(run)
+    except TimeoutError:
+        run.child.kill()
+        why = 'no end within %d s, printed %r' % (SECONDS, run.printed[-60:])
+    status, errors = run.over()
+    if not why and (status not in statuses or errors):
+        why = 'status %d, %r' % (status, errors[:60])
+    told(name, not why, why)
+
+
+def differ(got, expected):
+    if got == expected:
+        return ''
+    at = next((i for i in range(min(len(got), len(expected))) if got[i] != expected[i]), min(len(got), len(expected)))
+    return '%d bytes for %d, they differ from byte %d on: %r for %r' % (len(got), len(expected), at, got[at:at + 60], expected[at:at + 60])
+
+
+def followed(name, pieces, expected=None):
+    """The program on a text in these pieces prints `expected`, or what the model has for it."""
+
+    def body(run):
+        for piece in pieces:
+            run.send(piece)
+        return differ(run.finish(), model.listing(b''.join(pieces)) if expected is None else expected)
+
+    tried(name, body)
+
+
+def cut(text, size):
+    return [text[i:i + size] for i in range(0, len(text), size)]
+
+
+def record(kind, address, payload):
+    return model.record(kind, address, payload).encode()
+
+
+def held(name):
+    with open(os.path.join(ROOT, *name.split('/')), 'rb') as f:
+        return f.read()
+
+
+END = b':00000001FF'
+DATA = b':0100000041BE'
+FULL = record(0, 0x1234, bytes(range(255)))
+TANK = held('samples/tank.hex')
+
+# ---- whole, and as ihexlist lists it
+
+EXAMPLE, LISTED = held('crates/ihexlist/stdin'), held('crates/ihexlist/stdout')
+followed('document 01\'s example', [EXAMPLE], LISTED)
+followed('document 01\'s example, a byte at a time', cut(EXAMPLE, 1), LISTED)
+followed('empty input', [], b'records\n0 answers\n')
+followed('one LF', [b'\n'], b'records\n0 answers\n')
+followed('one CR', [b'\r'], b'records\n! 1\n1 answers\n')
+followed('empty lines only', [b'\n\r\n\n\r\n'], b'records\n0 answers\n')
+followed('samples/tank.hex', [TANK])
+followed('each byte as a digit', [b''.join(b':' + bytes([c]) * 10 + b'\n' for c in range(256) if c != 10)])
+
+# ---- cut at every place, also between CR and LF
+
+for name, text in [('CR LF', b'\r\n' + DATA + b'\r\n\r\nx\r\n' + END + b'\r\n' + DATA),
+                   ('no LF at the end', DATA + b'\n\n\xff\r\r\n:00000001FE\n' + DATA + b'\r'),
+                   ('CR and LF alone', b'\r\n\n\r\r\n\r')]:
+    for i in range(len(text) + 1):
+        followed('%s, cut at %d' % (name, i), [text[:i], text[i:]])
+    followed('%s, a byte at a time' % name, cut(text, 1))
+
+# ---- pieces of many sizes
+
+new = b''.join(record(0, 16 * i, bytes([i] * 16)) + b'\n' for i in range(40)) + END + b'\n'
+old = b''.join(record(0, 16 * i, b'\xdd' * 16) + b'\n' for i in range(30, 90)) + END + b'\n'
+full = (FULL + b'\r\n') * 40
+followed('samples/tank.hex, a byte at a time', cut(TANK, 1))
+followed('the tail of an old dump, in pieces of 7 bytes', cut(new + old, 7), model.listing(new))
+for size in (511, 521, 4095, 4096, 4097, 8192):
+    followed('records of 255 bytes, in pieces of %d bytes' % size, cut(full, size))
+for ahead in range(4093, 4099):
+    followed('CR LF behind %d bytes' % ahead, [b'x\n' * (ahead % 2) + b'\n' * (ahead - 2 * (ahead % 2) - len(DATA)) + DATA + b'\r\n' + END])
+chance = random.Random(19)
+lines = [DATA, END[:-1], b':00000001FE', FULL, FULL + b'0', FULL + b'00', b'', b'\r', b'x', b'\0\xff', record(4, 0, b'\x08\x00'), record(5, 0, b'\0\0\0\xcd')]
+for n in range(40):
+    text = b''.join(chance.choice(lines) + chance.choice([b'\n', b'\r\n', b'\n\n', b'']) for _ in range(30))
+    cuts = sorted(chance.sample(range(len(text)), 12))
+    followed('a text by chance, %d' % n, [text[i:j] for i, j in zip([0] + cuts, cuts + [len(text)])])
+
+# ---- lines that are too long to be a record
+
+for size in (519, 520, 521, 522, 523, 524, 1000, 4095, 4096, 4097, 70000):
+    line = b':' + b'0' * (size - 1)
+    for what, text in [('digits', line), ('a character at the end', line[:-1] + b'g'), ('no colon', b'0' + line[1:]), ('CR inside', line[:-2] + b'\r0')]:
+        text += b'\r\n' + END
+        followed('a line of %d bytes, %s' % (size, what), [text])
+        followed('a line of %d bytes, %s, in pieces of 1,000' % (size, what), cut(text, 1000))
+    followed('a line of %d bytes, no LF' % size, [line], b'records\n! %d\n1 answers\n' % (4 if size > 521 else 5 if size % 2 == 0 else 7))
+
+# ---- inputs of any length
+
+followed('65,536 bytes', [b'\n' * 65535 + b'x'], b'records\n! 1\n1 answers\n')
+followed('65,537 bytes', [b'\n' * 65536 + b'x'], b'records\n! 1\n1 answers\n')
+followed('3 MB of records', [(FULL + b'\n') * (3000000 // len(FULL))])
+followed('3 MB of LF', [b'\n' * 3000000], b'records\n0 answers\n')
+followed('3 MB in one line', [b':' + b'0' * 3000000], b'records\n! 4\n1 answers\n')
+followed('100,000 answers', [b'x\n' * 100000], b'records\n' + b'! 1\n' * 100000 + b'100000 answers\n')
+
+# ---- each answer before the next piece
+
+
+def at_once(run):
+    """Each line's answer is printed when its LF has come, and not before."""
+    so_far = b'records\n'
+    if not run.shows(so_far):
+        return 'before the input: %r' % run.printed
+    for line in [b':04012000102030403B', b'', b'\r', b':00000001FE', b'x\r', b':' + b'0' * 70000, FULL]:
+        run.send(line)
+        if not run.shows(so_far):
+            return 'ahead of the LF of %r: %r' % (line[:20], run.printed[-60:])
+        run.send(b'\n')
+        bare = line[:-1] if line.endswith(b'\r') else line
+        so_far += model.entry(bare) + b'\n' if bare else b''
+        if not run.shows(so_far):
+            return 'behind %r: %r' % (line[:20], run.printed[-60:])
+    return differ(run.finish(), so_far + b'5 answers\n')
+
+
+def two_lines_and_a_half(run):
+    """What a piece has of the next line waits."""
+    run.send(DATA + b'\nx\n' + DATA[:5])
+    if not run.shows(b'records\nD 0000 41\n! 1\n'):
+        return repr(run.printed)
+    run.send(DATA[5:] + b'\n')
+    return '' if run.shows(b'records\nD 0000 41\n! 1\nD 0000 41\n') else repr(run.printed)
+
+
+def end_record(behind):
+    def body(run):
+        run.send(DATA + b'\n' + END)
+        if not run.shows(b'records\nD 0000 41\n'):
+            return 'ahead of the LF: %r' % run.printed
+        run.send(b'\n' + behind)
+        return differ(run.ended(), b'records\nD 0000 41\nE\n2 answers\n')
+
+    return body
+
+
+def stopped(run):
+    """A program that was stopped goes on where it was."""
+    run.send(DATA[:5])
+    run.child.send_signal(signal.SIGSTOP)
+    time.sleep(MOMENT)
+    run.child.send_signal(signal.SIGCONT)
+    run.send(DATA[5:] + b'\n' + END)
+    return differ(run.finish(), b'records\nD 0000 41\nE\n2 answers\n')
+
+
+tried('an answer is printed before the next piece', at_once)
+tried('two lines and a half', two_lines_and_a_half, (0, -9))
+tried('the end record ends the program while its input is open', end_record(b''))
+tried('what stands behind the end record is not shown', end_record(old))
+tried('a program that was stopped goes on', stopped)
+
+# ---- standard input and output that are slow, closed or broken: the program ends
+
+
+def ends(name, ok, **files):
+    try:
+        run = subprocess.run(COMMAND, timeout=SECONDS, stderr=subprocess.DEVNULL, **files)
+    except subprocess.TimeoutExpired:
+        return told(name, False, 'no end within %d s' % SECONDS)
+    told(name, ok(run), 'status %d, wrote %r' % (run.returncode, (run.stdout or b'')[:60]))
+
+
+def broken(run):
+    """Nobody reads the other end any more: the next answer ends the program, with its input open."""
+    if not run.shows(b'records\n'):
+        return repr(run.printed)
+    run.child.stdout.close()
+    run.closed = True
+    os.write(run.child.stdin.fileno(), DATA + b'\n')
+    try:
+        run.child.wait(timeout=SECONDS)
+    except subprocess.TimeoutExpired:
+        run.child.kill()
+        return 'no end within %d s' % SECONDS
+    return ''
+
+
+def slow(run):
+    """More is printed than a pipe holds, and is read late."""
+    text = b'x\n' * 40000
+    while text:
+        try:
+            text = text[os.write(run.child.stdin.fileno(), text):]
+        except BlockingIOError:
+            time.sleep(MOMENT)
+            run.wait([], 0)
+    return differ(run.finish(), b'records\n' + b'! 1\n' * 40000 + b'40000 answers\n')
+
+
+tried('a broken pipe', broken, (0, -13, 141))
+tried('a slow reader', slow)
+ends('a closed standard input', lambda run: run.stdout == b'records\n0 answers\n', stdout=subprocess.PIPE, preexec_fn=lambda: os.close(0))
+ends('a directory as standard input', lambda run: run.stdout == b'records\n0 answers\n', stdin=os.open(ROOT, os.O_RDONLY), stdout=subprocess.PIPE)
+ends('a closed standard output', lambda run: run.returncode == 0, input=EXAMPLE, preexec_fn=lambda: os.close(1))
+if os.path.exists('/dev/full'):
+    ends('a full device', lambda run: run.returncode == 0, input=EXAMPLE, stdout=open('/dev/full', 'wb'))
+
+print('%d passed, %d failed' % (passed, failed))
+sys.exit(1 if failed else 0)
