@@ -10,7 +10,7 @@ use Rattle.listing.specs.declared.Listed.{Listed}
 use Rattle.listing.specs.declared.Listed.the-variants.{Wrote, NoRoom}
 use Rattle.listing.specs.Listing.{listing}
 use Rattle.listing.specs.Listed.{Told, wrote, no-room, told, Writes}
-use Rattle.listing.specs.Claims.{Example, List-unique, List-reply-unique, List-first-unique, List-last-unique, Shown-as-listed}
+use Rattle.listing.specs.Claims.{Example, List-unique, List-reply-unique, List-first-unique, List-last-unique, Shown-as-listed, Room-for-each}
 use Rattle.listing.proofs.Turning.{spoken}
 
 pub example : Example
@@ -43,4 +43,7 @@ pub list-last-unique : List-last-unique
 list-last-unique count out = writes-unique
 
 pub shown-as-listed : Shown-as-listed
-shown-as-listed line pool reply pool′ size t p = spoken pool size reply pool′ line (judge line) refl t p .shows
+shown-as-listed line pool reply pool′ a = spoken pool (a .size) reply pool′ line (judge line) refl (a .tells) (a .holds) .shows
+
+pub room-for-each : Room-for-each
+room-for-each line pool reply pool′ out a = spoken pool (a .size) reply pool′ line (judge line) refl (a .tells) (a .holds) .room out

@@ -1,6 +1,6 @@
 -- A turn of the listing: the call answers the first that is unread, its line is put behind the others, and the rest stays unread.
 -- Assumes nothing.
-use Prim.Native.Nat.{ℕ, _+_, _^_, _≤_, _<_}
+use Prim.Native.Nat.{ℕ, _+_, _*_, _^_, _≤_, _<_}
 use mathlib.Core.Path.{_≡_, refl, sym, _∙_, ap, ap₂, subst}
 use mathlib.Core.Bool.{Bool, true, false, _&&_}
 use mathlib.Core.List.{List, [], _∷_, _++_, append-assoc, append-nil}
@@ -32,6 +32,7 @@ use Rattle.reader.specs.Along.{unread, Countable}
 use Rattle.reader.proofs.Along.{heard, ended as finished, unread-judged}
 use Rattle.reader.proofs.Stays.{never-done}
 use Rattle.listing.specs.Listing.{record-entry, refusal-entry, entry, ended, shown, entries, listing-options, answers}
+use Rattle.listing.specs.Listed.{record-room, reply-room}
 use Rattle.listing.specs.Helpers.{Puts, is-done, Lies, Fits-in, EntriesPut}
 use Rattle.listing.proofs.Putting.{put-none, put-then, put-as}
 use Rattle.listing.proofs.Entry.{not-full}
@@ -39,12 +40,13 @@ use Rattle.reader.proofs.Texts.{lines-few, cut-behind}
 
 -- ---- one reply
 
--- a reply that tells what is said, with the pool behind it: never PoolFull, shown as what is said, and as much the last
+-- a reply that tells what is said, with the pool behind it: never PoolFull, shown as what is said, as much the last, and with room in 542 bytes
 pub record Spoken (said : Said) (n : ℕ) (reply : Reply) (pool′ : List ℕ) : Type 0 where
   pub taken : is-full (answered said n 0) ≡ false
   pub last : ends-row listing-options (answered said n 0) ≡ stops listing-options said
   pub shows : shown reply pool′ ≡ ended (entry said)
   pub lies : Lies reply pool′
+  pub room : (out : ℕ) → 542 ≤ out → reply-room reply (length pool′) out ≡ true
 
 reply-is : (reply : Reply) (r : Record) → told-reply reply ≡ told (answer.Read r) → reply ≡ Read r
 reply-is (Read x) r e = let a = told-apart (answer.Read x) (answer.Read r) e in ap Read (cc)
@@ -67,6 +69,7 @@ module _ (pool : List ℕ) (size : 255 ≤ length pool) (reply : Reply) (pool′
             last = refl;
             shows = ap (λ (x : Refusal). ended (refusal-entry x)) same;
             lies = tt;
+            room = λ out h. le-leb 32 out (omega arith);
           }
       go Done t = let z : _≡_ {A = ℕ} 0 1 = cc in absurd (omega arith)
 
@@ -76,6 +79,11 @@ module _ (pool : List ℕ) (size : 255 ≤ length pool) (reply : Reply) (pool′
     pub last : ends-row listing-options (given m (length pool) 0) ≡ is-end m && true
     pub shows : shown reply pool′ ≡ ended (record-entry m)
     pub lies : Lies reply pool′
+    pub room : (out : ℕ) → 542 ≤ out → reply-room reply (length pool′) out ≡ true
+
+  -- a record without payload
+  plain : (r : Record) → ((out : ℕ) → record-room r (length pool′) out ≡ leb 32 out) → reply ≡ Read r → (out : ℕ) → 542 ≤ out → reply-room reply (length pool′) out ≡ true
+  plain r f e out h = ap (λ (x : Reply). reply-room x (length pool′) out) e ∙ f out ∙ le-leb 32 out (omega arith)
 
   meant-as : (m : Meaning) → Sayable m → told-reply reply ≡ given m (length pool) 0 → pool′ ≡ kept m pool 0 → Meant m
   unfolding given kept is-full ends-row is-end
@@ -89,29 +97,30 @@ module _ (pool : List ℕ) (size : 255 ≤ length pool) (reply : Reply) (pool′
         last = rw w;
         shows = ap₂ shown e q ∙ ap (λ (bs : List ℕ). ended (record-entry (data-at offset bs))) (take-append-seam bytes (drop (0 + length bytes) pool));
         lies = subst (λ (x : Reply). Lies x pool′) (sym e) (subst (λ (x : List ℕ). 0 + length bytes ≤ length x) (sym q) (omega arith));
+        room = λ out h. ap (λ (x : Reply). reply-room x (length pool′) out) e ∙ rw (le-leb (0 + length bytes) (length pool′) (omega (arith, ap length q))) (le-leb (2 * length bytes + 32) out (omega arith));
       }
   meant-as end-of-file s t p =
       let e = reply-is reply EndOfFile t in
-      record { taken = refl; last = refl; shows = ap (λ (x : Reply). shown x pool′) e; lies = subst (λ (x : Reply). Lies x pool′) (sym e) tt }
+      record { taken = refl; last = refl; shows = ap (λ (x : Reply). shown x pool′) e; lies = subst (λ (x : Reply). Lies x pool′) (sym e) tt; room = plain _ (λ out. refl) e }
   meant-as (extended-segment number) s t p =
       let e = reply-is reply (ExtendedSegmentAddress number) t in
-      record { taken = refl; last = refl; shows = ap (λ (x : Reply). shown x pool′) e; lies = subst (λ (x : Reply). Lies x pool′) (sym e) tt }
+      record { taken = refl; last = refl; shows = ap (λ (x : Reply). shown x pool′) e; lies = subst (λ (x : Reply). Lies x pool′) (sym e) tt; room = plain _ (λ out. refl) e }
   meant-as (start-segment cs ip) s t p =
       let e = reply-is reply (StartSegmentAddress cs ip) t in
-      record { taken = refl; last = refl; shows = ap (λ (x : Reply). shown x pool′) e; lies = subst (λ (x : Reply). Lies x pool′) (sym e) tt }
+      record { taken = refl; last = refl; shows = ap (λ (x : Reply). shown x pool′) e; lies = subst (λ (x : Reply). Lies x pool′) (sym e) tt; room = plain _ (λ out. refl) e }
   meant-as (extended-linear number) s t p =
       let e = reply-is reply (ExtendedLinearAddress number) t in
-      record { taken = refl; last = refl; shows = ap (λ (x : Reply). shown x pool′) e; lies = subst (λ (x : Reply). Lies x pool′) (sym e) tt }
+      record { taken = refl; last = refl; shows = ap (λ (x : Reply). shown x pool′) e; lies = subst (λ (x : Reply). Lies x pool′) (sym e) tt; room = plain _ (λ out. refl) e }
   meant-as (start-linear number) s t p =
       let e = reply-is reply (StartLinearAddress number) t in
-      record { taken = refl; last = refl; shows = ap (λ (x : Reply). shown x pool′) e; lies = subst (λ (x : Reply). Lies x pool′) (sym e) tt }
+      record { taken = refl; last = refl; shows = ap (λ (x : Reply). shown x pool′) e; lies = subst (λ (x : Reply). Lies x pool′) (sym e) tt; room = plain _ (λ out. refl) e }
 
   pub spoken : (line : List ℕ) (said : Said) → judge line ≡ said → told-reply reply ≡ answered said (length pool) 0 → pool′ ≡ poured said pool 0 → Spoken said (length pool) reply pool′
   unfolding answered poured stops entry
   spoken line (wrong r) j t p = spoken-wrong line r j t
   spoken line (says kind address payload) j t p =
       let m = meant-as (meaning kind address payload) (said-is-sayable line kind address payload j) t p in
-      record { taken = m .taken; last = m .last; shows = m .shows; lies = m .lies }
+      record { taken = m .taken; last = m .last; shows = m .shows; lies = m .lies; room = m .room }
 
 -- ---- one call
 

@@ -2,6 +2,7 @@
 -- Assumes nothing.
 use Prim.Native.Nat.{ℕ, _+_, _*_, _≤_}
 use mathlib.Core.Path.{_≡_}
+use mathlib.Core.Bool.{true}
 use mathlib.Core.List.{List, [], _++_}
 use lib.ListN.{length}
 use Rattle.record.specs.Common.{text}
@@ -11,7 +12,7 @@ use Rattle.reader.specs.Answer.{answered, poured}
 use Rattle.reader.specs.Text.{told-reply}
 use Rattle.listing.specs.declared.Listed.{Listed}
 use Rattle.listing.specs.Listing.{entry, ended, shown, listing}
-use Rattle.listing.specs.Listed.{Lists, ListsReply, ListsFirst, ListsLast}
+use Rattle.listing.specs.Listed.{reply-room, Lists, ListsReply, ListsFirst, ListsLast}
 
 -- document 01's example
 abbrev pub Example : Type 0
@@ -36,9 +37,16 @@ List-first-unique = (out : List ℕ) (r r′ : Listed) (o o′ : List ℕ) → L
 abbrev pub List-last-unique : Type 0
 List-last-unique = (count : ℕ) (out : List ℕ) (r r′ : Listed) (o o′ : List ℕ) → ListsLast count out r o → ListsLast count out r′ o′ → (r ≡ r′) × (o ≡ o′)
 
--- what is shown of a reply to a line, with its payload at the beginning of a pool of 255 bytes or more, is what the listing has for that line
+-- a reply to a line, with its payload at the beginning of a pool, and that pool
+pub record Answers (line pool : List ℕ) (reply : Reply) (pool′ : List ℕ) : Type 0 where
+  pub size : 255 ≤ length pool
+  pub tells : told-reply reply ≡ answered (judge line) (length pool) 0
+  pub holds : pool′ ≡ poured (judge line) pool 0
+
+-- what is shown of it is what the listing has for that line
 abbrev pub Shown-as-listed : Type 0
-Shown-as-listed =
-    (line pool : List ℕ) (reply : Reply) (pool′ : List ℕ)
-    → 255 ≤ length pool → told-reply reply ≡ answered (judge line) (length pool) 0 → pool′ ≡ poured (judge line) pool 0
-    → shown reply pool′ ≡ ended (entry (judge line))
+Shown-as-listed = (line pool : List ℕ) (reply : Reply) (pool′ : List ℕ) → Answers line pool reply pool′ → shown reply pool′ ≡ ended (entry (judge line))
+
+-- an output of 542 bytes has room for it
+abbrev pub Room-for-each : Type 0
+Room-for-each = (line pool : List ℕ) (reply : Reply) (pool′ : List ℕ) (out : ℕ) → Answers line pool reply pool′ → 542 ≤ out → reply-room reply (length pool′) out ≡ true
