@@ -3,13 +3,14 @@
 use Prim.Native.Nat.{ℕ}
 use mathlib.Core.Path.{_≡_, refl, sym, _∙_}
 use mathlib.Core.Option.{Option}
-use mathlib.Core.List.{List}
+use mathlib.Core.List.{List, []}
 use Rattle.checksum.proofs.Claims.{checksum-unique}
 use Rattle.writer.specs.Text.{Text}
+use Rattle.chunks.specs.Next.{Outcome, next-outcome, finish-outcome}
 use Rattle.ihex.specs.Codes.{Message, Numbers}
 use Rattle.ihex.specs.Entry.{records-of}
 use Rattle.ihex.specs.Entries.{Wrote-text}
-use Rattle.ihex.specs.Claims.{Ihex-checksum-unique, Ihex-read-record-unique, Ihex-next-unique, Ihex-to-record-string-unique, Ihex-create-object-file-representation-unique, Ihex-load-unique, List-examples}
+use Rattle.ihex.specs.Claims.{Ihex-checksum-unique, Ihex-read-record-unique, Ihex-next-unique, One-chunk-read, Ihex-next-chunk-unique, Ihex-finish-unique, Ihex-shown-unique, Ihex-to-record-string-unique, Ihex-create-object-file-representation-unique, Ihex-load-unique, List-examples}
 
 pub ihex-checksum-unique : Ihex-checksum-unique
 ihex-checksum-unique = checksum-unique
@@ -26,6 +27,26 @@ ihex-next-unique s text pool at r i l f a b c p r′ i′ l′ f′ a′ b′ c�
   (x .position-is ∙ sym (y .position-is), x .line-is ∙ sym (y .line-is), x .flags-is ∙ sym (y .flags-is)),
   x .left ∙ sym (y .left),
 )
+
+one-chunk-read : (x : Outcome) (chunk : List ℕ) → One-chunk-read x chunk
+one-chunk-read x chunk r i l e u f w o n a b c k p r′ i′ l′ e′ u′ f′ w′ o′ n′ a′ b′ c′ k′ p′ y z =
+    let g = y .stands in
+    let h = z .stands in (
+      same-numbers (y .answer) (z .answer),
+      (g .position-is ∙ sym (h .position-is), g .line-is ∙ sym (h .line-is), g .empties-is ∙ sym (h .empties-is), g .used-is ∙ sym (h .used-is), g .flags-is ∙ sym (h .flags-is)),
+      (g .spot .lies-is ∙ sym (h .spot .lies-is), g .spot .from-is ∙ sym (h .spot .from-is), g .spot .len-is ∙ sym (h .spot .len-is)),
+      y .carry ∙ sym (z .carry),
+      y .left ∙ sym (z .left),
+    )
+
+pub ihex-next-chunk-unique : Ihex-next-chunk-unique
+ihex-next-chunk-unique s chunk carry pool at = one-chunk-read (next-outcome s chunk carry pool at) chunk
+
+pub ihex-finish-unique : Ihex-finish-unique
+ihex-finish-unique s carry pool at = one-chunk-read (finish-outcome s carry pool at) []
+
+pub ihex-shown-unique : Ihex-shown-unique
+ihex-shown-unique p chunk carry start r start′ r′ x y = (x .start-is ∙ sym (y .start-is), x .len-is ∙ sym (y .len-is))
 
 same-text : {t : Option Text} {out : List ℕ} {r v : ℕ} {o : List ℕ} {r′ v′ : ℕ} {o′ : List ℕ}
     → Wrote-text t out r v o → Wrote-text t out r′ v′ o′ → (r ≡ r′) × (v ≡ v′) × (o ≡ o′)

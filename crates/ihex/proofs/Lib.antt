@@ -1,4 +1,5 @@
 pub mod Codes
+pub mod Chunks
 pub mod Texts
 pub mod Listing
 pub mod Claims

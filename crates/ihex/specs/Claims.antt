@@ -2,13 +2,19 @@
 -- Assumes nothing.
 use Prim.Native.Nat.{ℕ}
 use mathlib.Core.Path.{_≡_}
+use mathlib.Core.Bool.{true}
 use mathlib.Core.Option.{none, some}
 use mathlib.Core.List.{List, [], _∷_, _++_}
+use lib.ListN.{length, take}
 use Rattle.checksum.specs.Claims.{Checksum-unique}
 use Rattle.record.specs.declared.Record.the-variants.{Data, EndOfFile, StartSegmentAddress, StartLinearAddress}
 use Rattle.reader.specs.declared.State.{State}
+use Rattle.chunks.specs.declared.Chunks.{Chunks}
+use Rattle.chunks.specs.declared.Place.{Place}
+use Rattle.chunks.specs.Next.{Outcome, too-small, next-outcome, finish-outcome}
+use Rattle.ihex.specs.Codes.{chunks-of, chunk-flags-of, lies-of, from-of, len-of, place-of}
 use Rattle.ihex.specs.Entry.{records-of}
-use Rattle.ihex.specs.Entries.{IhexReadRecord, IhexNext, IhexToRecordString, IhexCreateObjectFileRepresentation, IhexLoad}
+use Rattle.ihex.specs.Entries.{IhexReadRecord, IhexNext, Chunk-read, IhexShown, IhexToRecordString, IhexCreateObjectFileRepresentation, IhexLoad}
 
 -- ---- no second answer meets a contract
 
@@ -27,6 +33,25 @@ Ihex-next-unique =
     → IhexNext s text pool at r i l f a b c p → IhexNext s text pool at r′ i′ l′ f′ a′ b′ c′ p′
     → ((r ≡ r′) × (a ≡ a′) × (b ≡ b′) × (c ≡ c′)) × ((i ≡ i′) × (l ≡ l′) × (f ≡ f′)) × (p ≡ p′)
 
+-- an outcome of a reader of chunks fixes all but the carry's bytes behind `carried`
+abbrev pub One-chunk-read : Outcome → (chunk : List ℕ) → Type 0
+One-chunk-read x chunk =
+    (r i l e u f w o n a b c : ℕ) (k p : List ℕ) (r′ i′ l′ e′ u′ f′ w′ o′ n′ a′ b′ c′ : ℕ) (k′ p′ : List ℕ)
+    → Chunk-read x chunk r i l e u f w o n a b c k p → Chunk-read x chunk r′ i′ l′ e′ u′ f′ w′ o′ n′ a′ b′ c′ k′ p′
+    → ((r ≡ r′) × (a ≡ a′) × (b ≡ b′) × (c ≡ c′)) × ((i ≡ i′) × (l ≡ l′) × (e ≡ e′) × (u ≡ u′) × (f ≡ f′)) × ((w ≡ w′) × (o ≡ o′) × (n ≡ n′))
+    × (take (length (x .carried)) k ≡ take (length (x .carried)) k′) × (p ≡ p′)
+
+abbrev pub Ihex-next-chunk-unique : Type 0
+Ihex-next-chunk-unique = (s : Chunks) (chunk carry pool : List ℕ) (at : ℕ) → One-chunk-read (next-outcome s chunk carry pool at) chunk
+
+abbrev pub Ihex-finish-unique : Type 0
+Ihex-finish-unique = (s : Chunks) (carry pool : List ℕ) (at : ℕ) → One-chunk-read (finish-outcome s carry pool at) []
+
+abbrev pub Ihex-shown-unique : Type 0
+Ihex-shown-unique =
+    (p : Place) (chunk carry : List ℕ) (start r start′ r′ : ℕ) → IhexShown p chunk carry start r → IhexShown p chunk carry start′ r′
+    → (start ≡ start′) × (r ≡ r′)
+
 abbrev pub Ihex-to-record-string-unique : Type 0
 Ihex-to-record-string-unique =
     (kind number second at len : ℕ) (pool out : List ℕ) (r v : ℕ) (o : List ℕ) (r′ v′ : ℕ) (o′ : List ℕ)
@@ -44,6 +69,25 @@ Ihex-load-unique =
     (text : List ℕ) (first : ℕ) (page marks : List ℕ) (r l a b : ℕ) (p m : List ℕ) (r′ l′ a′ b′ : ℕ) (p′ m′ : List ℕ)
     → IhexLoad text first page marks r l a b p m → IhexLoad text first page marks r′ l′ a′ b′ p′ m′
     → ((r ≡ r′) × (l ≡ l′) × (a ≡ a′) × (b ≡ b′)) × (p ≡ p′) × (m ≡ m′)
+
+-- ---- a text in chunks
+
+-- a state and a place are what their numbers say: nothing is lost from one call to the next
+abbrev pub State-returns : Type 0
+State-returns = (s : Chunks) → chunks-of (s .position) (s .line) (s .empties) (s .used) (chunk-flags-of s) ≡ s
+
+abbrev pub Place-returns : Type 0
+Place-returns = (p : Place) → place-of (lies-of p) (from-of p) (len-of p) ≡ p
+
+-- refusal 18 leaves the carry and the pool as they were, every byte
+abbrev pub Unchanged-by : Outcome → (chunk carry pool : List ℕ) → Type 0
+Unchanged-by x chunk carry pool =
+    (r i l e u f w o n a b c : ℕ) (k p : List ℕ) → length k ≡ length carry → Chunk-read x chunk r i l e u f w o n a b c k p → (k ≡ carry) × (p ≡ pool)
+
+abbrev pub Too-small-keeps : Type 0
+Too-small-keeps =
+    (s : Chunks) (chunk carry pool : List ℕ) (at : ℕ) → too-small s carry ≡ true
+    → Unchanged-by (next-outcome s chunk carry pool at) chunk carry pool × Unchanged-by (finish-outcome s carry pool at) [] carry pool
 
 -- ---- examples of a list in bytes
 

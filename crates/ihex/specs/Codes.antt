@@ -5,15 +5,21 @@ use mathlib.Core.Path.{_≡_}
 use mathlib.Core.Bool.{Bool}
 use mathlib.Core.Option.{Option, none, some}
 use mathlib.Core.List.{List, [], _∷_}
-use lib.Dec.{eqb}
-use lib.ListN.{getD}
+use lib.Dec.{eqb, leb}
+use lib.ListN.{length, getD}
 use Rattle.record.specs.Common.{if_then_else_}
 use Rattle.record.specs.Refusals.{Refusal, refusal}
+use Rattle.reader.specs.declared.ReaderOptions.{ReaderOptions}
 use Rattle.reader.specs.declared.State.{State}
 use Rattle.reader.specs.Told.{Told, gives, refuses, done}
 use Rattle.writer.specs.Told.{Told as Told-written, wrote, refuses as refuses-to-write}
+use Rattle.chunks.specs.declared.Chunks.{Chunks}
+use Rattle.chunks.specs.declared.Place.{Place}
+use Rattle.chunks.specs.declared.Place.the-variants.{Nowhere, InChunk, InCarry}
+use Rattle.chunks.specs.Next.{Word, tells, used-up}
 use Rattle.loader.specs.Load.{Verdict, accepted, refused}
 use Rattle.ihex.specs.declared.Coded.{Coded}
+use Rattle.ihex.specs.declared.Spot.{Spot}
 
 -- ---- an answer in numbers: a code, and values
 
@@ -37,6 +43,11 @@ abbrev pub reading : Told → Message
 reading (gives kind numbers) = message kind numbers
 reading (refuses r) = refused-with r
 reading done = message 512 []
+
+-- the same of a text in chunks, and 513 for "used up"
+abbrev pub reading-chunk : Word → Message
+reading-chunk (tells t) = reading t
+reading-chunk used-up = message 513 []
 
 -- 0 and the length, and 1024 where what is to be written is no record
 abbrev pub writing : Option Told-written → Message
@@ -70,21 +81,77 @@ Coded-as m r = Numbers m (r .code) (r .a) (r .b) (r .c)
 abbrev pub bit : (flags unit : ℕ) → Bool
 bit flags unit = eqb (flags / unit % 2) 1
 
+abbrev pub options-of : (flags : ℕ) → ReaderOptions
+options-of flags = record { «stop_after_first_error» = eqb (flags % 2) 1; «stop_after_eof» = bit flags 2 }
+
 abbrev pub state-of : (position line flags : ℕ) → State
-state-of position line flags =
-    record {
-      position = position;
-      line = line;
-      finished = bit flags 4;
-      options = record { «stop_after_first_error» = eqb (flags % 2) 1; «stop_after_eof» = bit flags 2 };
-    }
+state-of position line flags = record { position = position; line = line; finished = bit flags 4; options = options-of flags }
 
 abbrev pub flags-of : State → ℕ
 flags-of s =
     (if s .options .«stop_after_first_error» then 1 else 0)
     + ((if s .options .«stop_after_eof» then 2 else 0) + (if s .finished then 4 else 0))
 
+-- the state of a reader of chunks
+abbrev pub chunks-of : (position line empties used flags : ℕ) → Chunks
+chunks-of position line empties used flags =
+    record {
+      position = position;
+      line = line;
+      empties = empties;
+      used = used;
+      cr = bit flags 8;
+      finished = bit flags 4;
+      options = options-of flags;
+    }
+
+abbrev pub chunk-flags-of : Chunks → ℕ
+chunk-flags-of s =
+    (if s .options .«stop_after_first_error» then 1 else 0)
+    + ((if s .options .«stop_after_eof» then 2 else 0) + ((if s .finished then 4 else 0) + (if s .cr then 8 else 0)))
+
 -- a flag's share of the flags
 pub record Flag (set : Bool) (value r : ℕ) : Type 0 where
   pub is : r ≡ (if set then value else 0)
   pub small : r ≤ value
+
+-- ---- a place in numbers: 0 is nowhere, 1 in the chunk, 2 in the carry
+
+abbrev pub lies-of : Place → ℕ
+lies-of Nowhere = 0
+lies-of (InChunk from len) = 1
+lies-of (InCarry len) = 2
+
+abbrev pub from-of : Place → ℕ
+from-of Nowhere = 0
+from-of (InChunk from len) = from
+from-of (InCarry len) = 0
+
+abbrev pub len-of : Place → ℕ
+len-of Nowhere = 0
+len-of (InChunk from len) = len
+len-of (InCarry len) = len
+
+pub record Spotted (p : Place) (lies from len : ℕ) : Type 0 where
+  pub lies-is : lies ≡ lies-of p
+  pub from-is : from ≡ from-of p
+  pub len-is : len ≡ len-of p
+
+abbrev pub Spot-as : Place → Spot → Type 0
+Spot-as p r = Spotted p (r .lies) (r .from) (r .len)
+
+-- any other number is nowhere, and what lies in the carry begins at its front
+abbrev pub place-of : (lies from len : ℕ) → Place
+place-of lies from len = if eqb lies 1 then InChunk from len else if eqb lies 2 then InCarry len else Nowhere
+
+-- the buffer that a place names
+abbrev pub buffer-of : Place → (chunk carry : List ℕ) → List ℕ
+buffer-of Nowhere chunk carry = []
+buffer-of (InChunk from len) chunk carry = chunk
+buffer-of (InCarry len) chunk carry = carry
+
+-- where a place begins there: at the front where the buffer ends ahead of it
+abbrev pub start-of : Place → (chunk : List ℕ) → ℕ
+start-of Nowhere chunk = 0
+start-of (InChunk from len) chunk = if leb from (length chunk) then from else 0
+start-of (InCarry len) chunk = 0

@@ -1,10 +1,10 @@
 -- The contracts of the C entry points: what their numbers and buffers hold at exit, by what the library's own functions answer.
 -- Assumes nothing.
-use Prim.Native.Nat.{ℕ}
+use Prim.Native.Nat.{ℕ, _+_, _≤_}
 use mathlib.Core.Path.{_≡_}
 use mathlib.Core.Option.{Option, none, some, Option·map}
-use mathlib.Core.List.{List}
-use lib.ListN.{length}
+use mathlib.Core.List.{List, []}
+use lib.ListN.{length, take, drop}
 use Rattle.record.specs.Line.{judge}
 use Rattle.record.specs.declared.Record.{Record}
 use Rattle.reader.specs.declared.State.{State}
@@ -14,8 +14,11 @@ use Rattle.writer.specs.Told.{Told as Told-written}
 use Rattle.writer.specs.Text.{Text, place-behind, if-room, put-at}
 use Rattle.writer.specs.Line.{line-text}
 use Rattle.writer.specs.Object.{object}
+use Rattle.chunks.specs.declared.Chunks.{Chunks}
+use Rattle.chunks.specs.declared.Place.{Place}
+use Rattle.chunks.specs.Next.{Outcome, at-place, next-outcome, finish-outcome}
 use Rattle.loader.specs.Load.{load}
-use Rattle.ihex.specs.Codes.{value, Numbers, reading, writing, loading, line-at, flags-of}
+use Rattle.ihex.specs.Codes.{value, Numbers, reading, reading-chunk, writing, loading, line-at, flags-of, chunk-flags-of, Spotted, place-of, buffer-of, start-of}
 use Rattle.ihex.specs.Entry.{record-of, records-of}
 
 pub record IhexReadRecord (line pool : List ℕ) (at r a b c : ℕ) (pool′ : List ℕ) : Type 0 where
@@ -28,6 +31,38 @@ pub record IhexNext (s : State) (text pool : List ℕ) (at r position line flags
   pub line-is : line ≡ outcome s text pool at .state .line
   pub flags-is : flags ≡ flags-of (outcome s text pool at .state)
   pub left : pool′ ≡ outcome s text pool at .pool
+
+-- where a reader of chunks stands, and where the line lies that gave a record, in numbers
+pub record Stands (s : Chunks) (p : Place) (position line empties used flags lies from len : ℕ) : Type 0 where
+  pub position-is : position ≡ s .position
+  pub line-is : line ≡ s .line
+  pub empties-is : empties ≡ s .empties
+  pub used-is : used ≡ s .used
+  pub flags-is : flags ≡ chunk-flags-of s
+  pub spot : Spotted p lies from len
+
+-- an outcome of a reader of chunks, in numbers and bytes: the carry's bytes behind `carried` are anything
+pub record Chunk-read (o : Outcome) (chunk : List ℕ) (r position line empties used flags lies from len a b c : ℕ) (carry′ pool′ : List ℕ) : Type 0 where
+  pub answer : Numbers (reading-chunk (o .word)) r a b c
+  pub stands : Stands (o .state) (o .lies) position line empties used flags lies from len
+  pub shows : at-place (place-of lies from len) chunk carry′ ≡ o .shows
+  pub carry : take (length (o .carried)) carry′ ≡ o .carried
+  pub left : pool′ ≡ o .pool
+
+abbrev pub IhexNextChunk : (s : Chunks) (chunk carry pool : List ℕ) (at r position line empties used flags lies from len a b c : ℕ) (carry′ pool′ : List ℕ) → Type 0
+IhexNextChunk s chunk carry pool at r position line empties used flags lies from len a b c carry′ pool′ =
+    Chunk-read (next-outcome s chunk carry pool at) chunk r position line empties used flags lies from len a b c carry′ pool′
+
+abbrev pub IhexFinish : (s : Chunks) (carry pool : List ℕ) (at r position line empties used flags lies from len a b c : ℕ) (carry′ pool′ : List ℕ) → Type 0
+IhexFinish s carry pool at r position line empties used flags lies from len a b c carry′ pool′ =
+    Chunk-read (finish-outcome s carry pool at) [] r position line empties used flags lies from len a b c carry′ pool′
+
+-- the bytes at a place are its buffer's own, r of them from `start` on
+pub record IhexShown (p : Place) (chunk carry : List ℕ) (start r : ℕ) : Type 0 where
+  pub start-is : start ≡ start-of p chunk
+  pub len-is : r ≡ length (at-place p chunk carry)
+  pub inside : start + r ≤ length (buffer-of p chunk carry)
+  pub holds : take r (drop start (buffer-of p chunk carry)) ≡ at-place p chunk carry
 
 -- what is answered for a text that is to be written from the output's start on; there is none where what was given is no record
 abbrev pub told-of : Option Text → (room : ℕ) → Option Told-written

@@ -1,4 +1,4 @@
--- What the helpers of the object writer ask of and promise each other.
+-- What the helpers of the entry points ask of and promise each other.
 -- Assumes nothing.
 use Prim.Native.Nat.{ℕ, _+_, _≤_}
 use mathlib.Core.Path.{_≡_}
@@ -9,9 +9,13 @@ use Rattle.record.specs.declared.Record.{Record}
 use Rattle.writer.specs.declared.Written.{Written}
 use Rattle.writer.specs.declared.Survey.{Survey}
 use Rattle.writer.specs.Claims.{Surveys, Steps}
+use Rattle.chunks.specs.declared.ChunkStep.{ChunkStep}
+use Rattle.chunks.specs.Next.{word}
 use Rattle.ihex.specs.declared.Surveyed.{Surveyed}
 use Rattle.ihex.specs.declared.Surveyed.the-variants.{Of, Bad}
+use Rattle.ihex.specs.Codes.{Numbers, reading-chunk}
 use Rattle.ihex.specs.Entry.{record-at, records-of}
+use Rattle.ihex.specs.Entries.{Stands}
 
 -- an entry that is a record
 pub record Good (bytes : List ℕ) (at : ℕ) : Type 0 where
@@ -36,3 +40,8 @@ Surveyed-as bytes pool Bad = records-of bytes ≡ none
 -- the bytes' records were written one by one
 abbrev pub Stepped : (bytes pool out : List ℕ) (start r : Written) (out′ : List ℕ) → Type 0
 Stepped bytes pool out start r out′ = (rs : List Record) → records-of bytes ≡ some rs → Steps pool out start rs r out′
+
+-- a step of a reader of chunks, in numbers
+pub record TellStep (step : ChunkStep) (r position line empties used flags lies from len a b c : ℕ) : Type 0 where
+  pub answer : Numbers (reading-chunk (word (step .reply))) r a b c
+  pub stands : Stands (step .state) (step .lies) position line empties used flags lies from len

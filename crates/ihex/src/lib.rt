@@ -1,4 +1,8 @@
 // The C entry points: the library's functions on numbers and byte slices. include/ihex.h declares them.
+use chunks::ChunkReply;
+use chunks::ChunkStep;
+use chunks::Chunks;
+use chunks::Place;
 use loader::LoaderError;
 use loader::Loading;
 use reader::Answer;
@@ -19,11 +23,12 @@ ghost use Rattle.checksum.specs.Checksum.{Checksum};
 ghost use Rattle.reader.specs.Told.{told, refusal-of};
 ghost use Rattle.reader.specs.Text.{told-reply};
 ghost use Rattle.writer.specs.Told.{told as told-written, refusal-of as writer-refusal};
+ghost use Rattle.chunks.specs.Next.{word};
 ghost use Rattle.loader.specs.Told.{told as told-loading, refusal-by};
-ghost use Rattle.ihex.specs.Codes.{Coded-as, Flag, refused-with, reading, writing, loading, line-at, state-of, flags-of};
+ghost use Rattle.ihex.specs.Codes.{Coded-as, Flag, refused-with, reading, reading-chunk, writing, loading, line-at, options-of, state-of, flags-of, chunks-of, chunk-flags-of, place-of, Spot-as, start-of};
 ghost use Rattle.ihex.specs.Entry.{two-at, four-at, eight-at, record-of, record-at, entry-of};
-ghost use Rattle.ihex.specs.Helpers.{Is-list, Good, Surveyed-as, Stepped};
-ghost use Rattle.ihex.specs.Entries.{IhexReadRecord, IhexNext, IhexToRecordString, IhexCreateObjectFileRepresentation, IhexLoad};
+ghost use Rattle.ihex.specs.Helpers.{Is-list, Good, Surveyed-as, Stepped, TellStep};
+ghost use Rattle.ihex.specs.Entries.{IhexReadRecord, IhexNext, IhexNextChunk, IhexFinish, IhexShown, IhexToRecordString, IhexCreateObjectFileRepresentation, IhexLoad};
 
 // What is given in numbers is no record.
 const BAD_RECORD: u32 = 1024;
@@ -123,7 +128,17 @@ pub extern "C" fn ihex_read_record(
     told.code
 }
 
-// The state that stands in numbers: bit 0 of the flags is stop_after_first_error, bit 1 stop_after_eof, bit 2 finished.
+// The stops: bit 0 of the flags is stop_after_first_error, bit 1 stop_after_eof.
+fn options_from(flags: u8) -> ReaderOptions
+    ensures { λ r. ⌜ r ≡ options-of flags ⌝ }
+{
+    ReaderOptions {
+        stop_after_first_error: flags % 2 == 1,
+        stop_after_eof: flags / 2 % 2 == 1,
+    }
+}
+
+// The state that stands in numbers: bit 2 of the flags is finished.
 fn state_from(position: usize, line: usize, flags: u8) -> State
     ensures { λ r. ⌜ r ≡ state-of position line flags ⌝ }
 {
@@ -131,10 +146,7 @@ fn state_from(position: usize, line: usize, flags: u8) -> State
         position,
         line,
         finished: flags / 4 % 2 == 1,
-        options: ReaderOptions {
-            stop_after_first_error: flags % 2 == 1,
-            stop_after_eof: flags / 2 % 2 == 1,
-        },
+        options: options_from(flags),
     }
 }
 
@@ -181,6 +193,225 @@ pub extern "C" fn ihex_next(
     *b = told.b;
     *c = told.c;
     told.code
+}
+
+fn code_chunk_reply(reply: ChunkReply) -> Coded
+    ensures { λ r. ⌜ Coded-as (reading-chunk (word reply)) r ⌝ }
+{
+    match reply {
+        ChunkReply::Read(r) => code_record(r),
+        ChunkReply::Refused(e) => code_error(e),
+        ChunkReply::UsedUp => four(513, 0, 0, 0),
+        ChunkReply::Done => four(512, 0, 0, 0),
+        ChunkReply::CarryTooSmall => four(274, 0, 0, 0),
+    }
+}
+
+// The state of a reader of chunks that stands in numbers: bit 3 of the flags is cr.
+fn chunks_from(position: usize, line: usize, empties: usize, used: usize, flags: u8) -> Chunks
+    ensures { λ r. ⌜ r ≡ chunks-of position line empties used flags ⌝ }
+{
+    Chunks {
+        position,
+        line,
+        empties,
+        used,
+        cr: flags / 8 % 2 == 1,
+        finished: flags / 4 % 2 == 1,
+        options: options_from(flags),
+    }
+}
+
+fn chunk_flags_from(s: Chunks) -> u8
+    ensures { λ r. ⌜ r ≡ chunk-flags-of s ⌝ }
+{
+    let options = s.options;
+    flag(options.stop_after_first_error, 1)
+        + (flag(options.stop_after_eof, 2) + (flag(s.finished, 4) + flag(s.cr, 8)))
+}
+
+// A place in numbers: 0 for nowhere, 1 for the chunk, 2 for the carry; where it begins there, and how long it is.
+struct Spot {
+    lies: u8,
+    from: usize,
+    len: usize,
+}
+
+fn spot_of(place: Place) -> Spot
+    ensures { λ r. ⌜ Spot-as place r ⌝ }
+{
+    match place {
+        Place::Nowhere => Spot {
+            lies: 0,
+            from: 0,
+            len: 0,
+        },
+        Place::InChunk { from, len } => Spot { lies: 1, from, len },
+        Place::InCarry { len } => Spot {
+            lies: 2,
+            from: 0,
+            len,
+        },
+    }
+}
+
+fn place_from(lies: u8, from: usize, len: usize) -> Place
+    ensures { λ r. ⌜ r ≡ place-of lies from len ⌝ }
+{
+    if lies == 1 {
+        return Place::InChunk { from, len };
+    }
+    if lies == 2 {
+        return Place::InCarry { len };
+    }
+    Place::Nowhere
+}
+
+// A step of a reader of chunks, in numbers.
+fn tell_step(
+    step: ChunkStep,
+    position: &mut usize,
+    line: &mut usize,
+    empties: &mut usize,
+    used: &mut usize,
+    flags: &mut u8,
+    lies: &mut u8,
+    from: &mut usize,
+    len: &mut usize,
+    a: &mut u64,
+    b: &mut u64,
+    c: &mut u64,
+) -> u32
+    ensures { λ r. ⌜ TellStep step r (now (position .exit)) (now (line .exit)) (now (empties .exit)) (now (used .exit)) (now (flags .exit)) (now (lies .exit)) (now (from .exit)) (now (len .exit)) (now (a .exit)) (now (b .exit)) (now (c .exit)) ⌝ }
+{
+    let state = step.state;
+    *position = state.position;
+    *line = state.line;
+    *empties = state.empties;
+    *used = state.used;
+    *flags = chunk_flags_from(state);
+    let place = step.lies;
+    let spot = spot_of(place);
+    *lies = spot.lies;
+    *from = spot.from;
+    *len = spot.len;
+    let reply = step.reply;
+    let told = code_chunk_reply(reply);
+    *a = told.a;
+    *b = told.b;
+    *c = told.c;
+    told.code
+}
+
+// The next answer of a text that comes in chunks, from a state in numbers, which is moved.
+#[no_mangle]
+pub extern "C" fn ihex_next_chunk(
+    chunk: &[u8],
+    carry: &mut [u8],
+    pool: &mut [u8],
+    at: usize,
+    position: &mut usize,
+    line: &mut usize,
+    empties: &mut usize,
+    used: &mut usize,
+    flags: &mut u8,
+    lies: &mut u8,
+    from: &mut usize,
+    len: &mut usize,
+    a: &mut u64,
+    b: &mut u64,
+    c: &mut u64,
+) -> u32
+    ensures { λ r. ⌜ IhexNextChunk (chunks-of (now (position .entry)) (now (line .entry)) (now (empties .entry)) (now (used .entry)) (now (flags .entry))) (now (chunk .entry)) (now (carry .entry)) (now (pool .entry)) at r (now (position .exit)) (now (line .exit)) (now (empties .exit)) (now (used .exit)) (now (flags .exit)) (now (lies .exit)) (now (from .exit)) (now (len .exit)) (now (a .exit)) (now (b .exit)) (now (c .exit)) (now (carry .exit)) (now (pool .exit)) ⌝ }
+{
+    let state = chunks_from(*position, *line, *empties, *used, *flags);
+    let step = state.next(chunk, carry, pool, at);
+    tell_step(
+        step,
+        position,
+        line,
+        empties,
+        used,
+        flags,
+        lies,
+        from,
+        len,
+        a,
+        b,
+        c,
+    )
+}
+
+// Ends a text that came in chunks.
+#[no_mangle]
+pub extern "C" fn ihex_finish(
+    carry: &mut [u8],
+    pool: &mut [u8],
+    at: usize,
+    position: &mut usize,
+    line: &mut usize,
+    empties: &mut usize,
+    used: &mut usize,
+    flags: &mut u8,
+    lies: &mut u8,
+    from: &mut usize,
+    len: &mut usize,
+    a: &mut u64,
+    b: &mut u64,
+    c: &mut u64,
+) -> u32
+    ensures { λ r. ⌜ IhexFinish (chunks-of (now (position .entry)) (now (line .entry)) (now (empties .entry)) (now (used .entry)) (now (flags .entry))) (now (carry .entry)) (now (pool .entry)) at r (now (position .exit)) (now (line .exit)) (now (empties .exit)) (now (used .exit)) (now (flags .exit)) (now (lies .exit)) (now (from .exit)) (now (len .exit)) (now (a .exit)) (now (b .exit)) (now (c .exit)) (now (carry .exit)) (now (pool .exit)) ⌝ }
+{
+    let state = chunks_from(*position, *line, *empties, *used, *flags);
+    let step = state.finish(carry, pool, at);
+    tell_step(
+        step,
+        position,
+        line,
+        empties,
+        used,
+        flags,
+        lies,
+        from,
+        len,
+        a,
+        b,
+        c,
+    )
+}
+
+// Where a place begins in its buffer: at its front where the buffer has no such place.
+fn start_at(place: Place, chunk: &[u8]) -> usize
+    ensures { λ r. ⌜ r ≡ start-of place (now (chunk .entry)) ⌝ }
+{
+    match place {
+        Place::InChunk { from, len: _ } => {
+            if from > chunk.len() {
+                return 0;
+            }
+            from
+        }
+        Place::InCarry { len: _ } => 0,
+        Place::Nowhere => 0,
+    }
+}
+
+// How many bytes the line at a place has, and where it begins in its buffer.
+#[no_mangle]
+pub extern "C" fn ihex_shown<'a>(
+    lies: u8,
+    from: usize,
+    len: usize,
+    chunk: &'a [u8],
+    carry: &'a [u8],
+    start: &mut usize,
+) -> usize
+    ensures { λ r. ⌜ IhexShown (place-of lies from len) (now (chunk .entry)) (now (carry .entry)) (now (start .exit)) r ⌝ }
+{
+    let place = place_from(lies, from, len);
+    *start = start_at(place, chunk);
+    let line = chunks::shown(place, chunk, carry);
+    line.len()
 }
 
 fn code_writer_error(e: WriterError) -> Coded

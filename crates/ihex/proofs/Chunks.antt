@@ -1,0 +1,141 @@
+-- A text in chunks, in numbers: the state and the place come back from their numbers, and a step told in numbers is the outcome it meets.
+-- Assumes nothing.
+use Prim.Native.Nat.{ℕ, zero, suc, _+_, _≤_}
+use mathlib.Core.Path.{_≡_, refl, sym, ap, subst, _∙_}
+use mathlib.Core.Bool.{Bool, true, false}
+use mathlib.Core.List.{List, [], _∷_}
+use native.Mathlib.Omega.{arith}
+use denote.Ref.{RefT}
+use lib.Dec.{leb}
+use lib.ListN.{length, take, drop, length-take, length-drop, drop-of-length-le}
+use lib.Seq.{take-nil, take-all}
+use borrow.Author.Tests.{leb-true, leb-false}
+use Rattle.record.specs.Common.{if_then_else_}
+use Rattle.chunks.specs.declared.Chunks.{Chunks}
+use Rattle.chunks.specs.declared.Place.{Place}
+use Rattle.chunks.specs.declared.Place.the-variants.{Nowhere, InChunk, InCarry}
+use Rattle.chunks.specs.declared.ChunkStep.{ChunkStep}
+use Rattle.chunks.specs.Next.{Word, Outcome, at-place, unchanged, next-outcome, finish-outcome, Meets, Shown}
+use Rattle.ihex.specs.Codes.{Numbers, reading-chunk, chunks-of, chunk-flags-of, Spotted, place-of, buffer-of, start-of}
+use Rattle.ihex.specs.Entries.{Stands, Chunk-read, IhexShown}
+use Rattle.ihex.specs.Helpers.{TellStep}
+use Rattle.ihex.specs.Claims.{State-returns, Place-returns, Unchanged-by, Too-small-keeps}
+
+-- ---- a step
+
+pub place-is : (p : Place) {lies from len : ℕ} → Spotted p lies from len → place-of lies from len ≡ p
+place-is Nowhere x = rw (x .lies-is)
+place-is (InChunk from len) x = rw (x .lies-is, x .from-is, x .len-is)
+place-is (InCarry len) x = rw (x .lies-is, x .len-is)
+
+module _ {step : ChunkStep} {r position line empties used flags lies from len a b c : ℕ} where
+  pub chunk-read : (o : Outcome) (chunk : List ℕ) {carry′ pool′ : List ℕ}
+      → Meets o chunk step carry′ pool′ → TellStep step r position line empties used flags lies from len a b c
+      → Chunk-read o chunk r position line empties used flags lies from len a b c carry′ pool′
+  chunk-read o chunk {carry′} m t =
+      record {
+        answer = subst (λ (w : Word). Numbers (reading-chunk w) r a b c) (m .answer) (t .answer);
+        stands =
+            subst (λ (p : Place). Stands (o .state) p position line empties used flags lies from len) (m .lies)
+            (subst (λ (s : Chunks). Stands s (step .lies) position line empties used flags lies from len) (m .state) (t .stands));
+        shows = ap (λ (p : Place). at-place p chunk carry′) (place-is (step .lies) (t .stands .spot)) ∙ m .shows;
+        carry = m .carry;
+        left = m .left;
+      }
+
+-- ---- nothing is lost in numbers
+
+module _ (position line empties used : ℕ) where
+  abbrev state-with : (first eof finished cr : Bool) → Chunks
+  state-with first eof finished cr =
+      record {
+        position = position;
+        line = line;
+        empties = empties;
+        used = used;
+        cr = cr;
+        finished = finished;
+        options = record { «stop_after_first_error» = first; «stop_after_eof» = eof };
+      }
+
+  flags-return : (first eof finished cr : Bool)
+      → chunks-of position line empties used (chunk-flags-of (state-with first eof finished cr)) ≡ state-with first eof finished cr
+  flags-return true true true true = refl
+  flags-return true true true false = refl
+  flags-return true true false true = refl
+  flags-return true true false false = refl
+  flags-return true false true true = refl
+  flags-return true false true false = refl
+  flags-return true false false true = refl
+  flags-return true false false false = refl
+  flags-return false true true true = refl
+  flags-return false true true false = refl
+  flags-return false true false true = refl
+  flags-return false true false false = refl
+  flags-return false false true true = refl
+  flags-return false false true false = refl
+  flags-return false false false true = refl
+  flags-return false false false false = refl
+
+pub state-returns : State-returns
+state-returns s =
+    flags-return (s .position) (s .line) (s .empties) (s .used) (s .options .«stop_after_first_error») (s .options .«stop_after_eof») (s .finished) (s .cr)
+
+pub place-returns : Place-returns
+place-returns p = place-is p (record { lies-is = refl; from-is = refl; len-is = refl })
+
+-- ---- refusal 18
+
+all-kept : (x : Outcome) (chunk carry pool : List ℕ) → x .carried ≡ carry → x .pool ≡ pool → Unchanged-by x chunk carry pool
+all-kept x chunk carry pool g h r i l e u f w o n a b c k p same y =
+    (sym (take-all (length carry) k (omega arith)) ∙ rw g at (y .carry), y .left ∙ h)
+
+pub too-small-keeps : Too-small-keeps
+unfolding next-outcome finish-outcome unchanged
+too-small-keeps s chunk carry pool at h =
+    (all-kept (next-outcome s chunk carry pool at) chunk carry pool (rw h) (rw h), all-kept (finish-outcome s carry pool at) [] carry pool (rw h) (rw h))
+
+-- ---- a part of a buffer, as much of it as there is
+
+same-front : (n : ℕ) (l : List ℕ) → take (length (take n l)) l ≡ take n l
+same-front zero l = refl
+same-front (suc n) [] = refl
+same-front (suc n) (x ∷ l) = ap (λ (k : List ℕ). x ∷ k) (same-front n l)
+
+module _ (l : List ℕ) (from len : ℕ) where
+  -- there is none behind the last byte
+  none-behind : leb from (length l) ≡ false → take len (drop from l) ≡ []
+  none-behind e = ap (take len) (drop-of-length-le l {i = from} (omega (arith, leb-false from (length l) e))) ∙ take-nil len
+
+  part-inside : (b : Bool) → leb from (length l) ≡ b → (if b then from else 0) + length (take len (drop from l)) ≤ length l
+  part-inside true e = simp (length-take, length-drop) (omega (arith, leb-true from (length l) e))
+  part-inside false e = rw (none-behind e) (omega arith)
+
+  part-holds : (b : Bool) → leb from (length l) ≡ b
+      → take (length (take len (drop from l))) (drop (if b then from else 0) l) ≡ take len (drop from l)
+  part-holds true e = same-front len (drop from l)
+  part-holds false e = rw (none-behind e)
+
+-- ---- the line at a place
+
+shown-bytes : (p : Place) (chunk carry line : RefT (List ℕ)) → Shown p chunk carry line → line .now ≡ at-place p (chunk .now) (carry .now)
+shown-bytes Nowhere chunk carry line x = x .holds
+shown-bytes (InChunk from len) chunk carry line x = x .holds
+shown-bytes (InCarry len) chunk carry line x = x .holds
+
+inside : (p : Place) (chunk carry : List ℕ) → start-of p chunk + length (at-place p chunk carry) ≤ length (buffer-of p chunk carry)
+inside Nowhere chunk carry = omega arith
+inside (InChunk from len) chunk carry = part-inside chunk from len (leb from (length chunk)) refl
+inside (InCarry len) chunk carry = simp length-take (omega arith)
+
+holds : (p : Place) (chunk carry : List ℕ)
+    → take (length (at-place p chunk carry)) (drop (start-of p chunk) (buffer-of p chunk carry)) ≡ at-place p chunk carry
+holds Nowhere chunk carry = refl
+holds (InChunk from len) chunk carry = part-holds chunk from len (leb from (length chunk)) refl
+holds (InCarry len) chunk carry = same-front len carry
+
+pub shown-as : (p : Place) (chunk carry line : RefT (List ℕ)) {start : ℕ} → start ≡ start-of p (chunk .now) → Shown p chunk carry line
+    → IhexShown p (chunk .now) (carry .now) start (length (line .now))
+shown-as p chunk carry line {start} e x =
+    rw (e, shown-bytes p chunk carry line x)
+    (record { start-is = refl; len-is = refl; inside = inside p (chunk .now) (carry .now); holds = holds p (chunk .now) (carry .now) })
