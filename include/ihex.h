@@ -4,7 +4,7 @@
  * - A slice is a pointer and a length in bytes, below 2^63; with the length 0 the pointer is not used and may be null.
  * - A pointer to a number is not null. Nothing that a function writes overlaps anything else that it is given.
  *
- * No function allocates or keeps anything, and a refusal changes no byte of any slice.
+ * No function allocates or keeps anything, and a refusal changes no byte of any slice, but for unused bytes of a carry.
  */
 #ifndef IHEX_H
 #define IHEX_H
@@ -28,6 +28,7 @@ extern "C" {
 #define IHEX_OK 0             /* a writer wrote all, a load was accepted */
 #define IHEX_REFUSED 256      /* and the number of a refusal, below */
 #define IHEX_DONE 512         /* the text has no more answers */
+#define IHEX_USED_UP 513      /* the chunk has no more answers: the next one is wanted, or ihex_finish; no values */
 #define IHEX_BAD_RECORD 1024  /* what is to be written is no record; no values */
 
 /* The refusals: their numbers, and their values (0 where there is none). */
@@ -48,15 +49,25 @@ extern "C" {
 #define IHEX_OUTPUT_FULL 15                 /* the whole result is longer than the output */
 #define IHEX_BAD_WINDOW 16                  /* page and marks differ in length, or the window is too large */
 #define IHEX_OUTSIDE_WINDOW 17              /* a: the address of a data record's first byte that lies outside */
+#define IHEX_CARRY_TOO_SMALL 18             /* a carry under IHEX_CARRY bytes, or a state that counts more than that used */
 
-/* The flags of ihex_next. The other bits are not read, and are 0 at exit. */
+/* The flags of a state. The other bits are not read, and are 0 at exit; ihex_next has the first three only. */
 #define IHEX_STOP_AFTER_FIRST_ERROR 1 /* after a refused line, only "done" */
 #define IHEX_STOP_AFTER_EOF 2         /* after an end record, only "done" */
 #define IHEX_FINISHED 4               /* only "done" */
+#define IHEX_CR_WAITS 8               /* chunks: a CR stands behind the carry's used bytes, and the next byte says whose it is */
 
 /* A payload has at most so many bytes, and a line at most so many characters, without its line end. */
 #define IHEX_MAX_PAYLOAD 255
 #define IHEX_MAX_LINE 521
+
+/* A carry has at least so many bytes. */
+#define IHEX_CARRY 522
+
+/* Where a line lies: `lies`. */
+#define IHEX_NOWHERE 0  /* no record was given */
+#define IHEX_IN_CHUNK 1 /* len bytes of the chunk, from `from` on */
+#define IHEX_IN_CARRY 2 /* the carry's first len bytes; from is 0 */
 
 /* A page has at most so many places. */
 #define IHEX_MAX_PAGE 65536
@@ -90,6 +101,61 @@ uint32_t ihex_next(const uint8_t *text, size_t text_len,
                    uint8_t *pool, size_t pool_len, size_t at,
                    size_t *position, size_t *line, uint8_t *flags,
                    uint64_t *a, uint64_t *b, uint64_t *c);
+
+/* Reads a text that comes in chunks to the answers that ihex_next gives of the whole text. The state is position (in the chunk), line,
+ * empties, used, flags, and begins with 0 but for the stops; the carry's first `used` bytes belong to it, a line that is begun. All is
+ * kept from call to call, as the call left it. The carry's other bytes may change in any call but 18. A made-up state is answered too.
+ * Returns the chunk's next answer, or IHEX_USED_UP: then the next call has the next chunk, and all others have this one again.
+ * After IHEX_POOL_FULL the state and the used bytes are as they were; after 18, which goes before all else, so is every byte.
+ * lies, from, len: where the line lies that gave a record, until the next call. */
+uint32_t ihex_next_chunk(const uint8_t *chunk, size_t chunk_len,
+                         uint8_t *carry, size_t carry_len,
+                         uint8_t *pool, size_t pool_len, size_t at,
+                         size_t *position, size_t *line, size_t *empties, size_t *used, uint8_t *flags,
+                         uint8_t *lies, size_t *from, size_t *len,
+                         uint64_t *a, uint64_t *b, uint64_t *c);
+
+/* Ends the text, after IHEX_USED_UP: the line that is begun is its last, if it has a byte. Answers and leaves all as ihex_next_chunk
+ * does, never IHEX_USED_UP; then there is only IHEX_DONE. After IHEX_POOL_FULL the text is not ended: call again with room. */
+uint32_t ihex_finish(uint8_t *carry, size_t carry_len,
+                     uint8_t *pool, size_t pool_len, size_t at,
+                     size_t *position, size_t *line, size_t *empties, size_t *used, uint8_t *flags,
+                     uint8_t *lies, size_t *from, size_t *len,
+                     uint64_t *a, uint64_t *b, uint64_t *c);
+
+/* The line at a place: returns how many bytes it has in the buffer that `lies` names, and in start where it begins there.
+ * What lies behind the buffer's end is left out; 0 and 0 for IHEX_NOWHERE, any other number, and a place behind the end. */
+size_t ihex_shown(uint8_t lies, size_t from, size_t len,
+                  const uint8_t *chunk, size_t chunk_len,
+                  const uint8_t *carry, size_t carry_len,
+                  size_t *start);
+
+/* The state of a reader of chunks, and where the line lies that gave a record. It begins with 0 in all but the flags: the stops. */
+struct ihex_chunks {
+    size_t position, line, empties, used;
+    uint8_t flags;
+    uint8_t lies;
+    size_t from, len;
+};
+
+/* ihex_next_chunk on that state. */
+static inline uint32_t ihex_chunks_next(struct ihex_chunks *s, const uint8_t *chunk, size_t chunk_len,
+                                        uint8_t *carry, size_t carry_len,
+                                        uint8_t *pool, size_t pool_len, size_t at,
+                                        uint64_t *a, uint64_t *b, uint64_t *c)
+{
+    return ihex_next_chunk(chunk, chunk_len, carry, carry_len, pool, pool_len, at, &s->position, &s->line, &s->empties,
+                           &s->used, &s->flags, &s->lies, &s->from, &s->len, a, b, c);
+}
+
+/* ihex_finish on that state. */
+static inline uint32_t ihex_chunks_finish(struct ihex_chunks *s, uint8_t *carry, size_t carry_len,
+                                          uint8_t *pool, size_t pool_len, size_t at,
+                                          uint64_t *a, uint64_t *b, uint64_t *c)
+{
+    return ihex_finish(carry, carry_len, pool, pool_len, at, &s->position, &s->line, &s->empties, &s->used, &s->flags,
+                       &s->lies, &s->from, &s->len, a, b, c);
+}
 
 /* Writes a record's line, without a line end, from the output's start on: returns 0 and its length as the value,
  * or IHEX_BAD_RECORD, or IHEX_REFUSED and the first of 11, 12, 15 that holds. The fields are those of ihex_record. */

@@ -20,7 +20,7 @@ static void check(int holds, int line, const char *what)
 
 /* ---- what is lent, between guards */
 
-#define MOST 70000
+#define MOST 70100
 #define EDGE 64
 #define GUARD 0xA5
 #define OLD 0x5C
@@ -30,7 +30,7 @@ struct lent {
     uint8_t all[EDGE + MOST + EDGE];
 };
 
-static struct lent pool_, out_, page_, marks_, text_, list_;
+static struct lent pool_, out_, page_, marks_, text_, list_, carry_;
 
 /* the place of `len` bytes, each OLD; null where there is none */
 static uint8_t *lend(struct lent *l, size_t len)
@@ -50,8 +50,7 @@ static const uint8_t *given(struct lent *l, const void *bytes, size_t len)
     return place;
 }
 
-/* the guards stand, and all bytes are as they were but `n` from `at` on, which are these */
-static int holds(const struct lent *l, size_t at, const void *bytes, size_t n)
+static int guarded(const struct lent *l)
 {
     size_t i;
     for (i = 0; i < EDGE; i++)
@@ -60,6 +59,15 @@ static int holds(const struct lent *l, size_t at, const void *bytes, size_t n)
     for (i = EDGE + l->len; i < sizeof l->all; i++)
         if (l->all[i] != GUARD)
             return 0;
+    return 1;
+}
+
+/* the guards stand, and all bytes are as they were but `n` from `at` on, which are these */
+static int holds(const struct lent *l, size_t at, const void *bytes, size_t n)
+{
+    size_t i;
+    if (!guarded(l))
+        return 0;
     for (i = 0; i < l->len; i++)
         if ((i < at || i >= at + n) && l->all[EDGE + i] != OLD)
             return 0;
@@ -95,21 +103,25 @@ struct byte {
 #define WITHIN(n, edge) ((n).before == (edge) && (n).after == (edge))
 
 static struct number a, b, c;
-static struct size position, line;
-static struct byte flags;
+static struct size position, line, empties, used, from, len, start;
+static struct byte flags, lies;
 
 static void fresh(void)
 {
+    struct size *sizes[] = {&position, &line, &empties, &used, &from, &len, &start};
+    size_t i;
     a.before = a.value = a.after = EDGES;
     b = c = a;
-    position.before = position.after = line.before = line.after = EDGES;
-    flags.before = flags.after = GUARD;
+    for (i = 0; i < sizeof sizes / sizeof sizes[0]; i++)
+        sizes[i]->before = sizes[i]->after = EDGES;
+    flags.before = flags.after = lies.before = lies.after = GUARD;
 }
 
 static int fenced(void)
 {
     return WITHIN(a, EDGES) && WITHIN(b, EDGES) && WITHIN(c, EDGES) && WITHIN(position, EDGES) &&
-           WITHIN(line, EDGES) && WITHIN(flags, GUARD);
+           WITHIN(line, EDGES) && WITHIN(empties, EDGES) && WITHIN(used, EDGES) && WITHIN(from, EDGES) &&
+           WITHIN(len, EDGES) && WITHIN(start, EDGES) && WITHIN(flags, GUARD) && WITHIN(lies, GUARD);
 }
 
 static int values(uint64_t x, uint64_t y, uint64_t z)
@@ -317,6 +329,320 @@ static void states(void)
     position.value = SIZE_MAX;
     CHECK(next(mixed, 8, 0) == IHEX_DONE);
     CHECK(stands(SIZE_MAX, 0, IHEX_STOP_AFTER_EOF | IHEX_FINISHED) && untouched(&pool_));
+}
+
+/* ---- a text in chunks */
+
+/* the carry's bytes before the last call */
+static uint8_t before[MOST];
+
+static void begin_chunks(uint8_t stops, size_t carry_len)
+{
+    lend(&carry_, carry_len);
+    begin(stops);
+    empties.value = used.value = 0;
+}
+
+static uint8_t *carry(void)
+{
+    return carry_.len ? carry_.all + EDGE : NULL;
+}
+
+/* a call: of ihex_finish where there is no chunk */
+static uint32_t feed(const void *chunk, size_t n, size_t pool_len, size_t at)
+{
+    const uint8_t *bytes = given(&text_, chunk, n);
+    uint8_t *pool = lend(&pool_, pool_len);
+    uint32_t r;
+    memcpy(before, carry_.all + EDGE, carry_.len);
+    fresh();
+    from.value = len.value = 77;
+    lies.value = 77;
+    if (chunk)
+        r = ihex_next_chunk(bytes, n, carry(), carry_.len, pool, pool_len, at, &position.value, &line.value, &empties.value,
+                            &used.value, &flags.value, &lies.value, &from.value, &len.value, &a.value, &b.value, &c.value);
+    else
+        r = ihex_finish(carry(), carry_.len, pool, pool_len, at, &position.value, &line.value, &empties.value, &used.value,
+                        &flags.value, &lies.value, &from.value, &len.value, &a.value, &b.value, &c.value);
+    CHECK(same(&text_, chunk) && guarded(&carry_) && guarded(&pool_) && fenced());
+    return r;
+}
+
+static uint32_t finish(size_t pool_len, size_t at)
+{
+    return feed(NULL, 0, pool_len, at);
+}
+
+static uint32_t feed_text(const char *chunk, size_t pool_len, size_t at)
+{
+    return feed(chunk, strlen(chunk), pool_len, at);
+}
+
+/* the line at the place that the last call named, in the buffer where it lies */
+static int shows(const void *bytes, size_t n)
+{
+    const struct lent *l = lies.value == IHEX_IN_CHUNK ? &text_ : &carry_;
+    size_t r = ihex_shown(lies.value, from.value, len.value, text_.all + EDGE, text_.len, carry_.all + EDGE, carry_.len, &start.value);
+    return fenced() && r == n && start.value + r <= l->len && memcmp(l->all + EDGE + start.value, bytes, n) == 0;
+}
+
+static int nowhere(void)
+{
+    return lies.value == IHEX_NOWHERE && from.value == 0 && len.value == 0 && shows("", 0) && start.value == 0;
+}
+
+/* the answers of a whole text, by ihex_next, with the lines they are to */
+static struct answer {
+    uint32_t code;
+    uint64_t a, b, c;
+    size_t line, at, len;
+    uint8_t payload[IHEX_MAX_PAYLOAD];
+} expected[16];
+
+/* where a line of the text begins, and its length without the line end */
+static void find_line(const char *text, size_t n, struct answer *e)
+{
+    size_t i = 0, l = 1;
+    for (; l < e->line; i++)
+        if (text[i] == '\n')
+            l++;
+    e->at = i;
+    while (i < n && text[i] != '\n')
+        i++;
+    e->len = i - e->at;
+    if (i < n && e->len && text[i - 1] == '\r')
+        e->len--;
+}
+
+static void read_whole(const char *text, size_t n, uint8_t stops)
+{
+    size_t p = 0, l = 0, i = 0;
+    uint8_t f = stops;
+    struct answer *e;
+    do {
+        e = &expected[i++];
+        e->code = ihex_next((const uint8_t *)text, n, e->payload, sizeof e->payload, 0, &p, &l, &f, &e->a, &e->b, &e->c);
+        e->line = l;
+        find_line(text, n, e);
+    } while (e->code != IHEX_DONE);
+}
+
+/* the last call's answer is this one, with its line and its line's bytes */
+static int answers(uint32_t r, const struct answer *e, const char *text)
+{
+    if (r != e->code || !values(e->a, e->b, e->c) || line.value != e->line)
+        return 0;
+    if (r == IHEX_DATA && !holds(&pool_, 0, e->payload, e->c))
+        return 0;
+    return r < IHEX_REFUSED ? shows(text + e->at, e->len) : nowhere();
+}
+
+/* a text whose first chunk has `first` bytes and each other one `step`, to the answers of the whole */
+static void in_chunks(const char *text, size_t n, size_t first, size_t step, uint8_t stops)
+{
+    size_t at = 0, k = first, i = 0;
+    int over = 0;
+    read_whole(text, n, stops);
+    begin_chunks(stops, IHEX_CARRY);
+    for (;;) {
+        uint32_t r = over ? finish(IHEX_MAX_PAYLOAD, 0) : feed(text + at, k, IHEX_MAX_PAYLOAD, 0);
+        if (r == IHEX_USED_UP) {
+            CHECK(!over && values(0, 0, 0) && nowhere() && position.value == 0 && used.value <= IHEX_CARRY);
+            at += k;
+            over = at == n;
+            k = step < n - at ? step : n - at;
+            continue;
+        }
+        CHECK(answers(r, &expected[i], text));
+        if (expected[i++].code == IHEX_DONE)
+            break;
+    }
+    CHECK((flags.value & IHEX_FINISHED) && feed_text(":00000001FF\n", 0, 0) == IHEX_DONE && values(0, 0, 0) && nowhere());
+    CHECK(line.value == expected[i - 1].line && finish(0, 0) == IHEX_DONE && line.value == expected[i - 1].line);
+}
+
+/* records, refusals, empty lines, CRs of each kind, and a last line without a line end */
+static const char cut_text[] =
+    ":04012000102030403B\r\n\r\n\n:00000001FE\n\r\r\n:0400000312345678E5\r\n:G\r\r\n\r:\n:020000021200EA\n:00000001FF\n:0100000011EE";
+
+static void cut_texts(void)
+{
+    static const char *const small[] = {"", "\n", "\r", "\r\n", "\r\r\n", ":00000001FF", ":00000001FF\r", ":00000001FF\r\n"};
+    size_t i, k, n = strlen(cut_text);
+    for (k = 0; k <= n; k++) {
+        in_chunks(cut_text, n, k, n, 0);
+        in_chunks(cut_text, n, k, n, IHEX_STOP_AFTER_FIRST_ERROR | IHEX_STOP_AFTER_EOF);
+    }
+    for (k = 1; k < 8; k++)
+        in_chunks(cut_text, n, k, k, IHEX_STOP_AFTER_EOF);
+    for (i = 0; i < sizeof small / sizeof small[0]; i++)
+        for (k = 0; k <= strlen(small[i]); k++)
+            in_chunks(small[i], strlen(small[i]), k, 1, 0);
+}
+
+/* a CR at a chunk's end, and what it becomes */
+static void waiting_CR(void)
+{
+    begin_chunks(0, IHEX_CARRY);
+    CHECK(feed_text(":00000001FF\r", 0, 0) == IHEX_USED_UP && used.value == 11 && stands(0, 0, IHEX_CR_WAITS));
+    CHECK(feed_text("\n\r", 0, 0) == IHEX_END_OF_FILE && used.value == 0 && stands(1, 1, 0));
+    CHECK(lies.value == IHEX_IN_CARRY && from.value == 0 && shows(":00000001FF", 11));
+    CHECK(feed_text("\n\r", 0, 0) == IHEX_USED_UP && used.value == 0 && stands(0, 1, IHEX_CR_WAITS));
+    CHECK(feed_text("\n:00000001FF\n", 0, 0) == IHEX_END_OF_FILE && stands(13, 3, 0));
+    CHECK(lies.value == IHEX_IN_CHUNK && from.value == 1 && shows(":00000001FF", 11));
+    CHECK(feed_text("\n:00000001FF\n", 0, 0) == IHEX_USED_UP);
+    CHECK(feed_text("\r", 0, 0) == IHEX_USED_UP && finish(0, 0) == IHEX_REFUSED + IHEX_MISSING_START_CODE);
+    CHECK(stands(0, 4, IHEX_FINISHED) && nowhere());
+}
+
+/* lines about the longest and far over it: digits only, or with a byte that is none at a place */
+static void long_lines(void)
+{
+    static const size_t lengths[] = {519, 520, 521, 522, 523, 524, 1043, 5000, 70000}, places[] = {0, 1, 520, 521, 522, 523, 4999, 69999};
+    static char text[70000 + 12];
+    size_t i, k, n;
+    for (i = 0; i < sizeof lengths / sizeof lengths[0]; i++) {
+        n = lengths[i];
+        for (k = 0; k < sizeof places / sizeof places[0] && places[k] < n; k++) {
+            memset(text, '0', n);
+            memcpy(text, ":FF", 3);
+            memcpy(text + n - 2, "01", 2);
+            if (k)
+                text[places[k]] = 'G';
+            memcpy(text + n, "\r\n:00000001F", 12);
+            in_chunks(text, n + 11, 100, n < 2000 ? 100 : 8192, 0);
+            in_chunks(text, n + 2, 0, n + 1, 0);
+            in_chunks(text, n, n / 2, n, 0);
+        }
+    }
+}
+
+/* ---- refusals 10 and 18, and what they keep */
+
+/* the state and the carry, whole, as they were */
+static int all_kept(size_t p, size_t l, size_t e, size_t u, uint8_t f)
+{
+    return stands(p, l, f) && empties.value == e && used.value == u && memcmp(before, carry_.all + EDGE, carry_.len) == 0 &&
+           values(0, 0, 0) && nowhere() && untouched(&pool_);
+}
+
+static void chunks_with_full_pool(void)
+{
+    static const char data[] = ":04012000102030403B\n";
+    begin_chunks(IHEX_STOP_AFTER_FIRST_ERROR, IHEX_CARRY);
+    CHECK(feed_text(data, 8, 5) == IHEX_REFUSED + IHEX_POOL_FULL && all_kept(0, 0, 0, 0, IHEX_STOP_AFTER_FIRST_ERROR));
+    CHECK(feed_text(data, 8, 4) == IHEX_DATA && values(0x0120, 4, 4) && holds(&pool_, 4, payload, 4));
+    CHECK(feed_text(data, 8, 5) == IHEX_USED_UP && feed_text("\n\n:0401", 0, 0) == IHEX_USED_UP && empties.value == 2);
+    CHECK(feed_text(data + 5, 8, 5) == IHEX_REFUSED + IHEX_POOL_FULL);
+    CHECK(stands(0, 1, IHEX_STOP_AFTER_FIRST_ERROR) && empties.value == 2 && used.value == 5 && memcmp(carry(), ":0401", 5) == 0);
+    CHECK(values(0, 0, 0) && nowhere() && untouched(&pool_));
+    CHECK(feed_text(data + 5, 8, 0) == IHEX_DATA && values(0x0120, 0, 4) && holds(&pool_, 0, payload, 4));
+    CHECK(stands(15, 4, IHEX_STOP_AFTER_FIRST_ERROR) && lies.value == IHEX_IN_CARRY && shows(data, 19));
+
+    begin_chunks(0, IHEX_CARRY);
+    CHECK(feed(data, 19, 0, 0) == IHEX_USED_UP && used.value == 19);
+    CHECK(finish(3, 0) == IHEX_REFUSED + IHEX_POOL_FULL && all_kept(0, 0, 0, 19, 0));
+    CHECK(finish(4, 0) == IHEX_DATA && stands(0, 1, IHEX_FINISHED) && used.value == 0 && shows(data, 19));
+    CHECK(finish(4, 0) == IHEX_DONE && feed_text(data, 4, 0) == IHEX_DONE && all_kept(0, 1, 0, 0, IHEX_FINISHED));
+}
+
+static void small_carry(void)
+{
+    static const size_t lens[] = {0, 1, 521, 522, 523, 1000};
+    static const size_t counts[] = {0, 522, 523, SIZE_MAX};
+    size_t i, k;
+    for (i = 0; i < sizeof lens / sizeof lens[0]; i++)
+        for (k = 0; k < sizeof counts / sizeof counts[0]; k++) {
+            uint32_t code = IHEX_REFUSED + IHEX_CARRY_TOO_SMALL;
+            int small = lens[i] < IHEX_CARRY || counts[k] > IHEX_CARRY;
+            begin_chunks(IHEX_FINISHED | IHEX_CR_WAITS, lens[i]);
+            position.value = SIZE_MAX;
+            empties.value = 7;
+            used.value = counts[k];
+            CHECK(feed_text(mixed, 8, 0) == (small ? code : IHEX_DONE));
+            CHECK(all_kept(SIZE_MAX, 0, 7, counts[k], IHEX_FINISHED | IHEX_CR_WAITS));
+            flags.value = IHEX_CR_WAITS;
+            CHECK((finish(8, 0) == code) == small);
+            CHECK(!small || all_kept(SIZE_MAX, 0, 7, counts[k], IHEX_CR_WAITS));
+        }
+}
+
+/* every setting of the flags, positions behind the end, and counts of used bytes that no call leaves */
+static void made_up_states(void)
+{
+    static const size_t places[] = {0, 21, SIZE_MAX}, counts[] = {0, 1, 522};
+    size_t i, k, f;
+    for (f = 0; f < 256; f++)
+        for (i = 0; i < 3; i++)
+            for (k = 0; k < 3; k++) {
+                uint32_t r;
+                begin_chunks((uint8_t)f, IHEX_CARRY);
+                position.value = places[i];
+                line.value = empties.value = SIZE_MAX;
+                used.value = counts[k];
+                r = feed_text(mixed, 8, 0);
+                CHECK(r <= IHEX_START_LINEAR_ADDRESS || (r > IHEX_REFUSED && r <= IHEX_REFUSED + IHEX_POOL_FULL) ||
+                      r == ((f & IHEX_FINISHED) ? IHEX_DONE : IHEX_USED_UP));
+                CHECK(flags.value < 16 && (flags.value & 3) == (f & 3) && (flags.value & IHEX_FINISHED) >= (f & IHEX_FINISHED));
+            }
+}
+
+/* ---- places, and the struct */
+
+static size_t show(uint8_t what, size_t at, size_t n, size_t chunk_len, size_t carry_len)
+{
+    const uint8_t *chunk = given(&text_, cut_text, chunk_len);
+    size_t r;
+    begin_chunks(0, carry_len);
+    fresh();
+    start.value = 77;
+    r = ihex_shown(what, at, n, chunk, chunk_len, carry(), carry_len, &start.value);
+    CHECK(fenced() && untouched(&carry_) && same(&text_, cut_text));
+    return r;
+}
+
+static void shown_places(void)
+{
+    unsigned what;
+    CHECK(show(IHEX_IN_CHUNK, 3, 5, 8, 0) == 5 && start.value == 3);
+    CHECK(show(IHEX_IN_CHUNK, 3, 6, 8, 0) == 5 && start.value == 3);
+    CHECK(show(IHEX_IN_CHUNK, 3, SIZE_MAX, 8, 600) == 5 && start.value == 3);
+    CHECK(show(IHEX_IN_CHUNK, 8, 1, 8, 600) == 0 && start.value == 8);
+    CHECK(show(IHEX_IN_CHUNK, 9, 1, 8, 600) == 0 && start.value == 0);
+    CHECK(show(IHEX_IN_CHUNK, SIZE_MAX, SIZE_MAX, 8, 600) == 0 && start.value == 0);
+    CHECK(show(IHEX_IN_CHUNK, 0, 1, 0, 600) == 0 && start.value == 0);
+    CHECK(show(IHEX_IN_CARRY, 0, 522, 8, 522) == 522 && start.value == 0);
+    CHECK(show(IHEX_IN_CARRY, 9, 523, 8, 522) == 522 && start.value == 0);
+    CHECK(show(IHEX_IN_CARRY, SIZE_MAX, SIZE_MAX, 8, 0) == 0 && start.value == 0);
+    for (what = 0; what < 256; what++)
+        if (what != IHEX_IN_CHUNK && what != IHEX_IN_CARRY)
+            CHECK(show((uint8_t)what, 1, 1, 8, 600) == 0 && start.value == 0);
+}
+
+/* the struct's functions, seven bytes at a time */
+static void struct_of_chunks(void)
+{
+    struct ihex_chunks s = {0, 0, 0, 0, IHEX_STOP_AFTER_EOF, 0, 0, 0};
+    static uint8_t kept[IHEX_CARRY], pool[IHEX_MAX_PAYLOAD];
+    const uint8_t *text = (const uint8_t *)cut_text;
+    size_t n = strlen(cut_text), at = 0, i = 0, first;
+    uint64_t x, y, z;
+    uint32_t r;
+    read_whole(cut_text, n, IHEX_STOP_AFTER_EOF);
+    do {
+        size_t k = n - at < 7 ? n - at : 7;
+        r = k ? ihex_chunks_next(&s, text + at, k, kept, sizeof kept, pool, sizeof pool, 0, &x, &y, &z)
+              : ihex_chunks_finish(&s, kept, sizeof kept, pool, sizeof pool, 0, &x, &y, &z);
+        if (r == IHEX_USED_UP) {
+            at += k;
+            continue;
+        }
+        CHECK(r == expected[i].code && x == expected[i].a && y == expected[i].b && z == expected[i].c && s.line == expected[i].line);
+        if (r < IHEX_REFUSED)
+            CHECK(ihex_shown(s.lies, s.from, s.len, text + at, k, kept, sizeof kept, &first) == expected[i].len &&
+                  memcmp((s.lies == IHEX_IN_CHUNK ? text + at : kept) + first, cut_text + expected[i].at, expected[i].len) == 0);
+        i++;
+    } while (r != IHEX_DONE);
 }
 
 /* ---- one record written */
@@ -667,6 +993,14 @@ int main(void)
     text_with_full_pool();
     line_ends();
     states();
+    cut_texts();
+    waiting_CR();
+    long_lines();
+    chunks_with_full_pool();
+    small_carry();
+    made_up_states();
+    shown_places();
+    struct_of_chunks();
     written_records();
     bad_records();
     refused_records();
