@@ -2,8 +2,8 @@
 //!
 //! The names and shapes are those of the crate ihex 3.0.0: a program that uses it changes one line
 //! of its `Cargo.toml`. Beside them stand, and the crate has none of it: reading bytes that are no
-//! UTF-8 ([`ByteReader`], [`Record::from_record_bytes`]), line numbers ([`Reader::numbered`]), and
-//! the loading of a text into a page with marks ([`load`]).
+//! UTF-8 ([`ByteReader`], [`Record::from_record_bytes`]), line numbers ([`Reader::numbered`]), a text
+//! that comes in chunks ([`ChunkReader`]), and the loading of a text into a page with marks ([`load`]).
 //!
 //! No function panics, whatever its arguments.
 //!
@@ -22,12 +22,14 @@
 #![warn(missing_docs)]
 
 mod checksum;
+mod chunks;
 mod loader;
 mod reader;
 mod record;
 mod writer;
 
 pub use checksum::*;
+pub use chunks::*;
 pub use loader::*;
 pub use reader::*;
 pub use record::*;

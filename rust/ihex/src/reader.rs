@@ -121,10 +121,16 @@ impl Error for LineError {
 }
 
 /// Room for the payload of any record.
-type Pool = [u8; 255];
+pub(crate) type Pool = [u8; 255];
 
 /// The answer to a line, from its code and values. The payload lies at the pool's start.
-fn answer(code: u32, a: u64, b: u64, c: u64, pool: &Pool) -> Result<Record, ReaderError> {
+pub(crate) fn answer(
+    code: u32,
+    a: u64,
+    b: u64,
+    c: u64,
+    pool: &Pool,
+) -> Result<Record, ReaderError> {
     if code > u32::from(types::START_LINEAR_ADDRESS) {
         return Err(ReaderError::told(code, a, b).unwrap_or_else(|| stranger(code)));
     }
@@ -192,6 +198,26 @@ impl Default for ReaderOptions {
     }
 }
 
+/// The flags of a reader with these stops.
+pub(crate) fn flags(options: ReaderOptions) -> u8 {
+    let flag = |set, value| if set { value } else { 0 };
+    flag(
+        options.stop_after_first_error,
+        ihex_sys::STOP_AFTER_FIRST_ERROR,
+    ) | flag(options.stop_after_eof, ihex_sys::STOP_AFTER_EOF)
+}
+
+/// An answer with the number of its line.
+pub(crate) fn with_line(
+    line: usize,
+    answer: Result<Record, ReaderError>,
+) -> Result<(usize, Record), LineError> {
+    match answer {
+        Ok(record) => Ok((line, record)),
+        Err(error) => Err(LineError { line, error }),
+    }
+}
+
 /// The answers to the lines of a text that need not be UTF-8. Empty lines are passed over.
 ///
 /// ```
@@ -211,15 +237,11 @@ impl<'a> ByteReader<'a> {
     where
         T: AsRef<[u8]> + ?Sized,
     {
-        let flag = |set, value| if set { value } else { 0 };
         ByteReader {
             text: text.as_ref(),
             position: 0,
             line: 0,
-            flags: flag(
-                options.stop_after_first_error,
-                ihex_sys::STOP_AFTER_FIRST_ERROR,
-            ) | flag(options.stop_after_eof, ihex_sys::STOP_AFTER_EOF),
+            flags: flags(options),
         }
     }
 
@@ -327,11 +349,7 @@ impl<'a> Iterator for Numbered<'a> {
 
     fn next(&mut self) -> Option<Self::Item> {
         let answer = self.reader.next()?;
-        let line = self.reader.line();
-        Some(match answer {
-            Ok(record) => Ok((line, record)),
-            Err(error) => Err(LineError { line, error }),
-        })
+        Some(with_line(self.reader.line(), answer))
     }
 }
 

@@ -17,5 +17,6 @@ example!(record, "../examples/record.rs");
 example!(text, "../examples/text.rs");
 example!(bytes, "../examples/bytes.rs");
 example!(lines, "../examples/lines.rs");
+example!(chunks, "../examples/chunks.rs");
 example!(object, "../examples/object.rs");
 example!(load, "../examples/load.rs");

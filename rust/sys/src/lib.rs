@@ -7,6 +7,8 @@
 pub const REFUSED: u32 = 256;
 /// The text reader has no further answer.
 pub const DONE: u32 = 512;
+/// The chunk has no further answer: the next may be handed over.
+pub const USED_UP: u32 = 513;
 /// What should be written is no record: its type is over 5, or its number does not fit the type.
 pub const BAD_RECORD: u32 = 1024;
 
@@ -16,6 +18,18 @@ pub const STOP_AFTER_FIRST_ERROR: u8 = 1;
 pub const STOP_AFTER_EOF: u8 = 2;
 /// Flag of the text reader: only [`DONE`] from now on.
 pub const FINISHED: u8 = 4;
+/// Flag of the chunk reader: behind the used bytes of the carry comes a CR.
+pub const CR_WAITS: u8 = 8;
+
+/// The least length of a carry.
+pub const CARRY: usize = 522;
+
+/// The answer is no record, and no line is shown.
+pub const NOWHERE: u8 = 0;
+/// The line that gave the record lies in the chunk.
+pub const IN_CHUNK: u8 = 1;
+/// The line that gave the record lies at the carry's start.
+pub const IN_CARRY: u8 = 2;
 
 /// How many bytes stand for a record in the list that an object is written from.
 pub const ENTRY: usize = 24;
@@ -46,6 +60,54 @@ mod c {
             b: *mut u64,
             c: *mut u64,
         ) -> u32;
+        pub fn ihex_next_chunk(
+            chunk: *const u8,
+            chunk_len: usize,
+            carry: *mut u8,
+            carry_len: usize,
+            pool: *mut u8,
+            pool_len: usize,
+            at: usize,
+            position: *mut usize,
+            line: *mut usize,
+            empties: *mut usize,
+            used: *mut usize,
+            flags: *mut u8,
+            lies: *mut u8,
+            from: *mut usize,
+            len: *mut usize,
+            a: *mut u64,
+            b: *mut u64,
+            c: *mut u64,
+        ) -> u32;
+        pub fn ihex_finish(
+            carry: *mut u8,
+            carry_len: usize,
+            pool: *mut u8,
+            pool_len: usize,
+            at: usize,
+            position: *mut usize,
+            line: *mut usize,
+            empties: *mut usize,
+            used: *mut usize,
+            flags: *mut u8,
+            lies: *mut u8,
+            from: *mut usize,
+            len: *mut usize,
+            a: *mut u64,
+            b: *mut u64,
+            c: *mut u64,
+        ) -> u32;
+        pub fn ihex_shown(
+            lies: u8,
+            from: usize,
+            len: usize,
+            chunk: *const u8,
+            chunk_len: usize,
+            carry: *const u8,
+            carry_len: usize,
+            start: *mut usize,
+        ) -> usize;
         pub fn ihex_to_record_string(
             kind: u8,
             number: u32,
@@ -122,6 +184,76 @@ pub fn next(
             text, text_len, pool, pool_len, at, position, line, flags, a, b, c,
         )
     }
+}
+
+/// Where a reader of chunks stands: the pointers of its state, in the order of the C entry points.
+pub type Standing<'a> = (
+    &'a mut usize,
+    &'a mut usize,
+    &'a mut usize,
+    &'a mut usize,
+    &'a mut u8,
+);
+
+/// Where the line lies that gave a record: `lies`, `from` and `len`.
+pub type Lies<'a> = (&'a mut u8, &'a mut usize, &'a mut usize);
+
+/// The next answer of a chunk, from a state in numbers, which is moved.
+pub fn next_chunk(
+    chunk: &[u8],
+    carry: &mut [u8],
+    pool: &mut [u8],
+    at: usize,
+    (position, line, empties, used, flags): Standing,
+    (lies, from, len): Lies,
+    a: &mut u64,
+    b: &mut u64,
+    c: &mut u64,
+) -> u32 {
+    let (chunk, chunk_len) = (chunk.as_ptr(), chunk.len());
+    let (carry, carry_len) = (carry.as_mut_ptr(), carry.len());
+    let (pool, pool_len) = (pool.as_mut_ptr(), pool.len());
+    unsafe {
+        c::ihex_next_chunk(
+            chunk, chunk_len, carry, carry_len, pool, pool_len, at, position, line, empties, used,
+            flags, lies, from, len, a, b, c,
+        )
+    }
+}
+
+/// Ends a text that came in chunks.
+pub fn finish(
+    carry: &mut [u8],
+    pool: &mut [u8],
+    at: usize,
+    (position, line, empties, used, flags): Standing,
+    (lies, from, len): Lies,
+    a: &mut u64,
+    b: &mut u64,
+    c: &mut u64,
+) -> u32 {
+    let (carry, carry_len) = (carry.as_mut_ptr(), carry.len());
+    let (pool, pool_len) = (pool.as_mut_ptr(), pool.len());
+    unsafe {
+        c::ihex_finish(
+            carry, carry_len, pool, pool_len, at, position, line, empties, used, flags, lies, from,
+            len, a, b, c,
+        )
+    }
+}
+
+/// How many bytes the line at a place has, and where it begins in its buffer.
+pub fn shown(
+    lies: u8,
+    from: usize,
+    len: usize,
+    chunk: &[u8],
+    carry: &[u8],
+    start: &mut usize,
+) -> usize {
+    let (chunk, chunk_len) = (chunk.as_ptr(), chunk.len());
+    let (carry, carry_len) = (carry.as_ptr(), carry.len());
+    unsafe { c::ihex_shown(lies, from, len, chunk, chunk_len, carry, carry_len, start) }
 }
 
 /// One record to a line.

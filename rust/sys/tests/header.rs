@@ -13,9 +13,10 @@ fn defined(name: &str) -> Option<u64> {
 
 #[test]
 fn numbers_are_the_headers() {
-    let numbers: [(&str, u64); 7] = [
+    let numbers: [(&str, u64); 13] = [
         ("REFUSED", ihex_sys::REFUSED.into()),
         ("DONE", ihex_sys::DONE.into()),
+        ("USED_UP", ihex_sys::USED_UP.into()),
         ("BAD_RECORD", ihex_sys::BAD_RECORD.into()),
         (
             "STOP_AFTER_FIRST_ERROR",
@@ -23,6 +24,11 @@ fn numbers_are_the_headers() {
         ),
         ("STOP_AFTER_EOF", ihex_sys::STOP_AFTER_EOF.into()),
         ("FINISHED", ihex_sys::FINISHED.into()),
+        ("CR_WAITS", ihex_sys::CR_WAITS.into()),
+        ("CARRY", ihex_sys::CARRY as u64),
+        ("NOWHERE", ihex_sys::NOWHERE.into()),
+        ("IN_CHUNK", ihex_sys::IN_CHUNK.into()),
+        ("IN_CARRY", ihex_sys::IN_CARRY.into()),
         ("RECORD_SIZE", ihex_sys::ENTRY as u64),
     ];
     for (name, number) in numbers {
