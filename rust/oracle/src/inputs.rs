@@ -231,7 +231,7 @@ pub fn changed(chance: &mut Chance) -> Vec<LineCase> {
 }
 
 /// A number around another, or at an end of all numbers.
-fn around(n: usize, chance: &mut Chance) -> usize {
+pub fn around(n: usize, chance: &mut Chance) -> usize {
     match chance.under(12) {
         0 => usize::MAX,
         1 => usize::MAX - chance.under(300),

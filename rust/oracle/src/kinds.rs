@@ -6,7 +6,10 @@ use std::thread;
 use std::time::{Duration, Instant};
 
 use crate::chance::Chance;
+use crate::chunks::{self, ChunkCase};
+use crate::cuts::{self, LongCase};
 use crate::inputs;
+use crate::joined;
 use crate::lines::{self, LineCase};
 use crate::loads;
 use crate::port::Port;
@@ -331,8 +334,58 @@ pub fn of_port<'a>(port: &'a dyn Port, plan: Plan) -> Vec<Kind<'a>> {
     kinds
 }
 
-/// What is compared with the Rust face.
-pub fn of_face(plan: Plan) -> Vec<Kind<'static>> {
+/// Texts in chunks, by their answers.
+fn texts_in_chunks<'a>(port: &'a dyn Port, plan: Plan) -> Vec<Kind<'a>> {
+    let joined = move |case: &ChunkCase| joined::port(port, case);
+    let lengths = cuts::LENGTHS.len() as u64;
+    vec![
+        by_chance(
+            "texts in chunks, cut by chance",
+            plan,
+            16,
+            cuts::cut_text,
+            joined,
+        ),
+        by_block(
+            "texts in chunks, cut in two at every place",
+            plan,
+            blocks(400, plan),
+            |_, chance| cuts::cut_everywhere(chance),
+            joined,
+        ),
+        by_block(
+            "texts in chunks, lines of 519 to 70,000 bytes",
+            plan,
+            (lengths * plan.times / plan.part_of).max(8),
+            move |block, chance| cuts::long(cuts::LENGTHS[(block % lengths) as usize], chance),
+            move |case: &LongCase| joined::port(port, &case.case()),
+        ),
+    ]
+}
+
+/// What is compared with the port's reader of chunks.
+pub fn of_chunks<'a>(port: &'a dyn Port, plan: Plan) -> Vec<Kind<'a>> {
+    let calls = move |case: &ChunkCase| chunks::port(port, case);
+    let by_hand = "texts in chunks, states made up by hand";
+    let mut kinds = texts_in_chunks(port, plan);
+    kinds.extend([
+        by_chance(
+            "texts in chunks, call by call",
+            plan,
+            8,
+            cuts::cut_text,
+            calls,
+        ),
+        by_chance(by_hand, plan, 12, cuts::by_hand, calls),
+        by_chance("places shown", plan, 20, cuts::place, move |case| {
+            chunks::shown_by_port(port, case)
+        }),
+    ]);
+    kinds
+}
+
+/// Lines and texts, whole and in chunks, by the Rust face.
+fn face_reads(plan: Plan) -> Vec<Kind<'static>> {
     vec![
         by_chance("face: good lines", plan, 20, good_line, lines::face),
         by_chance("face: lines by chance", plan, 50, random_line, lines::face),
@@ -351,6 +404,20 @@ pub fn of_face(plan: Plan) -> Vec<Kind<'static>> {
             texts::face,
         ),
         by_chance(
+            "face: texts in chunks",
+            plan,
+            8,
+            cuts::cut_text,
+            chunks::face,
+        ),
+    ]
+}
+
+/// What is compared with the Rust face.
+pub fn of_face(plan: Plan) -> Vec<Kind<'static>> {
+    let mut kinds = face_reads(plan);
+    kinds.extend([
+        by_chance(
             "face: records written",
             plan,
             30,
@@ -365,7 +432,8 @@ pub fn of_face(plan: Plan) -> Vec<Kind<'static>> {
             writes::object_by_face,
         ),
         by_chance("face: loads", plan, 20, inputs::load, loads::face),
-    ]
+    ]);
+    kinds
 }
 
 /// What is compared with the program `replay`, which runs the two lent forms.

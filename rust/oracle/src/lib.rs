@@ -2,9 +2,13 @@
 //! which the two disagree.
 #![forbid(unsafe_code)]
 
+pub mod carried;
 pub mod chance;
+pub mod chunks;
+pub mod cuts;
 pub mod domain;
 pub mod inputs;
+pub mod joined;
 pub mod kinds;
 pub mod lent;
 pub mod lines;
@@ -19,3 +23,4 @@ pub mod texts;
 pub mod told;
 pub mod writes;
 pub mod wrong;
+pub mod wrong_chunks;

@@ -1,6 +1,8 @@
 //! The port: the C entry points, one method each. A false port is one that alters some of them.
 #![allow(clippy::too_many_arguments)]
 
+use ihex_sys::{Lies, Standing};
+
 use crate::told::Entry;
 
 pub trait Port: Sync {
@@ -27,6 +29,41 @@ pub trait Port: Sync {
         (a, b, c): (&mut u64, &mut u64, &mut u64),
     ) -> u32 {
         ihex_sys::next(text, pool, at, position, line, flags, a, b, c)
+    }
+
+    fn next_chunk(
+        &self,
+        chunk: &[u8],
+        carry: &mut [u8],
+        pool: &mut [u8],
+        at: usize,
+        standing: Standing,
+        lies: Lies,
+        (a, b, c): (&mut u64, &mut u64, &mut u64),
+    ) -> u32 {
+        ihex_sys::next_chunk(chunk, carry, pool, at, standing, lies, a, b, c)
+    }
+
+    fn finish(
+        &self,
+        carry: &mut [u8],
+        pool: &mut [u8],
+        at: usize,
+        standing: Standing,
+        lies: Lies,
+        (a, b, c): (&mut u64, &mut u64, &mut u64),
+    ) -> u32 {
+        ihex_sys::finish(carry, pool, at, standing, lies, a, b, c)
+    }
+
+    fn shown(
+        &self,
+        (lies, from, len): (u8, usize, usize),
+        chunk: &[u8],
+        carry: &[u8],
+        start: &mut usize,
+    ) -> usize {
+        ihex_sys::shown(lies, from, len, chunk, carry, start)
     }
 
     fn to_record_string(&self, entry: &Entry, pool: &[u8], out: &mut [u8], value: &mut u64) -> u32 {

@@ -2,10 +2,10 @@
 
 use std::sync::atomic::{AtomicU64, Ordering};
 
-use ihex_sys::{BAD_RECORD, DONE, REFUSED};
+use ihex_sys::{BAD_RECORD, DONE, REFUSED, USED_UP};
 
 /// The entry points, and the codes that each can answer.
-const ANSWERS: [(&str, &[u32]); 5] = [
+const ANSWERS: [(&str, &[u32]); 7] = [
     (
         "record reader",
         &[
@@ -26,6 +26,18 @@ const ANSWERS: [(&str, &[u32]); 5] = [
             0, 257, 258, 259, 260, 261, 262, 263, 264, 265, 269, 272, 273,
         ],
     ),
+    (
+        "chunk reader",
+        &[
+            0, 1, 2, 3, 4, 5, 257, 258, 259, 260, 261, 262, 263, 264, 265, 266, 274, DONE, USED_UP,
+        ],
+    ),
+    (
+        "end of a text in chunks",
+        &[
+            0, 1, 2, 3, 4, 5, 257, 258, 259, 260, 261, 262, 263, 264, 265, 266, 274, DONE,
+        ],
+    ),
 ];
 
 pub const RECORD_READER: usize = 0;
@@ -33,18 +45,26 @@ pub const TEXT_READER: usize = 1;
 pub const RECORD_WRITER: usize = 2;
 pub const OBJECT_WRITER: usize = 3;
 pub const LOADER: usize = 4;
+pub const CHUNK_READER: usize = 5;
+pub const CHUNK_END: usize = 6;
 
 #[allow(clippy::declare_interior_mutable_const)]
 const NONE: AtomicU64 = AtomicU64::new(0);
 #[allow(clippy::declare_interior_mutable_const)]
 const ROW: [AtomicU64; 32] = [NONE; 32];
-static SEEN: [[AtomicU64; 32]; 5] = [ROW; 5];
+static SEEN: [[AtomicU64; 32]; 7] = [ROW; 7];
+
+/// The entry point that is given a chunk, or that ends a text in chunks.
+pub fn entry_of(chunk: Option<&[u8]>) -> usize {
+    chunk.map_or(CHUNK_END, |_| CHUNK_READER)
+}
 
 fn place(code: u32) -> usize {
     match code {
+        USED_UP => 29,
         DONE => 30,
         BAD_RECORD => 31,
-        _ if code > REFUSED => (code - REFUSED + 5).min(29) as usize,
+        _ if code > REFUSED => (code - REFUSED + 5).min(28) as usize,
         _ => code.min(5) as usize,
     }
 }

@@ -127,7 +127,7 @@ impl<'a> Calls<'a> {
 }
 
 /// The flags behind an answer.
-fn flags_behind(flags: u8, answer: &Told) -> u8 {
+pub fn flags_behind(flags: u8, answer: &Told) -> u8 {
     let refused = answer.code >= ihex_sys::REFUSED && flags & STOP_AFTER_FIRST_ERROR != 0;
     let ended = answer.code == 1 && flags & STOP_AFTER_EOF != 0;
     flags & 7 | if refused || ended { FINISHED } else { 0 }
@@ -181,12 +181,17 @@ pub fn port(port: &dyn Port, case: &TextCase) -> Option<String> {
         .or_else(|| calls.text.unlike("text", &case.text))
 }
 
-pub fn face(case: &TextCase) -> Option<String> {
-    let stops = options(case.state.flags);
-    let stops = ihex::ReaderOptions {
+/// The face's options with these stops.
+pub fn face_options(flags: u8) -> ihex::ReaderOptions {
+    let stops = options(flags);
+    ihex::ReaderOptions {
         stop_after_first_error: stops.stop_after_first_error,
         stop_after_eof: stops.stop_after_eof,
-    };
+    }
+}
+
+pub fn face(case: &TextCase) -> Option<String> {
+    let stops = face_options(case.state.flags);
     let mut bytes = ihex::ByteReader::new_with_options(&case.text, stops);
     let mut numbered = bytes.clone().numbered();
     let string = as_str(&case.text);
