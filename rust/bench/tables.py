@@ -22,6 +22,9 @@ WORK = {
 }
 # Each work with the sizes of payload that it is measured at.
 CASES = [(what, size) for what in WORK if what != "load" for size in (16, 32, 255)] + [("load", 16)]
+# How many bytes a chunk has where the text comes in chunks, and from which size on the bar holds.
+CHUNKS = (1, 7, 64, 512, 4096)
+LARGE = 512
 REPETITIONS = 2
 
 
@@ -34,21 +37,21 @@ def output(command):
     return done.stdout, done.stderr
 
 
-def words(who, what, size, records, repetitions):
-    return [who, what, str(size), str(records), str(repetitions)]
+def words(who, what, size, records, repetitions, *more):
+    return [who, what] + [str(n) for n in (size, records, repetitions, *more)]
 
 
-def total(who, what, size, records, repetitions):
+def total(who, what, size, records, repetitions, *more):
     """Instructions of the whole program, and the number that comes from its results."""
-    out, err = output(COUNTER + [DRIVER] + words(who, what, size, records, repetitions))
+    out, err = output(COUNTER + [DRIVER] + words(who, what, size, records, repetitions, *more))
     found = re.search(r"(?:Collected : |instructions )(\d+)", err)
     return int(found[1]), out.split()[0]
 
 
-def instructions(who, what, size, records):
+def instructions(who, what, size, records, *more):
     """Instructions a record, and the number that comes from the results."""
-    none, _ = total(who, what, size, records, 0)
-    some, result = total(who, what, size, records, REPETITIONS)
+    none, _ = total(who, what, size, records, 0, *more)
+    some, result = total(who, what, size, records, REPETITIONS, *more)
     return (some - none) / REPETITIONS / records, result
 
 
@@ -68,6 +71,11 @@ def table(head, rows):
 
 def whole(x):
     return f"{x:,.0f}"
+
+
+def shown(x):
+    """A percentage with one digit behind the point, a multiple with two."""
+    return f"{x:.2f}" if x < 2 else f"{x:.1f}"
 
 
 def measured():
@@ -124,7 +132,25 @@ def show_growth():
     table(["Work"] + [f"{records:,} records" for records in sizes], rows)
 
 
-def show_bars(who, count):
+def in_chunks():
+    """Instructions a record of 16 bytes by the size of a chunk, 0 for the whole text; all must come to the same results."""
+    whole_text = instructions("port", "text", 16, FULL)
+    found = {0: whole_text[0]}
+    for chunk in CHUNKS:
+        found[chunk], result = instructions("port", "chunks", 16, FULL, chunk)
+        if result != whole_text[1]:
+            sys.exit(f"chunks of {chunk}: the results differ, {result} and {whole_text[1]}")
+    return found
+
+
+def show_chunks(chunks):
+    print(f"Instructions a record of 16 bytes, of a text of {FULL:,} that comes in chunks, of the port:\n")
+    rows = [["the whole text", whole(chunks[0]), "1.00"]]
+    rows += [[f"{n:,}", whole(chunks[n]), f"{chunks[n] / chunks[0]:.2f}"] for n in CHUNKS]
+    table(["Bytes a chunk", "Instructions", "of the whole text's"], rows)
+
+
+def show_bars(who, count, chunks):
     reading, writing = count["port", "text", 16], count["port", "object", 16]
     bars = [("loading, as a multiple of reading", count["port", "load", 16] / reading, 2.5)]
     if "crate" in who:
@@ -132,11 +158,14 @@ def show_bars(who, count):
             ("reading a text, % of the crate's as built here", 100 * reading / count["crate", "text", 16], 18),
             ("writing an object, % of the crate's as built here", 100 * writing / count["crate", "object", 16], 10),
         ]
+    for chunk in CHUNKS:
+        if chunk >= LARGE:
+            bars.append((f"reading in chunks of {chunk:,}, as a multiple of reading", chunks[chunk] / chunks[0], 1.3))
     bars += [
         ("reading a text, % of 4,292, the crate's by rustc 1.63", 100 * reading / 4292, 18),
         ("writing an object, % of 6,443, the crate's by rustc 1.63", 100 * writing / 6443, 10),
     ]
-    rows = [[name, f"{is_:.1f}", f"{bar}", "met" if is_ <= bar else "MISSED"] for name, is_, bar in bars]
+    rows = [[name, shown(is_), f"{bar}", "met" if is_ <= bar else "MISSED"] for name, is_, bar in bars]
     table(["Bar", "Is", "At most", ""], rows)
 
 
@@ -147,7 +176,9 @@ def main():
     if MACHINE == "x86_64":
         show_times(who)
     show_growth()
-    show_bars(who, count)
+    chunks = in_chunks()
+    show_chunks(chunks)
+    show_bars(who, count, chunks)
 
 
 main()

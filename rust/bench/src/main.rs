@@ -1,9 +1,11 @@
 //! One driver for all: does one piece of work a number of times.
 //!
 //!     bench WHO WHAT BYTES RECORDS REPETITIONS
+//!     bench port chunks BYTES RECORDS REPETITIONS CHUNK
 //!
 //! WHO is crate, port, face or floor. WHAT is record or text (reading), line or object (writing), or
 //! load. BYTES are a record's payload, RECORDS how many there are in a text, or calls a repetition.
+//! `chunks` reads the text in chunks of CHUNK bytes, to the number that `text` prints.
 //! It prints a number that comes from the results, the same for all, and the nanoseconds taken.
 
 mod floor;
@@ -27,13 +29,15 @@ pub struct Given {
     of_face: Vec<ihex::Record>,
     /// The records as the C entry points take them.
     list: Vec<u8>,
+    /// How many bytes a chunk has.
+    chunk: usize,
     /// What is lent for writing.
     out: Vec<u8>,
     page: Vec<u8>,
     marks: Vec<u8>,
 }
 
-fn given(n: usize, records: usize) -> Given {
+fn given(n: usize, records: usize, chunk: usize) -> Given {
     let byte = |i: usize| (i.wrapping_add(1).wrapping_mul(2_654_435_761) >> 13) as u8;
     let pool: Vec<u8> = (0..n * records).map(byte).collect();
     let (mut of_crate, mut of_face, mut list) = (vec![], vec![], vec![]);
@@ -62,6 +66,7 @@ fn given(n: usize, records: usize) -> Given {
         of_crate,
         of_face,
         list,
+        chunk,
         page: vec![0; 65_536],
         marks: vec![0; 65_536],
     }
@@ -168,6 +173,72 @@ mod by_port {
         }
     }
 
+    /// A reader of chunks, and the number that comes from its answers.
+    struct Chunks {
+        carry: [u8; ihex_sys::CARRY],
+        pool: [u8; 255],
+        position: usize,
+        line: usize,
+        empties: usize,
+        used: usize,
+        flags: u8,
+        sum: u64,
+    }
+
+    impl Chunks {
+        /// The code of the next answer of a chunk, or of the end.
+        fn next(&mut self, chunk: Option<&[u8]>) -> u32 {
+            let standing = (
+                &mut self.position,
+                &mut self.line,
+                &mut self.empties,
+                &mut self.used,
+                &mut self.flags,
+            );
+            let (mut lies, mut from, mut len) = (0, 0, 0);
+            let lies = (&mut lies, &mut from, &mut len);
+            let (carry, pool) = (&mut self.carry, &mut self.pool);
+            let (mut a, mut b, mut c) = (0, 0, 0);
+            let (a, b, c) = (&mut a, &mut b, &mut c);
+            match chunk {
+                Some(chunk) => ihex_sys::next_chunk(chunk, carry, pool, 0, standing, lies, a, b, c),
+                None => ihex_sys::finish(carry, pool, 0, standing, lies, a, b, c),
+            }
+        }
+
+        fn read(&mut self, chunk: Option<&[u8]>) {
+            loop {
+                let code = self.next(chunk);
+                if code == ihex_sys::USED_UP || code == ihex_sys::DONE {
+                    return;
+                }
+                self.sum += 1 + if code == 0 {
+                    u64::from(self.pool[0])
+                } else {
+                    0
+                };
+            }
+        }
+    }
+
+    pub fn chunks(given: &mut Given) -> u64 {
+        let mut reader = Chunks {
+            carry: [0; ihex_sys::CARRY],
+            pool: [0; 255],
+            position: 0,
+            line: 0,
+            empties: 0,
+            used: 0,
+            flags: 3,
+            sum: 0,
+        };
+        for chunk in given.text.as_bytes().chunks(given.chunk) {
+            reader.read(Some(chunk));
+        }
+        reader.read(None);
+        reader.sum
+    }
+
     pub fn line(given: &mut Given) -> u64 {
         let (mut value, mut sum) = (0, 0);
         for _ in 0..given.records {
@@ -251,6 +322,7 @@ fn work(who: &str, what: &str) -> Option<Work> {
         ("face", "load") => face_load,
         ("port", "record") => by_port::record,
         ("port", "text") => by_port::text,
+        ("port", "chunks") => by_port::chunks,
         ("port", "line") => by_port::line,
         ("port", "object") => by_port::object,
         ("port", "load") => by_port::load,
@@ -263,6 +335,10 @@ fn work(who: &str, what: &str) -> Option<Work> {
     })
 }
 
+const USAGE: &str = "\
+usage: bench crate|port|face|floor record|text|line|object|load BYTES RECORDS REPETITIONS
+       bench port chunks BYTES RECORDS REPETITIONS CHUNK";
+
 fn main() {
     let words: Vec<String> = env::args().skip(1).collect();
     let number = |i: usize| {
@@ -272,14 +348,17 @@ fn main() {
             .unwrap_or(usize::MAX)
     };
     let (n, records, repetitions) = (number(2), number(3), number(4));
+    let chunk = number(5);
     let asked = words
         .first()
         .zip(words.get(1))
         .and_then(|(who, what)| work(who, what));
     let work = match asked {
-        Some(work) if n <= 255 && records <= 1 << 20 && repetitions < usize::MAX => work,
+        Some(work) if n <= 255 && records <= 1 << 20 && repetitions < usize::MAX && chunk > 0 => {
+            work
+        }
         _ => {
-            eprintln!("usage: bench crate|port|face|floor record|text|line|object|load BYTES RECORDS REPETITIONS");
+            eprintln!("{USAGE}");
             exit(2)
         }
     };
@@ -287,7 +366,7 @@ fn main() {
         println!("not at hand");
         return;
     }
-    let mut given = given(n, records);
+    let mut given = given(n, records, chunk);
     let mut result = 0;
     let start = Instant::now();
     for _ in 0..repetitions {
