@@ -116,7 +116,7 @@ uint32_t ihex_next_chunk(const uint8_t *chunk, size_t chunk_len,
                          uint64_t *a, uint64_t *b, uint64_t *c);
 
 /* Ends the text, after IHEX_USED_UP: the line that is begun is its last, if it has a byte. Answers and leaves all as ihex_next_chunk
- * does, never IHEX_USED_UP; then there is only IHEX_DONE. After IHEX_POOL_FULL the text is not ended: call again with room. */
+ * does, never IHEX_USED_UP; then there is only IHEX_DONE. After IHEX_POOL_FULL or 18 the text is not ended: call again with room. */
 uint32_t ihex_finish(uint8_t *carry, size_t carry_len,
                      uint8_t *pool, size_t pool_len, size_t at,
                      size_t *position, size_t *line, size_t *empties, size_t *used, uint8_t *flags,
