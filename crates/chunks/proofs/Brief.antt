@@ -98,7 +98,7 @@ pub judge-brief : (l : List ℕ) → judge (brief l) ≡ judge l
 judge-brief l = judged l [] (omega arith)
 
 -- a line of at most 522 bytes is kept as it is
-short-kept : (k l : List ℕ) → length k + length l < 523 → foldl push k l ≡ k ++ l
+pub short-kept : (k l : List ℕ) → length k + length l < 523 → foldl push k l ≡ k ++ l
 short-kept k [] h = sym (append-nil k)
 short-kept k (c ∷ l) h =
     ap (λ (k′ : List ℕ). foldl push k′ l) (push-more k c (omega arith))

@@ -21,7 +21,7 @@ use Rattle.chunks.proofs.Pass.{step-over}
 
 -- ---- a LF in a text
 
-has-LF : List ℕ → Bool
+unfoldable pub has-LF : List ℕ → Bool
 has-LF [] = false
 has-LF (c ∷ text) = eqb c LF || has-LF text
 
@@ -36,11 +36,11 @@ LF-at (c ∷ text) zero h e = rw (eq-eqb c LF e)
 LF-at (c ∷ text) (suc k) h e = rw (LF-at text k (omega arith) e) (or-true (eqb c LF))
 
 -- it stands before the rest
-record Ends-before-rest (text : List ℕ) : Type 0 where
-  shorter : length (rest text) < length text
-  feed : getD text (length text - length (rest text) - 1) 0 ≡ LF
+pub record Ends-before-rest (text : List ℕ) : Type 0 where
+  pub shorter : length (rest text) < length text
+  pub feed : getD text (length text - length (rest text) - 1) 0 ≡ LF
 
-LF-before-rest : (text : List ℕ) → has-LF text ≡ true → Ends-before-rest text
+pub LF-before-rest : (text : List ℕ) → has-LF text ≡ true → Ends-before-rest text
 unfolding has-LF rest
 LF-before-rest [] h = let z : _≡_ {A = ℕ} 0 1 = cc in absurd (omega arith)
 LF-before-rest (c ∷ text) h = go (eqb c LF) refl h (LF-before-rest text)
@@ -68,11 +68,15 @@ unfolding seek settled waiting first-line rest
 at-feed start empties kept true text = refl
 at-feed start empties kept false text = refl
 
+pub at-LF : (start : Option (List ℕ)) (empties : ℕ) (b : Begun) (c : ℕ) (text : List ℕ) → c ≡ LF → seek start empties b (c ∷ text) ≡ settled start empties (b .kept) text
+unfolding seek settled
+at-LF start empties b c text e = rw e
+
 pub rest-on : (c : ℕ) (text : List ℕ) → eqb c LF ≡ false → rest (c ∷ text) ≡ rest text
 unfolding rest
 rest-on c text e = rw e
 
-feed-in : (text : List ℕ) (start : Option (List ℕ)) (empties : ℕ) (b : Begun) → has-LF text ≡ true
+pub feed-in : (text : List ℕ) (start : Option (List ℕ)) (empties : ℕ) (b : Begun) → has-LF text ≡ true
     → seek start empties b text ≡ settled start empties (whole b text) (rest text)
 unfolding has-LF
 feed-in [] start empties b h = let z : _≡_ {A = ℕ} 0 1 = cc in absurd (omega arith)

@@ -12,3 +12,4 @@ pub mod Kept
 pub mod Stops
 pub mod Calls
 pub mod Claims
+pub mod Runs

@@ -16,7 +16,6 @@ use Rattle.record.proofs.Parts.{part-is, part-length}
 use Rattle.reader.specs.declared.Answer.{Answer}
 use Rattle.reader.specs.Told.{told}
 use Rattle.reader.specs.Answer.{Reads, answered}
-use Rattle.reader.specs.Lines.{LF}
 use Rattle.chunks.specs.declared.Chunks.{Chunks}
 use Rattle.chunks.specs.declared.Place.{Place}
 use Rattle.chunks.specs.declared.Place.the-variants.{InChunk, InCarry}
@@ -26,14 +25,10 @@ use Rattle.chunks.specs.Begun.{Begun, nothing, is-empty, brief, counted,
 use Rattle.chunks.specs.Next.{word, is-record, number-behind, begun, place, at-place, in-carry, of-sought, Meets}
 use Rattle.chunks.specs.Helpers.{held, Grown, Passed, seek-at, WholeLine, OpenLine, Settles, Plain}
 use Rattle.chunks.proofs.Brief.{judge-brief, brief-short}
-use Rattle.chunks.proofs.InPlace.{settled}
+use Rattle.chunks.proofs.InPlace.{settled, at-LF}
 use Rattle.chunks.proofs.Outcomes.{met, full-short, record-short}
 
 -- ---- what was found
-
-at-LF : (start : Option (List ℕ)) (empties : ℕ) (b : Begun) (c : ℕ) (text : List ℕ) → c ≡ LF → seek start empties b (c ∷ text) ≡ settled start empties (b .kept) text
-unfolding seek settled
-at-LF start empties b c text e = rw e
 
 module _ (chunk : List ℕ) (position : ℕ) (b : Begun) (position′ : ℕ) (b′ : Begun) (start : Option (List ℕ)) (empties : ℕ) (p : Passed chunk position b position′ b′) where
   passed-feed : (position′ ≡ length chunk → ⊥) → seek start empties b (drop position chunk) ≡ settled start empties (b′ .kept) (drop (position′ + 1) chunk)

@@ -1,15 +1,16 @@
 -- What the helpers of the chunk reader promise each other.
 -- Assumes nothing.
-use Prim.Native.Nat.{ℕ, _+_, _≤_, _<_}
+use Prim.Native.Nat.{ℕ, _+_, _-_, _≤_, _<_}
 use mathlib.Core.Path.{_≡_}
 use mathlib.Core.Logic.{_≢_}
 use mathlib.Core.Bool.{Bool, _||_}
 use mathlib.Core.Option.{Option, some}
 use mathlib.Core.List.{List}
+use lib.Dec.{eqb}
 use lib.ListN.{length, take, drop, getD}
 use Rattle.record.specs.Common.{if_then_else_}
 use Rattle.reader.specs.Told.{Told}
-use Rattle.reader.specs.Lines.{LF}
+use Rattle.reader.specs.Lines.{LF, CR}
 use Rattle.reader.specs.Text.{is-full, ends-row}
 use Rattle.chunks.specs.declared.Chunks.{Chunks}
 use Rattle.chunks.specs.declared.Place.{Place}
@@ -38,6 +39,10 @@ pub record Passed (chunk : List ℕ) (position : ℕ) (b : Begun) (position′ :
   pub from : position ≤ position′
   pub inside : position′ ≤ length chunk
   pub feed : position′ < length chunk → getD chunk position′ 0 ≡ LF
+
+-- is the last byte of a line a CR?
+abbrev pub ends-in-CR : List ℕ → Bool
+ends-in-CR line = eqb (getD line (length line - 1) 0) CR
 
 -- the search from a place of the chunk on, with nothing begun
 abbrev pub seek-at : (chunk : List ℕ) (position empties : ℕ) → Sought

@@ -8,14 +8,15 @@ ghost use mathlib.Core.Path.{_≡_};
 ghost use mathlib.Core.Bool.{false, _||_};
 ghost use mathlib.Core.List.{[]};
 ghost use mathlib.Core.Option.{none};
-ghost use Prim.Native.Nat.{_≤_};
+ghost use Prim.Native.Nat.{_+_, _≤_};
 ghost use lib.ListN.{length, take, drop};
+ghost use lib.Seq.{paste};
 ghost use Rattle.record.specs.Digits.{is-digit};
 ghost use Rattle.reader.specs.Told.{told};
 ghost use Rattle.reader.specs.Text.{default-options, ends-row};
 ghost use Rattle.chunks.specs.Begun.{seek, push as pushed, with-CR, add as added};
 ghost use Rattle.chunks.specs.Next.{begun, holding, past-line, over, number-behind, of-sought, Meets, NextChunk, Finish, NewChunks, PartOf, Shown};
-ghost use Rattle.chunks.specs.Helpers.{held, Grown, Passed, seek-at, CutAt, Settles, Plain, Within};
+ghost use Rattle.chunks.specs.Helpers.{held, Grown, Passed, ends-in-CR, seek-at, CutAt, Settles, Plain, Within};
 
 // Where a reader of chunks stands.
 pub struct Chunks {
@@ -170,8 +171,8 @@ fn add(carry: &mut [u8], used: usize, cr: bool, c: u8) -> Held
     Held { used: m, cr: false }
 }
 
-// Takes the chunk's bytes from a position into the carry, up to a LF or the chunk's end.
-fn gather(chunk: &[u8], position: usize, carry: &mut [u8], used: usize, cr: bool) -> Gathered
+// Takes the chunk's bytes from a position into the carry one by one, up to a LF or the chunk's end.
+fn gather_bytes(chunk: &[u8], position: usize, carry: &mut [u8], used: usize, cr: bool) -> Gathered
     requires { ⌜ (position ≤ length (now chunk)) × (used ≤ 522) × (522 ≤ length (now carry)) ⌝ }
     ensures { λ r. ⌜ Passed (now (chunk .entry)) position (held (now (carry .entry)) used cr) (r .position) (held (now (carry .exit)) (r .used) (r .cr)) ⌝ }
     ensures { λ r. ⌜ Grown (now (carry .entry)) used (take (r .used) (now (carry .exit))) (r .used) (now (carry .exit)) ⌝ }
@@ -197,6 +198,65 @@ fn gather(chunk: &[u8], position: usize, carry: &mut [u8], used: usize, cr: bool
         position: i,
         used: n,
         cr: w,
+    }
+}
+
+// Copies a line into the carry, behind the used bytes.
+fn copy(line: &[u8], carry: &mut [u8], used: usize)
+    requires { ⌜ used + length (now line) ≤ length (now carry) ⌝ }
+    ensures { λ _. ⌜ now (carry .exit) ≡ paste (now (carry .entry)) used (now (line .entry)) (length (now (line .entry))) ⌝ }
+{
+    let mut i = 0;
+    while i < line.len() {
+        carry[used + i] = line[i];
+        i += 1;
+    }
+}
+
+fn ends_in_cr(line: &[u8]) -> bool
+    ensures { λ r. ⌜ r ≡ ends-in-CR (now (line .entry)) ⌝ }
+{
+    if line.len() == 0 {
+        return false;
+    }
+    line[line.len() - 1] == 13
+}
+
+// The same in one go, where no CR waits and the line fits.
+fn gather(chunk: &[u8], position: usize, carry: &mut [u8], used: usize, cr: bool) -> Gathered
+    requires { ⌜ (position ≤ length (now chunk)) × (used ≤ 522) × (522 ≤ length (now carry)) ⌝ }
+    ensures { λ r. ⌜ Passed (now (chunk .entry)) position (held (now (carry .entry)) used cr) (r .position) (held (now (carry .exit)) (r .used) (r .cr)) ⌝ }
+    ensures { λ r. ⌜ Grown (now (carry .entry)) used (take (r .used) (now (carry .exit))) (r .used) (now (carry .exit)) ⌝ }
+{
+    if cr {
+        return gather_bytes(chunk, position, carry, used, cr);
+    }
+    let mut n = 0;
+    let line = reader::first_line(&chunk[position..], &mut n);
+    let len = line.len();
+    if len > 522 - used {
+        return gather_bytes(chunk, position, carry, used, cr);
+    }
+    copy(line, carry, used);
+    let behind = position + n;
+    if n > len {
+        return Gathered {
+            position: behind - 1,
+            used: used + len,
+            cr: false,
+        };
+    }
+    if ends_in_cr(line) {
+        return Gathered {
+            position: behind,
+            used: used + len - 1,
+            cr: true,
+        };
+    }
+    Gathered {
+        position: behind,
+        used: used + len,
+        cr: false,
     }
 }
 

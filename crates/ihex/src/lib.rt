@@ -25,7 +25,7 @@ ghost use Rattle.reader.specs.Text.{told-reply};
 ghost use Rattle.writer.specs.Told.{told as told-written, refusal-of as writer-refusal};
 ghost use Rattle.chunks.specs.Next.{word};
 ghost use Rattle.loader.specs.Told.{told as told-loading, refusal-by};
-ghost use Rattle.ihex.specs.Codes.{Coded-as, Flag, refused-with, reading, reading-chunk, writing, loading, line-at, options-of, state-of, flags-of, chunks-of, chunk-flags-of, place-of, Spot-as, start-of};
+ghost use Rattle.ihex.specs.Codes.{Coded-as, Flag, refused-with, reading, reading-chunk, writing, loading, line-at, state-of, flags-of, chunks-of, chunk-flags-of, place-of, Spot-as, start-of};
 ghost use Rattle.ihex.specs.Entry.{two-at, four-at, eight-at, record-of, record-at, entry-of};
 ghost use Rattle.ihex.specs.Helpers.{Is-list, Good, Surveyed-as, Stepped, TellStep};
 ghost use Rattle.ihex.specs.Entries.{IhexReadRecord, IhexNext, IhexNextChunk, IhexFinish, IhexShown, IhexToRecordString, IhexCreateObjectFileRepresentation, IhexLoad};
@@ -128,17 +128,7 @@ pub extern "C" fn ihex_read_record(
     told.code
 }
 
-// The stops: bit 0 of the flags is stop_after_first_error, bit 1 stop_after_eof.
-fn options_from(flags: u8) -> ReaderOptions
-    ensures { λ r. ⌜ r ≡ options-of flags ⌝ }
-{
-    ReaderOptions {
-        stop_after_first_error: flags % 2 == 1,
-        stop_after_eof: flags / 2 % 2 == 1,
-    }
-}
-
-// The state that stands in numbers: bit 2 of the flags is finished.
+// The state that stands in numbers: bit 0 of the flags is stop_after_first_error, bit 1 stop_after_eof, bit 2 finished.
 fn state_from(position: usize, line: usize, flags: u8) -> State
     ensures { λ r. ⌜ r ≡ state-of position line flags ⌝ }
 {
@@ -146,7 +136,10 @@ fn state_from(position: usize, line: usize, flags: u8) -> State
         position,
         line,
         finished: flags / 4 % 2 == 1,
-        options: options_from(flags),
+        options: ReaderOptions {
+            stop_after_first_error: flags % 2 == 1,
+            stop_after_eof: flags / 2 % 2 == 1,
+        },
     }
 }
 
@@ -211,14 +204,16 @@ fn code_chunk_reply(reply: ChunkReply) -> Coded
 fn chunks_from(position: usize, line: usize, empties: usize, used: usize, flags: u8) -> Chunks
     ensures { λ r. ⌜ r ≡ chunks-of position line empties used flags ⌝ }
 {
+    let state = state_from(position, line, flags);
+    let options = state.options;
     Chunks {
         position,
         line,
         empties,
         used,
         cr: flags / 8 % 2 == 1,
-        finished: flags / 4 % 2 == 1,
-        options: options_from(flags),
+        finished: state.finished,
+        options,
     }
 }
 

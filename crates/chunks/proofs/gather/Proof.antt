@@ -1,65 +1,137 @@
--- `chunks::gather` meets its contract. The loop's invariant: the search with what was held at first is the search from here with what is held now.
+-- `chunks::gather` meets its contract: byte by byte, or a line copied that ends, that does not, or whose last CR waits.
 -- Assumes nothing.
-use Prim.Native.Nat.{_-_}
+use Prim.Native.Nat.{_+_, _-_}
+use mathlib.Core.Path.{sym, _∙_, subst}
+use mathlib.Core.Bool.{Bool, true, false}
 use native.Mathlib.Omega.{arith}
-use lib.ListN.{length}
+use denote.Ref.{now}
+use lib.ListN.{length, take}
 use borrow.Author.Needs.{needs}
-use Rattle.chunks.proofs.Pass.{Passing, pass-first, pass-more, pass-last}
+use Rattle.reader.proofs.Searching.{cut-off}
+use Rattle.chunks.specs.Helpers.{held, Passed, Grown}
+use Rattle.chunks.proofs.Runs.{gathered-line, gathered-plain, some-CR, gathered-CR}
 use Rattle.chunks.proofs.gather.Statement.{statement}
 use Rattle.chunks.proofs.gather.Tie as tie
 
-abbrev Inv-loop : tie.InvT-loop
-Inv-loop chunk at carry₀ used cr i₀ n₀ w₀ carry i n w = Passing chunk at carry₀ used cr i n w carry
+gather-bytes-requires : tie.Need-gather-bytes-requires
+gather-bytes-requires c κs = search needs
 
-abbrev μ-loop : tie.MeasureT-loop
-μ-loop chunk at carry₀ used cr i₀ n₀ w₀ carry i n w = length chunk - i
+same-length : tie.Need-same-length
+same-length c = search needs
 
-loop-holds : tie.Need-loop-holds Inv-loop μ-loop
-loop-holds c = pass-first _ _ _ _ _ (search needs) (search needs)
+returns : tie.Need-returns
+returns c = search needs
 
-shared-slice-read-c : tie.Need-shared-slice-read-c Inv-loop μ-loop
-shared-slice-read-c c = search needs
+sub-first-line : tie.Need-sub-first-line
+sub-first-line c = search needs
 
-same-length : tie.Need-same-length Inv-loop μ-loop
-same-length c = c .before .before .before .loop .inv .size
+part-first-line-start : tie.Need-part-first-line-start
+part-first-line-start c = search needs
 
-returns : tie.Need-returns Inv-loop μ-loop
-returns c = let i = c .before .before .before .loop .inv in (pass-last _ _ _ _ _ _ _ _ _ i (λ _. c .if1 .taken), i .grown)
+part-first-line-end : tie.Need-part-first-line-end
+part-first-line-end c = search needs
 
-add-requires : tie.Need-add-requires Inv-loop μ-loop
-add-requires c κs = let i = c .before .before .before .before .loop .inv in (i .grown .within, omega (arith, i .size))
+first-line-requires : tie.Need-first-line-requires
+first-line-requires c κs = search needs
 
-add-i : tie.Need-add-i Inv-loop μ-loop
-add-i c = search needs
+sub-if2 : tie.Need-sub-if2
+sub-if2 c = search needs
 
-loop-less : tie.Need-loop-less Inv-loop μ-loop
-loop-less c = search needs
+gather-bytes-requires-2 : tie.Need-gather-bytes-requires-2
+gather-bytes-requires-2 c κs = search needs
 
-loop-again : tie.Need-loop-again Inv-loop μ-loop
-loop-again c =
-    let b = c .before .before .before .before .before .before in
-    let a = c .before .before .add in
-    pass-more _ _ _ _ _ (b .before .loop .i) (b .before .loop .n) (b .before .loop .w) (b .before .loop .carry) _ _ _ (b .before .loop .inv) (search needs) (c .before .before .before .before .if1 .left) (a .ensures .0) (a .ensures .1) (a .kept .0)
+same-length-2 : tie.Need-same-length-2
+same-length-2 c = search needs
 
-same-length-2 : tie.Need-same-length-2 Inv-loop μ-loop
-same-length-2 c = c .before .loop .inv .size
+returns-2 : tie.Need-returns-2
+returns-2 c = search needs
 
-returns-2 : tie.Need-returns-2 Inv-loop μ-loop
-returns-2 c = let i = c .before .loop .inv in (pass-last _ _ _ _ _ _ _ _ _ i (λ h. absurd (omega arith)), i .grown)
+copy-requires : tie.Need-copy-requires
+copy-requires c κs = search needs
+
+add-behind : tie.Need-add-behind
+add-behind c = search needs
+
+sub-t23 : tie.Need-sub-t23
+sub-t23 c = search needs
+
+add-t24 : tie.Need-add-t24
+add-t24 c = search needs
+
+same-length-3 : tie.Need-same-length-3
+same-length-3 c = search needs
+
+returns-3 : tie.Need-returns-3
+returns-3 c =
+    let a = c .before .before .before .before .before .before .before .before .before .before .before .before .args in
+    let f = c .before .before .before .before .before .before .first-line in
+    let k = c .before .before .before .copy in
+    let len = length (now (f .result)) in
+    subst (λ (x : Bool). Passed (now (a .chunk)) (a .position) (held (now (a .carry)) (a .used) x) (a .position + f .last .1 .0 - 1) (held (k .last .1 .0) (a .used + len) false) × Grown (now (a .carry)) (a .used) (take (a .used + len) (k .last .1 .0)) (a .used + len) (k .last .1 .0)) (sym (c .before .before .before .before .before .before .before .before .before .if1 .left))
+    (gathered-line (now (a .chunk)) (a .position) (now (a .carry)) (a .used) (now (f .result)) (f .last .1 .0) (k .last .1 .0) (c .before .before .before .before .before .before .before .before .before .before .before .before .pre .0) (c .before .before .before .before .before .before .before .before .before .before .before .before .pre .1) (c .before .before .before .before .before .before .before .before .before .before .before .before .pre .2) (cut-off (f .ensures)) (c .before .before .before .before .before .if2 .left) (k .ensures) (c .if3 .taken))
+
+ends-in-cr-requires : tie.Need-ends-in-cr-requires
+ends-in-cr-requires c κs = search needs
+
+add-t26 : tie.Need-add-t26
+add-t26 c = search needs
+
+sub-t27 : tie.Need-sub-t27
+sub-t27 c = omega (arith, some-CR (now (c .before .before .before .before .before .before .before .before .first-line .result)) (sym (c .before .ends-in-cr .ensures) ∙ c .if4 .taken))
+
+same-length-4 : tie.Need-same-length-4
+same-length-4 c = search needs
+
+returns-4 : tie.Need-returns-4
+returns-4 c =
+    let a = c .before .before .before .before .before .before .before .before .before .before .before .before .before .before .args in
+    let f = c .before .before .before .before .before .before .before .before .first-line in
+    let k = c .before .before .before .before .before .copy in
+    let len = length (now (f .result)) in
+    subst (λ (x : Bool). Passed (now (a .chunk)) (a .position) (held (now (a .carry)) (a .used) x) (a .position + f .last .1 .0) (held (k .last .1 .0) (a .used + len - 1) true) × Grown (now (a .carry)) (a .used) (take (a .used + len - 1) (k .last .1 .0)) (a .used + len - 1) (k .last .1 .0)) (sym (c .before .before .before .before .before .before .before .before .before .before .before .if1 .left))
+    (gathered-CR (now (a .chunk)) (a .position) (now (a .carry)) (a .used) (now (f .result)) (f .last .1 .0) (k .last .1 .0) (c .before .before .before .before .before .before .before .before .before .before .before .before .before .before .pre .0) (c .before .before .before .before .before .before .before .before .before .before .before .before .before .before .pre .1) (c .before .before .before .before .before .before .before .before .before .before .before .before .before .before .pre .2) (cut-off (f .ensures)) (c .before .before .before .before .before .before .before .if2 .left) (k .ensures) (omega (arith, c .before .before .if3 .left)) (sym (c .before .ends-in-cr .ensures) ∙ c .if4 .taken))
+
+add-t14 : tie.Need-add-t14
+add-t14 c = search needs
+
+same-length-5 : tie.Need-same-length-5
+same-length-5 c = search needs
+
+returns-5 : tie.Need-returns-5
+returns-5 c =
+    let a = c .before .before .before .before .before .before .before .before .before .before .before .before .before .before .args in
+    let f = c .before .before .before .before .before .before .before .before .first-line in
+    let k = c .before .before .before .before .before .copy in
+    let len = length (now (f .result)) in
+    subst (λ (x : Bool). Passed (now (a .chunk)) (a .position) (held (now (a .carry)) (a .used) x) (a .position + f .last .1 .0) (held (k .last .1 .0) (a .used + len) false) × Grown (now (a .carry)) (a .used) (take (a .used + len) (k .last .1 .0)) (a .used + len) (k .last .1 .0)) (sym (c .before .before .before .before .before .before .before .before .before .before .before .if1 .left))
+    (gathered-plain (now (a .chunk)) (a .position) (now (a .carry)) (a .used) (now (f .result)) (f .last .1 .0) (k .last .1 .0) (c .before .before .before .before .before .before .before .before .before .before .before .before .before .before .pre .0) (c .before .before .before .before .before .before .before .before .before .before .before .before .before .before .pre .1) (c .before .before .before .before .before .before .before .before .before .before .before .before .before .before .pre .2) (cut-off (f .ensures)) (c .before .before .before .before .before .before .before .if2 .left) (k .ensures) (omega (arith, c .before .before .if3 .left)) (sym (c .before .ends-in-cr .ensures) ∙ c .if4 .left))
 
 pub gather-spec : {M : Type 1} → statement M
 gather-spec =
     tie.close
     (tie.spec
-    Inv-loop
-    μ-loop
-    loop-holds
-    shared-slice-read-c
+    gather-bytes-requires
     same-length
     returns
-    add-requires
-    add-i
-    loop-less
-    loop-again
+    sub-first-line
+    part-first-line-start
+    part-first-line-end
+    first-line-requires
+    sub-if2
+    gather-bytes-requires-2
     same-length-2
-    returns-2)
+    returns-2
+    copy-requires
+    add-behind
+    sub-t23
+    add-t24
+    same-length-3
+    returns-3
+    ends-in-cr-requires
+    add-t26
+    sub-t27
+    same-length-4
+    returns-4
+    add-t14
+    same-length-5
+    returns-5)

@@ -1,14 +1,20 @@
--- `ihex::chunks_from` meets its contract.
+-- `ihex::chunks_from` meets its contract: the stops and the end are those of the text reader's state.
 -- Assumes nothing.
+use mathlib.Core.Path.{ap}
+use Rattle.reader.specs.declared.State.{State}
 use borrow.Author.Needs.{needs}
+use Rattle.ihex.specs.Codes.{bit}
 use Rattle.ihex.proofs.chunks_from.Statement.{statement}
 use Rattle.ihex.proofs.chunks_from.Tie as tie
 
-options-from-requires : tie.Need-options-from-requires
-options-from-requires c κs = search needs
+state-from-requires : tie.Need-state-from-requires
+state-from-requires c κs = search needs
 
 returns : tie.Need-returns
-returns c = rw (c .options-from .ensures)
+returns c =
+    let a = c .before .before .args in
+    ap (λ (s : State). record { position = a .position; line = a .line; empties = a .empties; used = a .used; cr = bit (a .flags) 8; finished = s .finished; options = s .options })
+    (c .before .state-from .ensures)
 
 pub chunks-from-spec : {M : Type 1} → statement M
-chunks-from-spec = tie.close (tie.spec options-from-requires returns)
+chunks-from-spec = tie.close (tie.spec state-from-requires returns)
