@@ -222,13 +222,16 @@ fn ends_in_cr(line: &[u8]) -> bool
     line[line.len() - 1] == 13
 }
 
-// The same in one go, where no CR waits and the line fits.
+// The same in one go, where no CR waits, the line fits, and there are bytes enough that it pays.
 fn gather(chunk: &[u8], position: usize, carry: &mut [u8], used: usize, cr: bool) -> Gathered
     requires { ⌜ (position ≤ length (now chunk)) × (used ≤ 522) × (522 ≤ length (now carry)) ⌝ }
     ensures { λ r. ⌜ Passed (now (chunk .entry)) position (held (now (carry .entry)) used cr) (r .position) (held (now (carry .exit)) (r .used) (r .cr)) ⌝ }
     ensures { λ r. ⌜ Grown (now (carry .entry)) used (take (r .used) (now (carry .exit))) (r .used) (now (carry .exit)) ⌝ }
 {
     if cr {
+        return gather_bytes(chunk, position, carry, used, cr);
+    }
+    if chunk.len() - position < 16 {
         return gather_bytes(chunk, position, carry, used, cr);
     }
     let mut n = 0;

@@ -22,18 +22,6 @@ same-length c = search needs
 returns : tie.Need-returns
 returns c = search needs
 
-sub-first-line : tie.Need-sub-first-line
-sub-first-line c = search needs
-
-part-first-line-start : tie.Need-part-first-line-start
-part-first-line-start c = search needs
-
-part-first-line-end : tie.Need-part-first-line-end
-part-first-line-end c = search needs
-
-first-line-requires : tie.Need-first-line-requires
-first-line-requires c κs = search needs
-
 sub-if2 : tie.Need-sub-if2
 sub-if2 c = search needs
 
@@ -46,65 +34,89 @@ same-length-2 c = search needs
 returns-2 : tie.Need-returns-2
 returns-2 c = search needs
 
+sub-first-line : tie.Need-sub-first-line
+sub-first-line c = search needs
+
+part-first-line-start : tie.Need-part-first-line-start
+part-first-line-start c = search needs
+
+part-first-line-end : tie.Need-part-first-line-end
+part-first-line-end c = search needs
+
+first-line-requires : tie.Need-first-line-requires
+first-line-requires c κs = search needs
+
+sub-if3 : tie.Need-sub-if3
+sub-if3 c = search needs
+
+gather-bytes-requires-3 : tie.Need-gather-bytes-requires-3
+gather-bytes-requires-3 c κs = search needs
+
+same-length-3 : tie.Need-same-length-3
+same-length-3 c = search needs
+
+returns-3 : tie.Need-returns-3
+returns-3 c = search needs
+
 copy-requires : tie.Need-copy-requires
 copy-requires c κs = search needs
 
 add-behind : tie.Need-add-behind
 add-behind c = search needs
 
-sub-t23 : tie.Need-sub-t23
-sub-t23 c = search needs
+sub-t26 : tie.Need-sub-t26
+sub-t26 c = search needs
 
-add-t24 : tie.Need-add-t24
-add-t24 c = search needs
-
-same-length-3 : tie.Need-same-length-3
-same-length-3 c = search needs
-
-returns-3 : tie.Need-returns-3
-returns-3 c =
-    let a = c .before .before .before .before .before .before .before .before .before .before .before .before .args in
-    let f = c .before .before .before .before .before .before .first-line in
-    let k = c .before .before .before .copy in
-    let len = length (now (f .result)) in
-    subst (λ (x : Bool). Passed (now (a .chunk)) (a .position) (held (now (a .carry)) (a .used) x) (a .position + f .last .1 .0 - 1) (held (k .last .1 .0) (a .used + len) false) × Grown (now (a .carry)) (a .used) (take (a .used + len) (k .last .1 .0)) (a .used + len) (k .last .1 .0)) (sym (c .before .before .before .before .before .before .before .before .before .if1 .left))
-    (gathered-line (now (a .chunk)) (a .position) (now (a .carry)) (a .used) (now (f .result)) (f .last .1 .0) (k .last .1 .0) (c .before .before .before .before .before .before .before .before .before .before .before .before .pre .0) (c .before .before .before .before .before .before .before .before .before .before .before .before .pre .1) (c .before .before .before .before .before .before .before .before .before .before .before .before .pre .2) (cut-off (f .ensures)) (c .before .before .before .before .before .if2 .left) (k .ensures) (c .if3 .taken))
-
-ends-in-cr-requires : tie.Need-ends-in-cr-requires
-ends-in-cr-requires c κs = search needs
-
-add-t26 : tie.Need-add-t26
-add-t26 c = search needs
-
-sub-t27 : tie.Need-sub-t27
-sub-t27 c = omega (arith, some-CR (now (c .before .before .before .before .before .before .before .before .first-line .result)) (sym (c .before .ends-in-cr .ensures) ∙ c .if4 .taken))
+add-t27 : tie.Need-add-t27
+add-t27 c = search needs
 
 same-length-4 : tie.Need-same-length-4
 same-length-4 c = search needs
 
 returns-4 : tie.Need-returns-4
 returns-4 c =
-    let a = c .before .before .before .before .before .before .before .before .before .before .before .before .before .before .args in
-    let f = c .before .before .before .before .before .before .before .before .first-line in
-    let k = c .before .before .before .before .before .copy in
+    let a = c .before .before .before .before .before .before .before .before .before .before .before .before .before .args in
+    let f = c .before .before .before .before .before .before .first-line in
+    let k = c .before .before .before .copy in
     let len = length (now (f .result)) in
-    subst (λ (x : Bool). Passed (now (a .chunk)) (a .position) (held (now (a .carry)) (a .used) x) (a .position + f .last .1 .0) (held (k .last .1 .0) (a .used + len - 1) true) × Grown (now (a .carry)) (a .used) (take (a .used + len - 1) (k .last .1 .0)) (a .used + len - 1) (k .last .1 .0)) (sym (c .before .before .before .before .before .before .before .before .before .before .before .if1 .left))
-    (gathered-CR (now (a .chunk)) (a .position) (now (a .carry)) (a .used) (now (f .result)) (f .last .1 .0) (k .last .1 .0) (c .before .before .before .before .before .before .before .before .before .before .before .before .before .before .pre .0) (c .before .before .before .before .before .before .before .before .before .before .before .before .before .before .pre .1) (c .before .before .before .before .before .before .before .before .before .before .before .before .before .before .pre .2) (cut-off (f .ensures)) (c .before .before .before .before .before .before .before .if2 .left) (k .ensures) (omega (arith, c .before .before .if3 .left)) (sym (c .before .ends-in-cr .ensures) ∙ c .if4 .taken))
+    subst (λ (x : Bool). Passed (now (a .chunk)) (a .position) (held (now (a .carry)) (a .used) x) (a .position + f .last .1 .0 - 1) (held (k .last .1 .0) (a .used + len) false) × Grown (now (a .carry)) (a .used) (take (a .used + len) (k .last .1 .0)) (a .used + len) (k .last .1 .0)) (sym (c .before .before .before .before .before .before .before .before .before .before .if1 .left))
+    (gathered-line (now (a .chunk)) (a .position) (now (a .carry)) (a .used) (now (f .result)) (f .last .1 .0) (k .last .1 .0) (c .before .before .before .before .before .before .before .before .before .before .before .before .before .pre .0) (c .before .before .before .before .before .before .before .before .before .before .before .before .before .pre .1) (c .before .before .before .before .before .before .before .before .before .before .before .before .before .pre .2) (cut-off (f .ensures)) (c .before .before .before .before .before .if3 .left) (k .ensures) (c .if4 .taken))
 
-add-t14 : tie.Need-add-t14
-add-t14 c = search needs
+ends-in-cr-requires : tie.Need-ends-in-cr-requires
+ends-in-cr-requires c κs = search needs
+
+add-t29 : tie.Need-add-t29
+add-t29 c = search needs
+
+sub-t30 : tie.Need-sub-t30
+sub-t30 c = omega (arith, some-CR (now (c .before .before .before .before .before .before .before .before .first-line .result)) (sym (c .before .ends-in-cr .ensures) ∙ c .if5 .taken))
 
 same-length-5 : tie.Need-same-length-5
 same-length-5 c = search needs
 
 returns-5 : tie.Need-returns-5
 returns-5 c =
-    let a = c .before .before .before .before .before .before .before .before .before .before .before .before .before .before .args in
+    let a = c .before .before .before .before .before .before .before .before .before .before .before .before .before .before .before .args in
     let f = c .before .before .before .before .before .before .before .before .first-line in
     let k = c .before .before .before .before .before .copy in
     let len = length (now (f .result)) in
-    subst (λ (x : Bool). Passed (now (a .chunk)) (a .position) (held (now (a .carry)) (a .used) x) (a .position + f .last .1 .0) (held (k .last .1 .0) (a .used + len) false) × Grown (now (a .carry)) (a .used) (take (a .used + len) (k .last .1 .0)) (a .used + len) (k .last .1 .0)) (sym (c .before .before .before .before .before .before .before .before .before .before .before .if1 .left))
-    (gathered-plain (now (a .chunk)) (a .position) (now (a .carry)) (a .used) (now (f .result)) (f .last .1 .0) (k .last .1 .0) (c .before .before .before .before .before .before .before .before .before .before .before .before .before .before .pre .0) (c .before .before .before .before .before .before .before .before .before .before .before .before .before .before .pre .1) (c .before .before .before .before .before .before .before .before .before .before .before .before .before .before .pre .2) (cut-off (f .ensures)) (c .before .before .before .before .before .before .before .if2 .left) (k .ensures) (omega (arith, c .before .before .if3 .left)) (sym (c .before .ends-in-cr .ensures) ∙ c .if4 .left))
+    subst (λ (x : Bool). Passed (now (a .chunk)) (a .position) (held (now (a .carry)) (a .used) x) (a .position + f .last .1 .0) (held (k .last .1 .0) (a .used + len - 1) true) × Grown (now (a .carry)) (a .used) (take (a .used + len - 1) (k .last .1 .0)) (a .used + len - 1) (k .last .1 .0)) (sym (c .before .before .before .before .before .before .before .before .before .before .before .before .if1 .left))
+    (gathered-CR (now (a .chunk)) (a .position) (now (a .carry)) (a .used) (now (f .result)) (f .last .1 .0) (k .last .1 .0) (c .before .before .before .before .before .before .before .before .before .before .before .before .before .before .before .pre .0) (c .before .before .before .before .before .before .before .before .before .before .before .before .before .before .before .pre .1) (c .before .before .before .before .before .before .before .before .before .before .before .before .before .before .before .pre .2) (cut-off (f .ensures)) (c .before .before .before .before .before .before .before .if3 .left) (k .ensures) (omega (arith, c .before .before .if4 .left)) (sym (c .before .ends-in-cr .ensures) ∙ c .if5 .taken))
+
+add-t13 : tie.Need-add-t13
+add-t13 c = search needs
+
+same-length-6 : tie.Need-same-length-6
+same-length-6 c = search needs
+
+returns-6 : tie.Need-returns-6
+returns-6 c =
+    let a = c .before .before .before .before .before .before .before .before .before .before .before .before .before .before .before .args in
+    let f = c .before .before .before .before .before .before .before .before .first-line in
+    let k = c .before .before .before .before .before .copy in
+    let len = length (now (f .result)) in
+    subst (λ (x : Bool). Passed (now (a .chunk)) (a .position) (held (now (a .carry)) (a .used) x) (a .position + f .last .1 .0) (held (k .last .1 .0) (a .used + len) false) × Grown (now (a .carry)) (a .used) (take (a .used + len) (k .last .1 .0)) (a .used + len) (k .last .1 .0)) (sym (c .before .before .before .before .before .before .before .before .before .before .before .before .if1 .left))
+    (gathered-plain (now (a .chunk)) (a .position) (now (a .carry)) (a .used) (now (f .result)) (f .last .1 .0) (k .last .1 .0) (c .before .before .before .before .before .before .before .before .before .before .before .before .before .before .before .pre .0) (c .before .before .before .before .before .before .before .before .before .before .before .before .before .before .before .pre .1) (c .before .before .before .before .before .before .before .before .before .before .before .before .before .before .before .pre .2) (cut-off (f .ensures)) (c .before .before .before .before .before .before .before .if3 .left) (k .ensures) (omega (arith, c .before .before .if4 .left)) (sym (c .before .ends-in-cr .ensures) ∙ c .if5 .left))
 
 pub gather-spec : {M : Type 1} → statement M
 gather-spec =
@@ -113,25 +125,29 @@ gather-spec =
     gather-bytes-requires
     same-length
     returns
-    sub-first-line
-    part-first-line-start
-    part-first-line-end
-    first-line-requires
     sub-if2
     gather-bytes-requires-2
     same-length-2
     returns-2
-    copy-requires
-    add-behind
-    sub-t23
-    add-t24
+    sub-first-line
+    part-first-line-start
+    part-first-line-end
+    first-line-requires
+    sub-if3
+    gather-bytes-requires-3
     same-length-3
     returns-3
-    ends-in-cr-requires
-    add-t26
-    sub-t27
+    copy-requires
+    add-behind
+    sub-t26
+    add-t27
     same-length-4
     returns-4
-    add-t14
+    ends-in-cr-requires
+    add-t29
+    sub-t30
     same-length-5
-    returns-5)
+    returns-5
+    add-t13
+    same-length-6
+    returns-6)
