@@ -14,11 +14,10 @@ use borrow.Author.Tests.{ltb-true, ltb-false, le-leb}
 use Rattle.record.specs.Common.{if_then_else_, pasted}
 use Rattle.record.specs.Refusals.{Refusal, number-of, pool-full, carry-too-small}
 use Rattle.record.specs.Line.{Said, says, wrong, judge}
-use Rattle.record.specs.Faults.{Fault, no-colon, no-digit, short, long, odd, sum-differs, length-differs, type-unknown, size-differs}
 use Rattle.record.specs.Meaning.{Meaning, data-at, end-of-file, extended-segment, start-segment, extended-linear, start-linear, meaning}
 use Rattle.record.specs.Written.{Sayable}
 use Rattle.record.proofs.Tests.{split, if-true, if-false, or-false}
-use Rattle.record.proofs.Standing.{Stands, stands}
+use Rattle.record.proofs.Standing.{Stands, stands, fault-few}
 use Rattle.record.proofs.Writing.{said-is-sayable}
 use Rattle.reader.specs.Told.{Told, gives, refuses, done}
 use Rattle.reader.specs.Answer.{room, given, kept, answered, poured}
@@ -35,18 +34,6 @@ use Rattle.chunks.proofs.FirstTests.{small-carry, much-used, big-enough
 use Rattle.chunks.proofs.Rows.{Fine, fine}
 
 -- ---- answers to a line
-
--- a line's refusal is not 18
-fault-number : {line : List ℕ} {r : Refusal} → Fault line r → number-of r ≢ 18
-fault-number (no-colon h) e = omega arith
-fault-number (no-digit before after c s h) e = omega arith
-fault-number (short ds s d h) e = omega arith
-fault-number (long ds s d h) e = omega arith
-fault-number (odd ds s d l m h) e = omega arith
-fault-number (sum-differs ds body stated s p l m h) e = omega arith
-fault-number (length-differs len high low kind check payload s h) e = omega arith
-fault-number (type-unknown high low kind check payload s h) e = omega arith
-fault-number (size-differs high low kind check payload s h z) e = omega arith
 
 told-number : Told → ℕ
 told-number (gives kind numbers) = 0
@@ -71,7 +58,7 @@ never-18 line n at e = go (judge line) refl (ap told-number e)
 
     go : (said : Said) → judge line ≡ said → told-number (answered said n at) ≢ 18
     go (says kind address payload) q e = meant (meaning kind address payload) e
-    go (wrong r) q e = fault-number (subst (Stands line) q (stands line)) e
+    go (wrong r) q e = omega (arith, fault-few (subst (Stands line) q (stands line)))
 
 -- a line that is told PoolFull is a good data record
 record Full-line (line : List ℕ) (n at : ℕ) : Type 0 where

@@ -3,7 +3,6 @@ use reader::Answer;
 use reader::ReaderError;
 use reader::ReaderOptions;
 use record::Record;
-use record::types;
 ghost use mathlib.Core.Path.{_≡_};
 ghost use mathlib.Core.Bool.{false, _||_};
 ghost use mathlib.Core.List.{[]};
@@ -13,7 +12,7 @@ ghost use lib.ListN.{length, take, drop};
 ghost use lib.Seq.{paste};
 ghost use Rattle.record.specs.Digits.{is-digit};
 ghost use Rattle.reader.specs.Told.{told};
-ghost use Rattle.reader.specs.Text.{default-options, ends-row};
+ghost use Rattle.reader.specs.Text.{default-options};
 ghost use Rattle.chunks.specs.Begun.{seek, push as pushed, with-CR, add as added};
 ghost use Rattle.chunks.specs.Next.{begun, holding, past-line, over, number-behind, of-sought, Meets, NextChunk, Finish, NewChunks, PartOf, Shown};
 ghost use Rattle.chunks.specs.Helpers.{held, Grown, Passed, ends-in-CR, seek-at, CutAt, Settles, Plain, Within};
@@ -307,16 +306,6 @@ fn either(a: bool, b: bool) -> bool
     b
 }
 
-// Whether a record is the last that is read.
-fn ends(options: ReaderOptions, given: Record) -> bool
-    ensures { λ r. ⌜ r ≡ ends-row options (told (Answer.Read given)) ⌝ }
-{
-    if given.record_type() == types::END_OF_FILE {
-        return options.stop_after_eof;
-    }
-    false
-}
-
 // The number of a line, with so many empty lines ahead of it since the last one that was answered.
 fn number_behind(s: Chunks, empties: usize) -> usize
     ensures { λ r. ⌜ r ≡ number-behind s empties ⌝ }
@@ -365,7 +354,7 @@ fn settle(
     let options = s.options;
     match answer {
         Answer::Read(r) => {
-            let finished = either(last, ends(options, r));
+            let finished = either(last, options.ends(r));
             ChunkStep {
                 reply: ChunkReply::Read(r),
                 state: past_line(s, position, line, finished),

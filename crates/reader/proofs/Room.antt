@@ -2,37 +2,23 @@
 -- Assumes nothing.
 use Prim.Native.Nat.{ℕ, _+_, _≤_}
 use mathlib.Core.Path.{_≡_, refl, subst}
-use mathlib.Core.Logic.{_≢_}
 use mathlib.Core.Bool.{Bool, true, false, _&&_}
 use mathlib.Core.List.{List, [], _∷_}
 use native.Mathlib.Omega.{arith}
 use lib.ListN.{length}
 use borrow.Author.Tests.{le-leb, ne-eqb}
 use Rattle.record.specs.Common.{if_then_else_}
-use Rattle.record.specs.Refusals.{Refusal, number-of, pool-full}
+use Rattle.record.specs.Refusals.{number-of, pool-full}
 use Rattle.record.specs.Line.{Said, says, wrong, judge}
-use Rattle.record.specs.Faults.{Fault, no-colon, no-digit, short, long, odd, sum-differs, length-differs, type-unknown, size-differs}
 use Rattle.record.specs.Meaning.{Meaning, data-at, end-of-file, extended-segment, start-segment, extended-linear, start-linear, meaning}
 use Rattle.record.specs.Written.{Sayable}
-use Rattle.record.proofs.Standing.{Stands, stands}
+use Rattle.record.proofs.Standing.{Stands, stands, fault-few}
 use Rattle.record.proofs.Writing.{said-is-sayable}
 use Rattle.reader.specs.declared.ReaderOptions.{ReaderOptions}
 use Rattle.reader.specs.Told.{gives, refuses}
 use Rattle.reader.specs.Answer.{room, given, answered}
 use Rattle.reader.specs.Row.{is-end, stops}
 use Rattle.reader.specs.Text.{is-full, ends-row}
-
--- a line's refusal is not PoolFull's
-fault-number : {line : List ℕ} {r : Refusal} → Fault line r → number-of r ≢ 10
-fault-number (no-colon h) e = omega arith
-fault-number (no-digit before after c s h) e = omega arith
-fault-number (short ds s d h) e = omega arith
-fault-number (long ds s d h) e = omega arith
-fault-number (odd ds s d l m h) e = omega arith
-fault-number (sum-differs ds body stated s p l m h) e = omega arith
-fault-number (length-differs len high low kind check payload s h) e = omega arith
-fault-number (type-unknown high low kind check payload s h) e = omega arith
-fault-number (size-differs high low kind check payload s h z) e = omega arith
 
 given-room : (m : Meaning) (n at : ℕ) → Sayable m → at + 255 ≤ n → is-full (given m n at) ≡ false
 unfolding is-full given
@@ -49,7 +35,7 @@ never-full line n at r = go (judge line) refl
   where
     go : (said : Said) → judge line ≡ said → is-full (answered said n at) ≡ false
     go (says kind address payload) e = given-room (meaning kind address payload) n at (said-is-sayable line kind address payload e) r
-    go (wrong w) e = ne-eqb (number-of w) 10 (fault-number (subst (Stands line) e (stands line)))
+    go (wrong w) e = ne-eqb (number-of w) 10 (λ q. omega (arith, fault-few (subst (Stands line) e (stands line))))
 
 -- an answer that uses its line up ends the row exactly if what is said stops the reader
 ends-given : (options : ReaderOptions) (m : Meaning) (n at : ℕ) → is-full (given m n at) ≡ false → ends-row options (given m n at) ≡ is-end m && options .«stop_after_eof»

@@ -4,7 +4,7 @@ use Prim.Native.Nat.{ℕ, suc, _+_, _^_, _≤_, _<_}
 use Prim.Native.String.{String}
 use mathlib.Core.Path.{_≡_}
 use mathlib.Core.Logic.{_↔_}
-use mathlib.Core.Bool.{true}
+use mathlib.Core.Bool.{Bool, true}
 use mathlib.Core.Option.{some}
 use mathlib.Core.List.{List, [], _∷_, _++_, List·Memᴰ}
 use denote.Ref.{RefT}
@@ -13,6 +13,7 @@ use Rattle.record.specs.Common.{Every, text}
 use Rattle.record.specs.Refusals.{refusal, pool-full}
 use Rattle.record.specs.Line.{Said, judge}
 use Rattle.record.specs.Written.{rewritten}
+use Rattle.record.specs.declared.Record.{Record}
 use Rattle.reader.specs.declared.Answer.{Answer}
 use Rattle.reader.specs.declared.ReaderError.{ReaderError}
 use Rattle.reader.specs.declared.ReaderOptions.{ReaderOptions}
@@ -22,7 +23,7 @@ use Rattle.reader.specs.Told.{Told, gives, refuses, done, told}
 use Rattle.reader.specs.Answer.{ReadRecord, answered}
 use Rattle.reader.specs.Lines.{Joins, lines, through}
 use Rattle.reader.specs.Row.{Numbered, on, number, sayings, stopped, row}
-use Rattle.reader.specs.Text.{FirstLine, new-state, outcome, Next, Default, New, Number}
+use Rattle.reader.specs.Text.{FirstLine, new-state, outcome, Next, Default, Ends, New, Number}
 use Rattle.reader.specs.Calls.{Call, Given, Never-full, Calls, replies, one-by-one}
 
 -- ---- one line
@@ -167,6 +168,9 @@ Next-unique =
 
 abbrev pub Default-unique : Type 0
 Default-unique = (r r′ : ReaderOptions) → Default r → Default r′ → r ≡ r′
+
+abbrev pub Ends-unique : Type 0
+Ends-unique = (options : ReaderOptions) (given : Record) (r r′ : Bool) → Ends options given r → Ends options given r′ → r ≡ r′
 
 abbrev pub New-unique : Type 0
 New-unique = (options : ReaderOptions) (r r′ : State) → New options r → New options r′ → r ≡ r′

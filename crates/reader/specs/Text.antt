@@ -8,6 +8,7 @@ use denote.Ref.{RefT}
 use lib.Dec.{eqb}
 use lib.ListN.{length, drop}
 use Rattle.record.specs.Common.{if_then_else_}
+use Rattle.record.specs.declared.Record.{Record}
 use Rattle.record.specs.Record.{type-of, numbers-of}
 use Rattle.record.specs.Refusals.{number-of, pool-full}
 use Rattle.record.specs.Line.{judge}
@@ -106,10 +107,15 @@ pub record Meets (o : Outcome) (r : Step) (pool′ : List ℕ) : Type 0 where
 abbrev pub Next : State → (text pool : List ℕ) (at : ℕ) → Step → (pool′ : List ℕ) → Type 0
 Next s text pool at r pool′ = Meets (outcome s text pool at) r pool′
 
--- the contracts of `ReaderOptions::default`, and of `State::new` and `State::new_with_options`
+-- the contract of `ReaderOptions::default`
 pub record Default (r : ReaderOptions) : Type 0 where
   pub answer : r ≡ default-options
 
+-- of `ReaderOptions::ends`: is a record the last that is read?
+pub record Ends (options : ReaderOptions) (given : Record) (r : Bool) : Type 0 where
+  pub answer : r ≡ ends-row options (gives (type-of given) (numbers-of given))
+
+-- of `State::new` and `State::new_with_options`
 pub record New (options : ReaderOptions) (r : State) : Type 0 where
   pub answer : r ≡ new-state options
 

@@ -15,7 +15,7 @@ ghost use Rattle.record.specs.Line.{size, judge-bytes, says};
 ghost use Rattle.reader.specs.Told.{told};
 ghost use Rattle.reader.specs.Answer.{ReadRecord, Reads, word};
 ghost use Rattle.reader.specs.Lines.{rest};
-ghost use Rattle.reader.specs.Text.{FirstLine, Default, New, Next, Number, default-options, ends-row, at-end};
+ghost use Rattle.reader.specs.Text.{FirstLine, Default, Ends, New, Next, Number, default-options, at-end};
 ghost use Rattle.reader.specs.Held.{Opened, Asked};
 ghost use Rattle.reader.specs.Helpers.{NoFeed, FirstFeed, LineEnd, Spotted, Settled, IsTable, Lent, Decodable, Decoded, Special, Summed};
 
@@ -452,16 +452,16 @@ impl ReaderOptions {
             stop_after_eof: true,
         }
     }
-}
 
-// Whether a record is the last that is read.
-fn ends(options: ReaderOptions, given: Record) -> bool
-    ensures { λ r. ⌜ r ≡ ends-row options (told (Answer.Read given)) ⌝ }
-{
-    if given.record_type() == types::END_OF_FILE {
-        return options.stop_after_eof;
+    // Whether a record is the last that is read.
+    pub fn ends(self, given: Record) -> bool
+        ensures { λ r. ⌜ Ends self given r ⌝ }
+    {
+        if given.record_type() == types::END_OF_FILE {
+            return self.stop_after_eof;
+        }
+        false
     }
-    false
 }
 
 // The reply to a line that was answered, and the state behind it; PoolFull does not use the line up.
@@ -475,7 +475,7 @@ fn settle(s: State, answer: Answer, position: usize, line: usize) -> Step
             state: State {
                 position,
                 line,
-                finished: ends(options, r),
+                finished: options.ends(r),
                 options,
             },
         },

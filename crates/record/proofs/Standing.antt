@@ -11,7 +11,7 @@ use lib.Dec.{ltb, eqb}
 use lib.ListN.{length, length-append}
 use borrow.Author.Tests.{lt-ltb, le-ltb, eq-eqb, ne-eqb, eqb-true, eqb-false, ltb-true, ltb-false}
 use Rattle.checksum.specs.Checksum.{negated-sum}
-use Rattle.record.specs.Refusals.{Refusal, missing-start-code, checksum-mismatch}
+use Rattle.record.specs.Refusals.{Refusal, number-of, missing-start-code, checksum-mismatch}
 use Rattle.record.specs.Digits.{all-digits, bytes}
 use Rattle.record.specs.Line.{Said, says, wrong, fits, judge-fields, judge-bytes, judge-digits, judge}
 use Rattle.record.specs.Format.{Spells, Size, layout, Format}
@@ -145,3 +145,15 @@ refused (type-unknown high low kind check payload s h) =
 refused (size-differs high low kind check payload s h z) =
     judged (length payload) high low kind payload check s
     ∙ fields-misfit (length payload) (high * 256 + low) kind payload refl h (misfit kind (length payload) h z)
+
+-- a line is refused with a number up to 9
+pub fault-few : {line : List ℕ} {r : Refusal} → Fault line r → number-of r ≤ 9
+fault-few (no-colon h) = omega arith
+fault-few (no-digit before after c s h) = omega arith
+fault-few (short ds s d h) = omega arith
+fault-few (long ds s d h) = omega arith
+fault-few (odd ds s d l m h) = omega arith
+fault-few (sum-differs ds body stated s p l m h) = omega arith
+fault-few (length-differs len high low kind check payload s h) = omega arith
+fault-few (type-unknown high low kind check payload s h) = omega arith
+fault-few (size-differs high low kind check payload s h z) = omega arith

@@ -46,7 +46,7 @@ returns-2 : tie.Need-returns-2
 returns-2 c =
     let a = c .before .before .before .before .before .before .before .args in
     settle-read (a .s) (a .answer) (a .position) (a .line) (a .last) (a .lies) _ _ _ (c .before .before .before .before .answer .given .1) (c .past-line .ensures)
-    (c .before .either .ensures ∙ ap (λ (x : Bool). a .last || x) (c .before .before .ends .ensures))
+    (c .before .either .ensures ∙ ap (λ (x : Bool). a .last || x) (c .before .before .ends .ensures .answer))
 
 returns-3 : tie.Need-returns-3
 returns-3 c =

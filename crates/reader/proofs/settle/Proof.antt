@@ -26,7 +26,7 @@ returns c =
 returns-2 : tie.Need-returns-2
 returns-2 c =
     let a = c .before .before .before .before .before .args in
-    settle-read (a .s) (a .answer) (a .position) (a .line) _ (c .ends .result) (c .before .before .answer .given .1) (c .ends .ensures)
+    settle-read (a .s) (a .answer) (a .position) (a .line) _ (c .ends .result) (c .before .before .answer .given .1) (c .ends .ensures .answer)
 
 returns-3 : tie.Need-returns-3
 returns-3 c =
