@@ -29,7 +29,7 @@ use Rattle.chunks.specs.declared.Chunks.{Chunks}
 use Rattle.chunks.specs.declared.Place.the-variants.{Nowhere}
 use Rattle.chunks.specs.Begun.{Begun, is-empty, with-CR, Sought, ended, unended, look}
 use Rattle.chunks.specs.Next.{Word, tells, used-up, word, is-record, begun, past-line, over, number-behind, place, in-carry, Outcome, unchanged, answered-line, of-sought, too-small, next-outcome, finish-outcome, Meets}
-use Rattle.chunks.specs.Claims.{Same-but-carry, Carry-blind, Too-small, Carry-first, Eighteen-changes-nothing, Full-keeps, Gives-then, Full-then-room, Only-done, Finish-ends, Done-stays, Moves}
+use Rattle.chunks.specs.Claims.{Same-heard, Same-but-carry, Same-but-pool, Carry-blind, Pool-blind, Too-small, Carry-first, Eighteen-changes-nothing, Full-keeps, Gives-then, Full-then-room, Only-done, Finish-ends, Done-stays, Moves}
 use Rattle.chunks.proofs.FirstTests.{small-carry, much-used, big-enough, next-18, next-over, next-on, nothing-left, finish-18, finish-over, finish-on}
 use Rattle.chunks.proofs.Rows.{Fine, fine}
 
@@ -422,27 +422,30 @@ moves s chunk carry pool at t w nf nd n18 =
 
 -- ---- the carry's unused bytes
 
-same-of : {o₁ o₂ : Outcome} → o₁ ≡ o₂ → Same-but-carry o₁ o₂
-same-of e =
+heard-of : {o₁ o₂ : Outcome} → o₁ ≡ o₂ → Same-heard o₁ o₂
+heard-of e =
     record {
       same-word = ap (λ (o : Outcome). o .word) e;
       same-state = ap (λ (o : Outcome). o .state) e;
       same-place = ap (λ (o : Outcome). o .lies) e;
       same-line = ap (λ (o : Outcome). o .shows) e;
-      same-pool = ap (λ (o : Outcome). o .pool) e;
     }
 
-both : {o₁ o₂ p₁ p₂ : Outcome} → o₁ ≡ p₁ → o₂ ≡ p₂ → Same-but-carry p₁ p₂ → Same-but-carry o₁ o₂
-both {o₁} {o₂} e f m = rw (e, f) m
+same-of : {o₁ o₂ : Outcome} → o₁ ≡ o₂ → Same-but-carry o₁ o₂
+same-of e = record { heard = heard-of e; same-pool = ap (λ (o : Outcome). o .pool) e }
+
+-- a relation of two outcomes, by what they are
+by : (R : Outcome → Outcome → Type 0) {o₁ o₂ p₁ p₂ : Outcome} → o₁ ≡ p₁ → o₂ ≡ p₂ → R p₁ p₂ → R o₁ o₂
+by R e f m = rw (e, f) m
+
+same-unchanged : (w : Word) (s : Chunks) (carry₁ carry₂ pool : List ℕ) → Same-but-carry (unchanged w s carry₁ pool) (unchanged w s carry₂ pool)
+unfolding unchanged
+same-unchanged w s carry₁ carry₂ pool = record { heard = record { same-word = refl; same-state = refl; same-place = refl; same-line = refl }; same-pool = refl }
 
 module _ (s : Chunks) (chunk carry₁ carry₂ pool : List ℕ) (at : ℕ) (big₁ : 522 ≤ length carry₁) (big₂ : 522 ≤ length carry₂) (same : take (s .used) carry₁ ≡ take (s .used) carry₂) where
   abbrev Blind : Type 0
   Blind =
       Same-but-carry (next-outcome s chunk carry₁ pool at) (next-outcome s chunk carry₂ pool at) × Same-but-carry (finish-outcome s carry₁ pool at) (finish-outcome s carry₂ pool at)
-
-  same-unchanged : (w : Word) → Same-but-carry (unchanged w s carry₁ pool) (unchanged w s carry₂ pool)
-  unfolding unchanged
-  same-unchanged w = record { same-word = refl; same-state = refl; same-place = refl; same-line = refl; same-pool = refl }
 
   begun-is : begun s carry₁ ≡ begun s carry₂
   begun-is = same-begun s carry₂ carry₁ same
@@ -452,14 +455,14 @@ module _ (s : Chunks) (chunk carry₁ carry₂ pool : List ℕ) (at : ℕ) (big�
     where
       many : 522 < s .used → Blind
       many h = (
-        both (next-18 s chunk carry₁ pool at (much-used s carry₁ h)) (next-18 s chunk carry₂ pool at (much-used s carry₂ h)) (same-unchanged (tells (refuses carry-too-small))),
-        both (finish-18 s carry₁ pool at (much-used s carry₁ h)) (finish-18 s carry₂ pool at (much-used s carry₂ h)) (same-unchanged (tells (refuses carry-too-small))),
+        by Same-but-carry (next-18 s chunk carry₁ pool at (much-used s carry₁ h)) (next-18 s chunk carry₂ pool at (much-used s carry₂ h)) (same-unchanged (tells (refuses carry-too-small)) s carry₁ carry₂ pool),
+        by Same-but-carry (finish-18 s carry₁ pool at (much-used s carry₁ h)) (finish-18 s carry₂ pool at (much-used s carry₂ h)) (same-unchanged (tells (refuses carry-too-small)) s carry₁ carry₂ pool),
       )
 
       by-done : s .used ≤ 522 → (d : Bool) → s .finished ≡ d → Blind
       by-done h true d = (
-        both (next-over s chunk carry₁ pool at (big-enough s carry₁ big₁ h) d) (next-over s chunk carry₂ pool at (big-enough s carry₂ big₂ h) d) (same-unchanged (tells done)),
-        both (finish-over s carry₁ pool at (big-enough s carry₁ big₁ h) d) (finish-over s carry₂ pool at (big-enough s carry₂ big₂ h) d) (same-unchanged (tells done)),
+        by Same-but-carry (next-over s chunk carry₁ pool at (big-enough s carry₁ big₁ h) d) (next-over s chunk carry₂ pool at (big-enough s carry₂ big₂ h) d) (same-unchanged (tells done) s carry₁ carry₂ pool),
+        by Same-but-carry (finish-over s carry₁ pool at (big-enough s carry₁ big₁ h) d) (finish-over s carry₂ pool at (big-enough s carry₂ big₂ h) d) (same-unchanged (tells done) s carry₁ carry₂ pool),
       )
       by-done h false d =
           let line-is : with-CR (begun s carry₁) ≡ with-CR (begun s carry₂) = ap with-CR begun-is in (
@@ -478,3 +481,48 @@ module _ (s : Chunks) (chunk carry₁ carry₂ pool : List ℕ) (at : ℕ) (big�
 
 pub carry-blind : Carry-blind
 carry-blind s chunk carry₁ carry₂ pool at big₁ big₂ same = blind s chunk carry₁ carry₂ pool at big₁ big₂ same
+
+-- ---- the pool's bytes
+
+line-blind : (s : Chunks) (used chunk pool₁ pool₂ : List ℕ) (at : ℕ) (start : Option (List ℕ)) (n : ℕ) (l : List ℕ) (position : ℕ) (last : Bool) → length pool₁ ≡ length pool₂
+    → Same-but-pool (answered-line s used chunk pool₁ at start n l position last) (answered-line s used chunk pool₂ at start n l position last)
+line-blind s used chunk pool₁ pool₂ at start n l position last e = go (is-full (answered (judge l) (length pool₁) at)) refl
+  where
+    t-is : answered (judge l) (length pool₁) at ≡ answered (judge l) (length pool₂) at
+    t-is = ap (λ (k : ℕ). answered (judge l) k at) e
+
+    go : (f : Bool) → is-full (answered (judge l) (length pool₁) at) ≡ f
+        → Same-but-pool (answered-line s used chunk pool₁ at start n l position last) (answered-line s used chunk pool₂ at start n l position last)
+    go true f =
+        by Same-but-pool (line-full s used chunk pool₁ at start n l position last f) (line-full s used chunk pool₂ at start n l position last (ap is-full (sym t-is) ∙ f))
+        (record { heard = record { same-word = ap tells t-is; same-state = refl; same-place = refl; same-line = refl }; same-carry = refl })
+    go false f =
+        by Same-but-pool (line-used s used chunk pool₁ at start n l position last f) (line-used s used chunk pool₂ at start n l position last (ap is-full (sym t-is) ∙ f))
+        (record {
+          heard = record {
+            same-word = ap tells t-is;
+            same-state = ap (λ (t : Told). past-line s position (number-behind s n) (last || ends-row (s .options) t)) t-is;
+            same-place = ap (λ (t : Told). if is-record t then place chunk start l else Nowhere) t-is;
+            same-line = ap (λ (t : Told). if is-record t then l else []) t-is;
+          };
+          same-carry = refl;
+        })
+
+pub pool-blind : Pool-blind
+unfolding unchanged of-sought
+pool-blind s chunk carry pool₁ pool₂ at e = (
+  next-ways s chunk carry pool₁ at (λ o. Same-but-pool o (next-outcome s chunk carry pool₂ at))
+      (λ x. by Same-but-pool refl (next-18 s chunk carry pool₂ at x) alike) (λ x d. by Same-but-pool refl (next-over s chunk carry pool₂ at x d) alike)
+      (λ x d f q. by Same-but-pool refl (next-on s chunk carry pool₂ at x d ∙ ap (of-sought s (take (s .used) carry) chunk pool₂ at) q) (found f)),
+  finish-ways s carry pool₁ at (λ o. Same-but-pool o (finish-outcome s carry pool₂ at))
+      (λ x. by Same-but-pool refl (finish-18 s carry pool₂ at x) alike) (λ x d. by Same-but-pool refl (finish-over s carry pool₂ at x d) alike)
+      (λ x d z. by Same-but-pool refl (finish-on s carry pool₂ at x d true z) alike)
+      (λ x d z. by Same-but-pool refl (finish-on s carry pool₂ at x d false z) (line-blind s (take (s .used) carry) [] pool₁ pool₂ at none (s .empties) (with-CR (begun s carry)) 0 true e)),
+)
+  where
+    alike : {w : Word} {s : Chunks} {carried : List ℕ} → Same-but-pool (record { word = w; state = s; lies = Nowhere; shows = []; carried = carried; pool = pool₁ }) (record { word = w; state = s; lies = Nowhere; shows = []; carried = carried; pool = pool₂ })
+    alike = record { heard = record { same-word = refl; same-state = refl; same-place = refl; same-line = refl }; same-carry = refl }
+
+    found : (f : Sought) → Same-but-pool (of-sought s (take (s .used) carry) chunk pool₁ at f) (of-sought s (take (s .used) carry) chunk pool₂ at f)
+    found (ended start n l rest) = line-blind s (take (s .used) carry) chunk pool₁ pool₂ at start n l (length chunk - length rest) false e
+    found (unended n b) = alike

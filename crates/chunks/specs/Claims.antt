@@ -80,19 +80,33 @@ Nothing-else =
     → Fed (new-chunks options) carry₁ chunks₁ calls₁ seen₁ → Fed (new-chunks options) carry₂ chunks₂ calls₂ seen₂
     → without-pools seen₁ ≡ without-pools seen₂
 
--- two outcomes that differ at most in what the carry begins with
-pub record Same-but-carry (o₁ o₂ : Outcome) : Type 0 where
+-- two outcomes that are heard alike
+pub record Same-heard (o₁ o₂ : Outcome) : Type 0 where
   pub same-word : o₁ .word ≡ o₂ .word
   pub same-state : o₁ .state ≡ o₂ .state
   pub same-place : o₁ .lies ≡ o₂ .lies
   pub same-line : o₁ .shows ≡ o₂ .shows
+
+-- and differ at most in what the carry begins with, or at most in the pool
+pub record Same-but-carry (o₁ o₂ : Outcome) : Type 0 where
+  pub heard : Same-heard o₁ o₂
   pub same-pool : o₁ .pool ≡ o₂ .pool
 
--- in any state, the bytes of the carry that are not used
+pub record Same-but-pool (o₁ o₂ : Outcome) : Type 0 where
+  pub heard : Same-heard o₁ o₂
+  pub same-carry : o₁ .carried ≡ o₂ .carried
+
+-- in any state: the bytes of the carry that are not used
 abbrev pub Carry-blind : Type 0
 Carry-blind =
     (s : Chunks) (chunk carry₁ carry₂ pool : List ℕ) (at : ℕ) → 522 ≤ length carry₁ → 522 ≤ length carry₂ → take (s .used) carry₁ ≡ take (s .used) carry₂
     → Same-but-carry (next-outcome s chunk carry₁ pool at) (next-outcome s chunk carry₂ pool at) × Same-but-carry (finish-outcome s carry₁ pool at) (finish-outcome s carry₂ pool at)
+
+-- and the bytes of the pool
+abbrev pub Pool-blind : Type 0
+Pool-blind =
+    (s : Chunks) (chunk carry pool₁ pool₂ : List ℕ) (at : ℕ) → length pool₁ ≡ length pool₂
+    → Same-but-pool (next-outcome s chunk carry pool₁ at) (next-outcome s chunk carry pool₂ at) × Same-but-pool (finish-outcome s carry pool₁ at) (finish-outcome s carry pool₂ at)
 
 -- ---- calls from any state
 
