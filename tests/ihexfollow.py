@@ -11,35 +11,16 @@ import select
 import signal
 import struct
 import subprocess
-import sys
 import termios
 import time
 
 import model
+from programs import ROOT, command, end, told
 
-ROOT = os.path.dirname(os.path.dirname(os.path.abspath(__file__)))
 SECONDS = 30
 MOMENT = 0.02
 
-passed = failed = 0
-
-
-def command():
-    run = os.path.join(ROOT, 'tools', 'run')
-    words = subprocess.run([run, '--command', 'ihexfollow'], stdout=subprocess.PIPE, check=True, cwd=ROOT).stdout
-    return words.decode().splitlines()
-
-
-COMMAND = command()
-
-
-def told(name, ok, why=''):
-    global passed, failed
-    if ok:
-        passed += 1
-    else:
-        failed += 1
-        print('FAILED %s%s' % (name, ': ' + why if why else ''))
+COMMAND = command('ihexfollow')
 
 
 class Run:
@@ -314,5 +295,4 @@ ends('a closed standard output', lambda run: run.returncode == 0, input=EXAMPLE,
 if os.path.exists('/dev/full'):
     ends('a full device', lambda run: run.returncode == 0, input=EXAMPLE, stdout=open('/dev/full', 'wb'))
 
-print('%d passed, %d failed' % (passed, failed))
-sys.exit(1 if failed else 0)
+end()

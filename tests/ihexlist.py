@@ -6,33 +6,14 @@ The last line is 'N passed, M failed'; the exit status is 1 if any failed.
 """
 import os
 import subprocess
-import sys
 
 import model
+from programs import ROOT, command, end, told
 
-ROOT = os.path.dirname(os.path.dirname(os.path.abspath(__file__)))
 LIMIT = 65536
 SECONDS = 60
 
-passed = failed = 0
-
-
-def command():
-    run = os.path.join(ROOT, 'tools', 'run')
-    words = subprocess.run([run, '--command', 'ihexlist'], stdout=subprocess.PIPE, check=True, cwd=ROOT).stdout
-    return words.decode().splitlines()
-
-
-COMMAND = command()
-
-
-def told(name, ok, why=''):
-    global passed, failed
-    if ok:
-        passed += 1
-    else:
-        failed += 1
-        print('FAILED %s%s' % (name, ': ' + why if why else ''))
+COMMAND = command('ihexlist')
 
 
 def listed(name, text, expected):
@@ -209,5 +190,4 @@ while True:
 os.close(reads)
 told('a slow reader', got == listing(b'x\n' * (LIMIT // 2)) and child.wait(timeout=SECONDS) == 0)
 
-print('%d passed, %d failed' % (passed, failed))
-sys.exit(1 if failed else 0)
+end()

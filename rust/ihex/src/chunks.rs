@@ -88,59 +88,34 @@ impl ChunkReader {
         &self.shown
     }
 
-    /// The next answer of a chunk.
-    fn next_of(&mut self, chunk: &[u8]) -> Option<Result<Record, ReaderError>> {
+    /// The next answer of a chunk, or at the text's end where there is none.
+    fn ask(&mut self, chunk: Option<&[u8]>) -> Option<Result<Record, ReaderError>> {
         let mut told = Told::default();
-        let code = ihex_sys::next_chunk(
-            chunk,
-            &mut self.carry[..],
-            &mut self.pool[..],
-            0,
-            (
-                &mut self.position,
-                &mut self.line,
-                &mut self.empties,
-                &mut self.used,
-                &mut self.flags,
-            ),
-            (&mut told.lies, &mut told.from, &mut told.len),
-            &mut told.a,
-            &mut told.b,
-            &mut told.c,
+        let (carry, pool) = (&mut self.carry[..], &mut self.pool[..]);
+        let standing = (
+            &mut self.position,
+            &mut self.line,
+            &mut self.empties,
+            &mut self.used,
+            &mut self.flags,
         );
-        self.settle(code, &told, chunk)
+        let lies = (&mut told.lies, &mut told.from, &mut told.len);
+        let (a, b, c) = (&mut told.a, &mut told.b, &mut told.c);
+        let code = match chunk {
+            Some(chunk) => ihex_sys::next_chunk(chunk, carry, pool, 0, standing, lies, a, b, c),
+            None => ihex_sys::finish(carry, pool, 0, standing, lies, a, b, c),
+        };
+        self.settle(code, &told, chunk.unwrap_or(&[]))
     }
 
     /// The next answer of what was left.
     fn next_of_left(&mut self) -> Option<Result<Record, ReaderError>> {
         let left = mem::take(&mut self.left);
-        let answer = self.next_of(&left);
+        let answer = self.ask(Some(&left));
         if answer.is_some() {
             self.left = left;
         }
         answer
-    }
-
-    /// The answer at the text's end.
-    fn last(&mut self) -> Option<Result<Record, ReaderError>> {
-        let mut told = Told::default();
-        let code = ihex_sys::finish(
-            &mut self.carry[..],
-            &mut self.pool[..],
-            0,
-            (
-                &mut self.position,
-                &mut self.line,
-                &mut self.empties,
-                &mut self.used,
-                &mut self.flags,
-            ),
-            (&mut told.lies, &mut told.from, &mut told.len),
-            &mut told.a,
-            &mut told.b,
-            &mut told.c,
-        );
-        self.settle(code, &told, &[])
     }
 
     /// The answer of a call, with the line that it shows kept.
@@ -241,9 +216,9 @@ impl<'a> Iterator for Answers<'a> {
             }
         }
         if self.ends {
-            return self.reader.last();
+            return self.reader.ask(None);
         }
-        let answer = self.reader.next_of(self.chunk);
+        let answer = self.reader.ask(Some(self.chunk));
         if answer.is_none() {
             self.chunk = &[];
         }
