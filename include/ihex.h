@@ -1,6 +1,6 @@
 /* Intel's hexadecimal object file format: the functions of libihex.a, on numbers and bytes.
  *
- * Each function is proved to do what is said of it here, for all inputs. What it leaves to its caller:
+ * Each function of the library is proved to do what is said of it here, for all inputs. What it leaves to its caller:
  * - A slice is a pointer and a length in bytes, below 2^63; with the length 0 the pointer is not used and may be null.
  * - A pointer to a number is not null. Nothing that a function writes overlaps anything else that it is given.
  *
@@ -102,11 +102,12 @@ uint32_t ihex_next(const uint8_t *text, size_t text_len,
                    size_t *position, size_t *line, uint8_t *flags,
                    uint64_t *a, uint64_t *b, uint64_t *c);
 
-/* Reads a text that comes in chunks to the answers that ihex_next gives of the whole text. The state is position (in the chunk), line,
- * empties, used, flags, and begins with 0 but for the stops; the carry's first `used` bytes belong to it, a line that is begun. All is
- * kept from call to call, as the call left it. The carry's other bytes may change in any call but 18. A made-up state is answered too.
- * Returns the chunk's next answer, or IHEX_USED_UP: then the next call has the next chunk, and all others have this one again.
- * After IHEX_POOL_FULL the state and the used bytes are as they were; after 18, which goes before all else, so is every byte.
+/* Reads a text that comes in chunks to the answers that ihex_next gives of the whole text: the chunk's next answer, or IHEX_USED_UP,
+ * and then it wants the next chunk. Until then it is called with the same chunk. The state is position (in the chunk), line, empties,
+ * used and flags; it begins with 0 but for the stops. The carry's first `used` bytes belong to it: a line that is begun. Nobody else
+ * writes to them between calls. The other bytes of the carry may change in any call but 18, and "done" behind the end.
+ * After IHEX_POOL_FULL position, line, empties, used, the four flags and the used bytes are as they were: the same call with room gives
+ * the record. 18 goes before all else and changes no byte either. A state made up by hand is answered too.
  * lies, from, len: where the line lies that gave a record, until the next call. */
 uint32_t ihex_next_chunk(const uint8_t *chunk, size_t chunk_len,
                          uint8_t *carry, size_t carry_len,
@@ -115,8 +116,9 @@ uint32_t ihex_next_chunk(const uint8_t *chunk, size_t chunk_len,
                          uint8_t *lies, size_t *from, size_t *len,
                          uint64_t *a, uint64_t *b, uint64_t *c);
 
-/* Ends the text, after IHEX_USED_UP: the line that is begun is its last, if it has a byte. Answers and leaves all as ihex_next_chunk
- * does, never IHEX_USED_UP; then there is only IHEX_DONE. After IHEX_POOL_FULL or 18 the text is not ended: call again with room. */
+/* Ends the text: the line that is begun is its last, if it has a byte. Call it after IHEX_USED_UP: what is left of a chunk is not read.
+ * Answers and leaves all as ihex_next_chunk does, never IHEX_USED_UP; then there is only IHEX_DONE. After IHEX_POOL_FULL or 18 the text
+ * is not ended: call again with room. */
 uint32_t ihex_finish(uint8_t *carry, size_t carry_len,
                      uint8_t *pool, size_t pool_len, size_t at,
                      size_t *position, size_t *line, size_t *empties, size_t *used, uint8_t *flags,

@@ -28,7 +28,7 @@ use Rattle.reader.proofs.Stays.{never-done}
 use Rattle.chunks.specs.declared.Chunks.{Chunks}
 use Rattle.chunks.specs.declared.Place.the-variants.{Nowhere}
 use Rattle.chunks.specs.Begun.{Begun, is-empty, with-CR, Sought, ended, unended, look}
-use Rattle.chunks.specs.Next.{Word, tells, used-up, word, is-record, begun, past-line, over, number-behind, place, in-carry, Outcome, unchanged, answered-line, of-sought, too-small, next-outcome, finish-outcome, Meets}
+use Rattle.chunks.specs.Next.{Word, tells, used-up, word-of, is-record, begun, past-line, over, number-behind, place, in-carry, Outcome, unchanged, answered-line, of-sought, too-small, next-outcome, finish-outcome, Meets}
 use Rattle.chunks.specs.Claims.{Same-heard, Same-but-carry, Same-but-pool, Carry-blind, Pool-blind, Too-small, Carry-first, Eighteen-changes-nothing, Full-keeps, Gives-then, Full-then-room, Only-done, Finish-ends, Done-stays, Moves}
 use Rattle.chunks.proofs.FirstTests.{small-carry, much-used, big-enough, next-18, next-over, next-on, nothing-left, finish-18, finish-over, finish-on}
 use Rattle.chunks.proofs.Rows.{Fine, fine}
@@ -432,15 +432,15 @@ heard-of e =
     }
 
 same-of : {o₁ o₂ : Outcome} → o₁ ≡ o₂ → Same-but-carry o₁ o₂
-same-of e = record { heard = heard-of e; same-pool = ap (λ (o : Outcome). o .pool) e }
+same-of e = record { heard = heard-of e; same-used = ap (λ (o : Outcome). take (o .state .used) (o .carried)) e; same-pool = ap (λ (o : Outcome). o .pool) e }
 
 -- a relation of two outcomes, by what they are
 by : (R : Outcome → Outcome → Type 0) {o₁ o₂ p₁ p₂ : Outcome} → o₁ ≡ p₁ → o₂ ≡ p₂ → R p₁ p₂ → R o₁ o₂
 by R e f m = rw (e, f) m
 
-same-unchanged : (w : Word) (s : Chunks) (carry₁ carry₂ pool : List ℕ) → Same-but-carry (unchanged w s carry₁ pool) (unchanged w s carry₂ pool)
+same-unchanged : (w : Word) (s : Chunks) (carry₁ carry₂ pool : List ℕ) → take (s .used) carry₁ ≡ take (s .used) carry₂ → Same-but-carry (unchanged w s carry₁ pool) (unchanged w s carry₂ pool)
 unfolding unchanged
-same-unchanged w s carry₁ carry₂ pool = record { heard = record { same-word = refl; same-state = refl; same-place = refl; same-line = refl }; same-pool = refl }
+same-unchanged w s carry₁ carry₂ pool e = record { heard = record { same-word = refl; same-state = refl; same-place = refl; same-line = refl }; same-used = e; same-pool = refl }
 
 module _ (s : Chunks) (chunk carry₁ carry₂ pool : List ℕ) (at : ℕ) (big₁ : 522 ≤ length carry₁) (big₂ : 522 ≤ length carry₂) (same : take (s .used) carry₁ ≡ take (s .used) carry₂) where
   abbrev Blind : Type 0
@@ -455,14 +455,14 @@ module _ (s : Chunks) (chunk carry₁ carry₂ pool : List ℕ) (at : ℕ) (big�
     where
       many : 522 < s .used → Blind
       many h = (
-        by Same-but-carry (next-18 s chunk carry₁ pool at (much-used s carry₁ h)) (next-18 s chunk carry₂ pool at (much-used s carry₂ h)) (same-unchanged (tells (refuses carry-too-small)) s carry₁ carry₂ pool),
-        by Same-but-carry (finish-18 s carry₁ pool at (much-used s carry₁ h)) (finish-18 s carry₂ pool at (much-used s carry₂ h)) (same-unchanged (tells (refuses carry-too-small)) s carry₁ carry₂ pool),
+        by Same-but-carry (next-18 s chunk carry₁ pool at (much-used s carry₁ h)) (next-18 s chunk carry₂ pool at (much-used s carry₂ h)) (same-unchanged (tells (refuses carry-too-small)) s carry₁ carry₂ pool same),
+        by Same-but-carry (finish-18 s carry₁ pool at (much-used s carry₁ h)) (finish-18 s carry₂ pool at (much-used s carry₂ h)) (same-unchanged (tells (refuses carry-too-small)) s carry₁ carry₂ pool same),
       )
 
       by-done : s .used ≤ 522 → (d : Bool) → s .finished ≡ d → Blind
       by-done h true d = (
-        by Same-but-carry (next-over s chunk carry₁ pool at (big-enough s carry₁ big₁ h) d) (next-over s chunk carry₂ pool at (big-enough s carry₂ big₂ h) d) (same-unchanged (tells done) s carry₁ carry₂ pool),
-        by Same-but-carry (finish-over s carry₁ pool at (big-enough s carry₁ big₁ h) d) (finish-over s carry₂ pool at (big-enough s carry₂ big₂ h) d) (same-unchanged (tells done) s carry₁ carry₂ pool),
+        by Same-but-carry (next-over s chunk carry₁ pool at (big-enough s carry₁ big₁ h) d) (next-over s chunk carry₂ pool at (big-enough s carry₂ big₂ h) d) (same-unchanged (tells done) s carry₁ carry₂ pool same),
+        by Same-but-carry (finish-over s carry₁ pool at (big-enough s carry₁ big₁ h) d) (finish-over s carry₂ pool at (big-enough s carry₂ big₂ h) d) (same-unchanged (tells done) s carry₁ carry₂ pool same),
       )
       by-done h false d =
           let line-is : with-CR (begun s carry₁) ≡ with-CR (begun s carry₂) = ap with-CR begun-is in (

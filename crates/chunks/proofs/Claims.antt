@@ -26,9 +26,9 @@ use Rattle.chunks.specs.declared.ChunkReply.{ChunkReply}
 use Rattle.chunks.specs.declared.ChunkReply.the-variants.{Read, Refused, UsedUp, Done, CarryTooSmall}
 use Rattle.chunks.specs.declared.ChunkStep.{ChunkStep}
 use Rattle.chunks.specs.Begun.{nothing}
-use Rattle.chunks.specs.Next.{Word, tells, used-up, word, new-chunks}
+use Rattle.chunks.specs.Next.{Word, tells, used-up, word-of, new-chunks}
 use Rattle.chunks.specs.Rows.{joined, Nth, numbered, showing}
-use Rattle.chunks.specs.Claims.{Judged-as-kept, Any-cuts, givens-of, Same-row, Shows-the-line, without-pools, Nothing-else, New-unique, Next-unique, Finish-unique, Shown-unique}
+use Rattle.chunks.specs.Claims.{Judged-as-kept, Any-cuts, givens-of, Same-row, Shown-there, Shows-the-line, without-pools, Nothing-else, New-unique, Next-unique, Finish-unique, Shown-unique}
 use Rattle.chunks.proofs.Brief.{judge-brief}
 use Rattle.chunks.proofs.Pieces.{pieces, pieces-lines}
 use Rattle.chunks.proofs.Rows.{from-place, unseen, rows-met}
@@ -63,6 +63,11 @@ shows-the-line options carry chunks calls seen few big fed =
     subst (Every (Shown-right options (joined chunks))) (sym (any-cuts options carry chunks calls seen big fed))
     (shows-right options (joined chunks) calls 0 (numbered 1 (lines (joined chunks))) (lines-stand options (joined chunks) (omega (arith, lines-few (joined chunks) .0))))
 
+pub shown-there : Shown-there
+shown-there Nowhere chunk carry line x = x .holds
+shown-there (InChunk from len) chunk carry line x = x .holds
+shown-there (InCarry len) chunk carry line x = x .holds
+
 pub nothing-else : Nothing-else
 nothing-else options k head carry₁ carry₂ chunks₁ chunks₂ calls₁ calls₂ seen₁ seen₂ big₁ big₂ alike t₁ t₂ stop fed₁ fed₂ =
     ap without-pools (any-cuts options carry₁ chunks₁ calls₁ seen₁ big₁ fed₁ ∙ behind-stop options k (joined chunks₁) (joined chunks₂) head calls₁ t₁ t₂ stop)
@@ -83,7 +88,7 @@ unword (tells (refuses r)) = if eqb (number-of r) 18 then CarryTooSmall else as-
 unword (tells done) = Done
 unword used-up = UsedUp
 
-unword-error : (e : ReaderError) → unword (word (Refused e)) ≡ as-reply (untold (Told.refuses (Rattle.reader.specs.Told.refusal-of e)))
+unword-error : (e : ReaderError) → unword (word-of (Refused e)) ≡ as-reply (untold (Told.refuses (Rattle.reader.specs.Told.refusal-of e)))
 unfolding unword
 unword-error MissingStartCode = refl
 unword-error RecordTooShort = refl
@@ -96,7 +101,7 @@ unword-error (UnsupportedRecordType a) = refl
 unword-error InvalidLengthForType = refl
 unword-error PoolFull = refl
 
-unword-word : (r : ChunkReply) → unword (word r) ≡ r
+unword-word : (r : ChunkReply) → unword (word-of r) ≡ r
 unfolding unword as-reply
 unword-word (Read r) = ap as-reply (untold-told (answer.Read r))
 unword-word (Refused e) = unword-error e ∙ ap as-reply (untold-told (answer.Refused e))
@@ -109,7 +114,7 @@ step-is r₁ r₂ e f g =
     ap₂ (λ (x : ChunkReply) (y : Chunks). record { reply = x; state = y; lies = r₁ .lies }) e f
     ∙ ap (λ (z : Place). record { reply = r₂ .reply; state = r₂ .state; lies = z }) g
 
-reply-is : (r₁ r₂ : ChunkReply) → word r₁ ≡ word r₂ → r₁ ≡ r₂
+reply-is : (r₁ r₂ : ChunkReply) → word-of r₁ ≡ word-of r₂ → r₁ ≡ r₂
 reply-is r₁ r₂ e = sym (unword-word r₁) ∙ ap unword e ∙ unword-word r₂
 
 pub next-unique : Next-unique

@@ -17,6 +17,7 @@ use Rattle.record.proofs.Tests.{if-true, if-false}
 use Rattle.reader.specs.declared.Answer.{Answer}
 use Rattle.reader.specs.Told.{refuses, done, told}
 use Rattle.reader.specs.Answer.{Reads}
+use Rattle.reader.specs.Lines.{CR}
 use Rattle.chunks.specs.declared.Chunks.{Chunks}
 use Rattle.chunks.specs.declared.Place.{Place}
 use Rattle.chunks.specs.declared.Place.the-variants.{Nowhere, InCarry}
@@ -24,15 +25,16 @@ use Rattle.chunks.specs.declared.ChunkReply.{ChunkReply}
 use Rattle.chunks.specs.declared.ChunkReply.the-variants.{Done, CarryTooSmall}
 use Rattle.chunks.specs.declared.ChunkStep.{ChunkStep}
 use Rattle.chunks.specs.Begun.{nothing, is-empty, with-CR, Sought, seek, look}
-use Rattle.chunks.specs.Next.{tells, word, begun, over, number-behind, place, at-place, in-carry, Outcome, unchanged, answered-line, of-sought, too-small, next-outcome, finish-outcome, Meets}
+use Rattle.chunks.specs.Next.{tells, word-of, begun, over, number-behind, place, at-place, in-carry, Outcome, unchanged, answered-line, of-sought, too-small, next-outcome, finish-outcome, Meets}
 use Rattle.chunks.specs.Helpers.{held, Grown, seek-at, Settles, Plain, Within}
+use Rattle.chunks.proofs.Waiting.{push-some}
 use Rattle.chunks.proofs.Outcomes.{met, full-short}
 
-same-met : (s : Chunks) (reply : ChunkReply) (carry pool : List ℕ) (r : ChunkStep) → Plain reply s r → (chunk : List ℕ) → Meets (unchanged (word reply) s carry pool) chunk r carry pool
+same-met : (s : Chunks) (reply : ChunkReply) (carry pool : List ℕ) (r : ChunkStep) → Plain reply s r → (chunk : List ℕ) → Meets (unchanged (word-of reply) s carry pool) chunk r carry pool
 unfolding unchanged
 same-met s reply carry pool r e chunk =
     record {
-      answer = ap word (e .reply-is);
+      answer = ap word-of (e .reply-is);
       state = e .state-is;
       lies = e .lies-is;
       shows = ap (λ (p : Place). at-place p chunk carry) (e .lies-is);
@@ -116,17 +118,18 @@ within-drop chunk position r w = go (ltb (length chunk) position) refl
     go false e = ap (λ (n : ℕ). drop n chunk) (w .same (ltb-false (length chunk) position e))
 
 look-kept : (empties n : ℕ) (cr : Bool) (carry text : List ℕ) → 0 < n → 0 < length carry → look empties (held carry n cr) text ≡ seek none empties (held carry n cr) text
-unfolding look is-empty
+unfolding look is-empty with-CR
 look-kept empties zero cr carry text p q = absurd (omega arith)
 look-kept empties (suc n) cr [] text p q = absurd (omega arith)
-look-kept empties (suc n) cr (c ∷ carry) text p q = refl
+look-kept empties (suc n) true (c ∷ carry) text p q = rw (push-some (c ∷ take n carry) CR)
+look-kept empties (suc n) false (c ∷ carry) text p q = refl
 
 look-cr : (empties n : ℕ) (cr : Bool) (carry text : List ℕ) → n ≡ 0 → cr ≡ true → look empties (held carry n cr) text ≡ seek none empties (held carry n cr) text
-unfolding look is-empty
+unfolding look is-empty with-CR
 look-cr empties n cr carry text z e = rw (z, e)
 
 look-fresh : (empties n : ℕ) (cr : Bool) (carry text : List ℕ) → n ≡ 0 → cr ≡ false → look empties (held carry n cr) text ≡ seek (some text) empties nothing text
-unfolding look is-empty
+unfolding look is-empty with-CR
 look-fresh empties n cr carry text z e = rw (z, e)
 
 module _ (s : Chunks) (chunk carry pool : List ℕ) (at position : ℕ) (r : ChunkStep) (carry′ pool′ : List ℕ)
@@ -162,7 +165,7 @@ module _ (s : Chunks) (carry pool : List ℕ) (at n : ℕ) (carry′ : List ℕ)
       let k : with-CR (begun s carry) ≡ [] = sym (g .holds) ∙ ap (λ (m : ℕ). take m carry′) z in
       rw (finish-on s carry pool at (big-enough s carry big small) on true (ap is-empty k))
       (record {
-        answer = ap word (e .reply-is);
+        answer = ap word-of (e .reply-is);
         state = e .state-is ∙ b;
         lies = e .lies-is;
         shows = ap (λ (p : Place). at-place p [] carry′) (e .lies-is);

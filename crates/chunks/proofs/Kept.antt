@@ -20,7 +20,7 @@ use Rattle.reader.specs.Calls.{Call, Given, given-done, given-for, replies}
 use Rattle.chunks.specs.Begun.{brief}
 use Rattle.chunks.specs.Next.{is-record}
 use Rattle.chunks.specs.Rows.{Seen, Nth, nth, numbered, seen-for, showing}
-use Rattle.chunks.specs.Claims.{givens-of, line-at}
+use Rattle.chunks.specs.Claims.{givens-of, nth-line}
 use Rattle.chunks.proofs.Brief.{judge-brief}
 use Rattle.chunks.proofs.Outcomes.{full-no-record}
 use Rattle.chunks.proofs.Paths.{as-it-is}
@@ -110,7 +110,7 @@ module _ (options : ReaderOptions) where
 
   -- the line stands in the text by its number
   abbrev pub Stands-in : List ℕ → Nth → Type 0
-  Stands-in text (nth n l) = line-at text n ≡ l
+  Stands-in text (nth n l) = nth-line text n ≡ l
 
   stand-in : (text : List ℕ) (before ls : List (List ℕ)) → lines text ≡ before ++ ls → length before + length ls < M → Every (Stands-in text) (numbered (suc (length before)) ls)
   unfolding numbered
@@ -133,7 +133,7 @@ module _ (options : ReaderOptions) where
   lines-stand text h = stand-in text [] (lines text) refl (omega arith)
 
   abbrev pub Shown-right : List ℕ → Seen → Type 0
-  Shown-right text x = x .shown ≡ (if is-record (x .given .told) then line-at text (x .given .line) else [])
+  Shown-right text x = x .shown ≡ (if is-record (x .given .told) then nth-line text (x .given .line) else [])
 
   cut-every : (P : Nth → Type 0) (b : Bool) (ls : List Nth) → Every P ls → Every P (if b then [] else ls)
   cut-every P true ls h = tt

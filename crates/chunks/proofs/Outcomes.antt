@@ -27,7 +27,7 @@ use Rattle.chunks.specs.declared.Place.{Place}
 use Rattle.chunks.specs.declared.Place.the-variants.{Nowhere}
 use Rattle.chunks.specs.declared.ChunkReply.the-variants as reply
 use Rattle.chunks.specs.declared.ChunkStep.{ChunkStep}
-use Rattle.chunks.specs.Next.{tells, word, is-record, past-line, number-behind, place, at-place, in-carry, answered-line, Meets}
+use Rattle.chunks.specs.Next.{tells, word-of, is-record, past-line, number-behind, place, at-place, in-carry, answered-line, Meets}
 use Rattle.chunks.specs.Helpers.{Settles, Plain}
 use Rattle.chunks.proofs.Brief.{judge-over}
 
@@ -44,7 +44,7 @@ module _ (s : Chunks) (answer : Answer) (position line : ℕ) (last : Bool) (lie
       → Settles s (told answer) position line last lies r
   unfolding is-full is-record
   settle-full e r a n p =
-      rw a (record { answer = ap word (p .reply-is); state = p .state-is ∙ rw (eq-eqb (number-of (refusal-of e)) 10 n); place = p .lies-is })
+      rw a (record { answer = ap word-of (p .reply-is); state = p .state-is ∙ rw (eq-eqb (number-of (refusal-of e)) 10 n); place = p .lies-is })
 
   pub settle-refused : (e : ReaderError) (state : Chunks) (finished : Bool) (r : ChunkStep) → answer ≡ Refused e → number-of (refusal-of e) ≢ 10
       → state ≡ past-line s position line finished → finished ≡ (last || s .options .«stop_after_first_error») → Plain (reply.Refused e) state r
@@ -52,7 +52,7 @@ module _ (s : Chunks) (answer : Answer) (position line : ℕ) (last : Bool) (lie
   unfolding is-full is-record ends-row
   settle-refused e state finished r a n f g p =
       rw a (record {
-        answer = ap word (p .reply-is);
+        answer = ap word-of (p .reply-is);
         state = p .state-is ∙ f ∙ rw (ne-eqb (number-of (refusal-of e)) 10 n, g);
         place = p .lies-is;
       })

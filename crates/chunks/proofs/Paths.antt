@@ -22,7 +22,7 @@ use Rattle.chunks.specs.declared.Place.the-variants.{InChunk, InCarry}
 use Rattle.chunks.specs.declared.ChunkReply.the-variants.{UsedUp}
 use Rattle.chunks.specs.declared.ChunkStep.{ChunkStep}
 use Rattle.chunks.specs.Begun.{Begun, nothing, is-empty, brief, counted, Sought, ended, unended, seek}
-use Rattle.chunks.specs.Next.{word, is-record, number-behind, begun, place, at-place, in-carry, of-sought, Meets}
+use Rattle.chunks.specs.Next.{word-of, is-record, number-behind, begun, place, at-place, in-carry, of-sought, Meets}
 use Rattle.chunks.specs.Helpers.{held, Grown, Passed, seek-at, WholeLine, OpenLine, Settles, Plain}
 use Rattle.chunks.proofs.Brief.{judge-brief, brief-short}
 use Rattle.chunks.proofs.InPlace.{settled, at-LF}
@@ -57,7 +57,7 @@ unfolding of-sought
 used-up-met s used chunk pool at f empties n w r carry′ e h l =
     let size : length (take n carry′) ≡ n = length-take-le n carry′ h in
     rw e (record {
-      answer = ap word (l .reply-is);
+      answer = ap word-of (l .reply-is);
       state = l .state-is ∙ rw size;
       lies = l .lies-is;
       shows = ap (λ (p : Place). at-place p chunk carry′) (l .lies-is);

@@ -1,4 +1,4 @@
--- A gateway's calls, of which only the contracts are known, give the row over the pieces of its text: each call answers the first piece
+-- Calls of which only the contracts are known give the row over the pieces of its text: each call answers the first piece
 -- that is unseen and leaves the rest.
 -- Assumes nothing.
 use Prim.Native.Nat.{ℕ, _+_, _-_, _%_, _≤_}
@@ -23,7 +23,7 @@ use Rattle.reader.specs.Calls.{Call, given-done}
 use Rattle.chunks.specs.declared.Chunks.{Chunks}
 use Rattle.chunks.specs.declared.ChunkStep.{ChunkStep}
 use Rattle.chunks.specs.Begun.{Begun, nothing, is-empty, push, with-CR, add, counted, Sought, ended, unended, seek, look}
-use Rattle.chunks.specs.Next.{Word, tells, used-up, word, is-record, begun, holding, past-line, number-behind, at-place, unchanged, answered-line, of-sought, too-small, Meets, NextChunk, Finish}
+use Rattle.chunks.specs.Next.{Word, tells, used-up, word-of, is-record, begun, holding, past-line, number-behind, at-place, unchanged, answered-line, of-sought, too-small, Meets, NextChunk, Finish}
 use Rattle.chunks.specs.Rows.{joined, Seen, seen-at, Fed, no-more, told-next, next-chunk, told-last, Nth, nth, seen-for, showing}
 use Rattle.chunks.proofs.Brief.{length-push}
 use Rattle.chunks.proofs.Pieces.{M, twice, pieces, pieces-end, pieces-mod, found, pieces-look}
@@ -125,11 +125,11 @@ module _ (options : ReaderOptions) where
     Follows used-up = (unseen s carry here ≡ unseen (r .state) carry′ next) × (s .line ≡ r .state .line)
 
     pub record Goes-on : Type 0 where
-      pub row : Follows (word (r .reply))
+      pub row : Follows (word-of (r .reply))
       pub good : Good options (r .state) carry′
 
     -- the text is over: `s′` is the state then
-    over-row : s .finished ≡ true → word (r .reply) ≡ tells done → r .state ≡ s → at-place (r .lies) chunk carry′ ≡ [] → pool′ ≡ call .pool → Follows (word (r .reply))
+    over-row : s .finished ≡ true → word-of (r .reply) ≡ tells done → r .state ≡ s → at-place (r .lies) chunk carry′ ≡ [] → pool′ ≡ call .pool → Follows (word-of (r .reply))
     unfolding Follows
     over-row d w st l p =
         let e : r .state .finished ≡ true = ap (λ (x : Chunks). x .finished) st ∙ d in
@@ -154,7 +154,7 @@ module _ (options : ReaderOptions) where
       asked : Row (s .line) (unseen s carry here) (call ∷ calls) ≡ Row (s .line) (nth (number-behind s n) kept ∷ left) (call ∷ calls)
       asked = ap (λ (x : List Nth). Row (s .line) x (call ∷ calls)) have
 
-      answered-full : is-full t ≡ true → Follows (word (r .reply)) × (r .state ≡ s)
+      answered-full : is-full t ≡ true → Follows (word-of (r .reply)) × (r .state ≡ s)
       unfolding Follows answered-line t
       answered-full f =
           let o = rw (if-true (is-full t) _ _ f) at m in
@@ -170,7 +170,7 @@ module _ (options : ReaderOptions) where
           )
 
       answered-not : is-full t ≡ false
-          → Follows (word (r .reply)) × (r .state ≡ past-line s position (number-behind s n) (last || ends-row (s .options) t))
+          → Follows (word-of (r .reply)) × (r .state ≡ past-line s position (number-behind s n) (last || ends-row (s .options) t))
       unfolding Follows answered-line t
       answered-not f =
           let o = rw (if-false (is-full t) _ _ f) at m in
@@ -372,11 +372,11 @@ module _ (options : ReaderOptions) where
   rows-met (told-next {s} {carry} {chunk} {chunks} {call} {calls} r carry′ pool′ t m l e more) g =
       let n = next-goes-on s carry chunk chunks call calls r carry′ pool′ g l m in
       ap (λ (x : List Seen). seen-at t pool′ r chunk carry′ ∷ x) (rows-met more (n .good))
-      ∙ sym (follow-told s carry chunk (chunk ∷ chunks) chunks call calls r carry′ pool′ (word (r .reply)) t e (n .row))
+      ∙ sym (follow-told s carry chunk (chunk ∷ chunks) chunks call calls r carry′ pool′ (word-of (r .reply)) t e (n .row))
   rows-met (next-chunk {s} {carry} {chunk} {chunks} {call} {calls} r carry′ pool′ m l e more) g =
       let n = next-goes-on s carry chunk chunks call calls r carry′ pool′ g l m in
-      rows-met more (n .good) ∙ sym (follow-used s carry chunk (chunk ∷ chunks) chunks call calls r carry′ pool′ (word (r .reply)) e (n .row))
+      rows-met more (n .good) ∙ sym (follow-used s carry chunk (chunk ∷ chunks) chunks call calls r carry′ pool′ (word-of (r .reply)) e (n .row))
   rows-met (told-last {s} {carry} {call} {calls} r carry′ pool′ t m l e more) g =
       let n = finish-goes-on s carry call calls r carry′ pool′ g l m in
       ap (λ (x : List Seen). seen-at t pool′ r [] carry′ ∷ x) (rows-met more (n .good))
-      ∙ sym (follow-told s carry [] [] [] call calls r carry′ pool′ (word (r .reply)) t e (n .row))
+      ∙ sym (follow-told s carry [] [] [] call calls r carry′ pool′ (word-of (r .reply)) t e (n .row))

@@ -67,5 +67,5 @@ seek start n b (c ∷ text) =
 
 -- The first line of what is begun and a text behind it. It begins in the text only where nothing is begun.
 unfoldable pub look : (empties : ℕ) → Begun → List ℕ → Sought
-unfolding is-empty seek
-look n b text = seek (if is-empty (b .kept) then (if b .cr then none else some text) else none) n b text
+unfolding is-empty with-CR seek
+look n b text = seek (if is-empty (with-CR b) then some text else none) n b text

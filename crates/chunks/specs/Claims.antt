@@ -21,7 +21,7 @@ use Rattle.chunks.specs.declared.Chunks.{Chunks}
 use Rattle.chunks.specs.declared.Place.{Place}
 use Rattle.chunks.specs.declared.ChunkStep.{ChunkStep}
 use Rattle.chunks.specs.Begun.{brief}
-use Rattle.chunks.specs.Next.{tells, word, is-record, new-chunks, Outcome, unchanged, next-outcome, finish-outcome, NextChunk, Finish, NewChunks, Shown}
+use Rattle.chunks.specs.Next.{tells, word-of, is-record, new-chunks, at-place, Outcome, unchanged, next-outcome, finish-outcome, NextChunk, Finish, NewChunks, Shown}
 use Rattle.chunks.specs.Rows.{joined, Seen, Fed, numbered, showing}
 
 -- what is kept of a line is judged as the line is
@@ -49,15 +49,19 @@ Same-row =
     → Fed (new-chunks options) carry chunks calls seen → Calls (joined chunks) (new-state options) calls givens → givens-of seen ≡ givens
 
 -- the n-th line of a text
-abbrev pub line-at : List ℕ → (n : ℕ) → List ℕ
-line-at text n = getD (lines text) (n - 1) []
+abbrev pub nth-line : List ℕ → (n : ℕ) → List ℕ
+nth-line text n = getD (lines text) (n - 1) []
+
+-- what `shown` returns of a place is what a row has as shown there
+abbrev pub Shown-there : Type 0
+Shown-there = (lies : Place) (chunk carry line : RefT (List ℕ)) → Shown lies chunk carry line → line .now ≡ at-place lies (chunk .now) (carry .now)
 
 -- the line shown is the line that gave the record, byte for byte, and nothing is shown after any other answer
 abbrev pub Shows-the-line : Type 0
 Shows-the-line =
     (options : ReaderOptions) (carry : List ℕ) (chunks : List (List ℕ)) (calls : List Call) (seen : List Seen)
     → length (joined chunks) < 2 ^ 64 → 522 ≤ length carry → Fed (new-chunks options) carry chunks calls seen
-    → Every (λ (x : Seen). x .shown ≡ (if is-record (x .given .told) then line-at (joined chunks) (x .given .line) else [])) seen
+    → Every (λ (x : Seen). x .shown ≡ (if is-record (x .given .told) then nth-line (joined chunks) (x .given .line) else [])) seen
 
 -- ---- what no answer depends on
 
@@ -66,7 +70,7 @@ pub data Alike : List Call → List Call → Type 0 where
   none-left : Alike [] []
   one-more : {c₁ c₂ : Call} {cs₁ cs₂ : List Call} → length (c₁ .pool) ≡ length (c₂ .pool) → c₁ .at ≡ c₂ .at → Alike cs₁ cs₂ → Alike (c₁ ∷ cs₁) (c₂ ∷ cs₂)
 
--- what is told, the line's number and what is shown, without the pools
+-- what is told, the line's number and what is shown; what the pools hold then, payloads too, is `Any-cuts`
 abbrev pub without-pools : List Seen → List Seen
 without-pools [] = []
 without-pools (x ∷ seen) = record { given = record { told = x .given .told; pool = []; line = x .given .line }; shown = x .shown } ∷ without-pools seen
@@ -87,9 +91,10 @@ pub record Same-heard (o₁ o₂ : Outcome) : Type 0 where
   pub same-place : o₁ .lies ≡ o₂ .lies
   pub same-line : o₁ .shows ≡ o₂ .shows
 
--- and differ at most in what the carry begins with, or at most in the pool
+-- and differ at most in the carry behind its used bytes, or at most in the pool
 pub record Same-but-carry (o₁ o₂ : Outcome) : Type 0 where
   pub heard : Same-heard o₁ o₂
+  pub same-used : take (o₁ .state .used) (o₁ .carried) ≡ take (o₂ .state .used) (o₂ .carried)
   pub same-pool : o₁ .pool ≡ o₂ .pool
 
 pub record Same-but-pool (o₁ o₂ : Outcome) : Type 0 where
@@ -126,13 +131,13 @@ Carry-first =
 -- it changes nothing, the unused bytes of the carry included
 abbrev pub Eighteen-changes-nothing : Type 0
 Eighteen-changes-nothing =
-    (s : Chunks) (chunk carry pool : List ℕ) (at : ℕ) (r : ChunkStep) (carry′ pool′ : List ℕ) → length carry′ ≡ length carry → word (r .reply) ≡ tells (refuses carry-too-small)
+    (s : Chunks) (chunk carry pool : List ℕ) (at : ℕ) (r : ChunkStep) (carry′ pool′ : List ℕ) → length carry′ ≡ length carry → word-of (r .reply) ≡ tells (refuses carry-too-small)
     → NextChunk s chunk carry pool at r carry′ pool′ ⊎ Finish s carry pool at r carry′ pool′ → (r .state ≡ s) × (carry′ ≡ carry) × (pool′ ≡ pool)
 
 -- PoolFull uses up nothing and keeps the state and the used bytes of the carry
 abbrev pub Full-keeps : Type 0
 Full-keeps =
-    (s : Chunks) (chunk carry pool : List ℕ) (at : ℕ) (r : ChunkStep) (carry′ pool′ : List ℕ) → word (r .reply) ≡ tells (refuses pool-full)
+    (s : Chunks) (chunk carry pool : List ℕ) (at : ℕ) (r : ChunkStep) (carry′ pool′ : List ℕ) → word-of (r .reply) ≡ tells (refuses pool-full)
     → NextChunk s chunk carry pool at r carry′ pool′ ⊎ Finish s carry pool at r carry′ pool′
     → (r .state ≡ s) × (take (s .used) carry′ ≡ take (s .used) carry) × (pool′ ≡ pool)
 

@@ -20,7 +20,7 @@ use Rattle.chunks.specs.declared.ChunkStep.{ChunkStep}
 use Rattle.chunks.specs.declared.Cut.{Cut}
 use Rattle.chunks.specs.declared.Cut.the-variants.{Whole, Open}
 use Rattle.chunks.specs.Begun.{Begun, nothing, brief, Sought, ended, seek}
-use Rattle.chunks.specs.Next.{tells, word, is-record, past-line}
+use Rattle.chunks.specs.Next.{tells, word-of, is-record, past-line}
 
 -- the carry's first bytes, and a CR that waits
 abbrev pub held : (carry : List ℕ) (used : ℕ) (cr : Bool) → Begun
@@ -66,7 +66,7 @@ CutAt chunk position empties (Open from empties′) = OpenLine chunk position em
 
 -- an answer to a line, with the state that it leaves
 pub record Settles (s : Chunks) (t : Told) (position line : ℕ) (last : Bool) (lies : Place) (r : ChunkStep) : Type 0 where
-  pub answer : word (r .reply) ≡ tells t
+  pub answer : word-of (r .reply) ≡ tells t
   pub state : r .state ≡ (if is-full t then s else past-line s position line (last || ends-row (s .options) t))
   pub place : r .lies ≡ (if is-record t then lies else Nowhere)
 

@@ -31,12 +31,12 @@ pub data Word : Type 0 where
   tells : Told → Word
   used-up : Word
 
-abbrev pub word : ChunkReply → Word
-word (Read r) = tells (gives (type-of r) (numbers-of r))
-word (Refused e) = tells (refuses (refusal-of e))
-word UsedUp = used-up
-word Done = tells done
-word CarryTooSmall = tells (refuses carry-too-small)
+abbrev pub word-of : ChunkReply → Word
+word-of (Read r) = tells (gives (type-of r) (numbers-of r))
+word-of (Refused e) = tells (refuses (refusal-of e))
+word-of UsedUp = used-up
+word-of Done = tells done
+word-of CarryTooSmall = tells (refuses carry-too-small)
 
 unfoldable pub is-record : Told → Bool
 is-record (gives kind numbers) = true
@@ -152,7 +152,7 @@ finish-outcome s carry pool at =
 -- ---- contracts
 
 pub record Meets (o : Outcome) (chunk : List ℕ) (r : ChunkStep) (carry′ pool′ : List ℕ) : Type 0 where
-  pub answer : word (r .reply) ≡ o .word
+  pub answer : word-of (r .reply) ≡ o .word
   pub state : r .state ≡ o .state
   pub lies : r .lies ≡ o .lies
   pub shows : at-place (r .lies) chunk carry′ ≡ o .shows

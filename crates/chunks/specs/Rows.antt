@@ -1,4 +1,4 @@
--- A gateway's calls of the chunk reader, and what they are given: the row over the lines of the joined chunks.
+-- A caller's calls of the chunk reader, chunk after chunk, and what they are given: the row over the lines of the joined chunks.
 -- Assumes nothing.
 use Prim.Native.Nat.{ℕ, suc, _%_, _^_}
 use mathlib.Core.Path.{_≡_}
@@ -14,7 +14,7 @@ use Rattle.reader.specs.Text.{is-full, ends-row}
 use Rattle.reader.specs.Calls.{Call, Given, given-done, given-for}
 use Rattle.chunks.specs.declared.Chunks.{Chunks}
 use Rattle.chunks.specs.declared.ChunkStep.{ChunkStep}
-use Rattle.chunks.specs.Next.{tells, used-up, word, is-record, at-place, NextChunk, Finish}
+use Rattle.chunks.specs.Next.{tells, used-up, word-of, is-record, at-place, NextChunk, Finish}
 
 unfoldable pub joined : List (List ℕ) → List ℕ
 joined [] = []
@@ -33,13 +33,13 @@ seen-at t pool r chunk carry = record { given = record { told = t; pool = pool; 
 pub data Fed : (s : Chunks) (carry : List ℕ) (chunks : List (List ℕ)) → List Call → List Seen → Type 0 where
   no-more : {s : Chunks} {carry : List ℕ} {chunks : List (List ℕ)} → Fed s carry chunks [] []
   told-next : {s : Chunks} {carry chunk : List ℕ} {chunks : List (List ℕ)} {call : Call} {calls : List Call} {seen : List Seen} (r : ChunkStep) (carry′ pool′ : List ℕ) (t : Told)
-      → NextChunk s chunk carry (call .pool) (call .at) r carry′ pool′ → length carry′ ≡ length carry → word (r .reply) ≡ tells t
+      → NextChunk s chunk carry (call .pool) (call .at) r carry′ pool′ → length carry′ ≡ length carry → word-of (r .reply) ≡ tells t
       → Fed (r .state) carry′ (chunk ∷ chunks) calls seen → Fed s carry (chunk ∷ chunks) (call ∷ calls) (seen-at t pool′ r chunk carry′ ∷ seen)
   next-chunk : {s : Chunks} {carry chunk : List ℕ} {chunks : List (List ℕ)} {call : Call} {calls : List Call} {seen : List Seen} (r : ChunkStep) (carry′ pool′ : List ℕ)
-      → NextChunk s chunk carry (call .pool) (call .at) r carry′ pool′ → length carry′ ≡ length carry → word (r .reply) ≡ used-up
+      → NextChunk s chunk carry (call .pool) (call .at) r carry′ pool′ → length carry′ ≡ length carry → word-of (r .reply) ≡ used-up
       → Fed (r .state) carry′ chunks (call ∷ calls) seen → Fed s carry (chunk ∷ chunks) (call ∷ calls) seen
   told-last : {s : Chunks} {carry : List ℕ} {call : Call} {calls : List Call} {seen : List Seen} (r : ChunkStep) (carry′ pool′ : List ℕ) (t : Told)
-      → Finish s carry (call .pool) (call .at) r carry′ pool′ → length carry′ ≡ length carry → word (r .reply) ≡ tells t
+      → Finish s carry (call .pool) (call .at) r carry′ pool′ → length carry′ ≡ length carry → word-of (r .reply) ≡ tells t
       → Fed (r .state) carry′ [] calls seen → Fed s carry [] (call ∷ calls) (seen-at t pool′ r [] carry′ ∷ seen)
 
 -- ---- the row

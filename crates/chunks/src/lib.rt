@@ -27,7 +27,9 @@ pub struct Chunks {
     // The line that is begun: so many bytes of the carry, and a CR behind them where `cr` is set.
     pub used: usize,
     pub cr: bool,
+    // Only "done" is answered any more.
     pub finished: bool,
+    // Which answers end the reading before the text does.
     pub options: ReaderOptions,
 }
 
@@ -221,7 +223,7 @@ fn ends_in_cr(line: &[u8]) -> bool
     line[line.len() - 1] == 13
 }
 
-// The same in one go, where no CR waits, the line fits, and there are bytes enough that it pays.
+// The same as `gather_bytes`, but in one go where no CR waits, the line fits, and the chunk has bytes enough that it pays.
 fn gather(chunk: &[u8], position: usize, carry: &mut [u8], used: usize, cr: bool) -> Gathered
     requires { ⌜ (position ≤ length (now chunk)) × (used ≤ 522) × (522 ≤ length (now carry)) ⌝ }
     ensures { λ r. ⌜ Passed (now (chunk .entry)) position (held (now (carry .entry)) used cr) (r .position) (held (now (carry .exit)) (r .used) (r .cr)) ⌝ }

@@ -10,7 +10,7 @@ use Rattle.writer.specs.declared.Written.{Written}
 use Rattle.writer.specs.declared.Survey.{Survey}
 use Rattle.writer.specs.Claims.{Surveys, Steps}
 use Rattle.chunks.specs.declared.ChunkStep.{ChunkStep}
-use Rattle.chunks.specs.Next.{word}
+use Rattle.chunks.specs.Next.{word-of}
 use Rattle.ihex.specs.declared.Surveyed.{Surveyed}
 use Rattle.ihex.specs.declared.Surveyed.the-variants.{Of, Bad}
 use Rattle.ihex.specs.Codes.{Numbers, reading-chunk}
@@ -43,5 +43,5 @@ Stepped bytes pool out start r out′ = (rs : List Record) → records-of bytes 
 
 -- a step of a reader of chunks, in numbers
 pub record TellStep (step : ChunkStep) (r position line empties used flags lies from len a b c : ℕ) : Type 0 where
-  pub answer : Numbers (reading-chunk (word (step .reply))) r a b c
+  pub answer : Numbers (reading-chunk (word-of (step .reply))) r a b c
   pub stands : Stands (step .state) (step .lies) position line empties used flags lies from len

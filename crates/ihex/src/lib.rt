@@ -23,7 +23,7 @@ ghost use Rattle.checksum.specs.Checksum.{Checksum};
 ghost use Rattle.reader.specs.Told.{told, refusal-of};
 ghost use Rattle.reader.specs.Text.{told-reply};
 ghost use Rattle.writer.specs.Told.{told as told-written, refusal-of as writer-refusal};
-ghost use Rattle.chunks.specs.Next.{word};
+ghost use Rattle.chunks.specs.Next.{word-of};
 ghost use Rattle.loader.specs.Told.{told as told-loading, refusal-by};
 ghost use Rattle.ihex.specs.Codes.{Coded-as, Flag, refused-with, reading, reading-chunk, writing, loading, line-at, state-of, flags-of, chunks-of, chunk-flags-of, place-of, Spot-as, start-of};
 ghost use Rattle.ihex.specs.Entry.{two-at, four-at, eight-at, record-of, record-at, entry-of};
@@ -189,7 +189,7 @@ pub extern "C" fn ihex_next(
 }
 
 fn code_chunk_reply(reply: ChunkReply) -> Coded
-    ensures { λ r. ⌜ Coded-as (reading-chunk (word reply)) r ⌝ }
+    ensures { λ r. ⌜ Coded-as (reading-chunk (word-of reply)) r ⌝ }
 {
     match reply {
         ChunkReply::Read(r) => code_record(r),

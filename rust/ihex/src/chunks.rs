@@ -10,7 +10,8 @@ use crate::stranger;
 /// Reads a text that comes in chunks, wherever the cuts fall, to the answers that [`ByteReader`] gives
 /// of the chunks joined.
 ///
-/// It holds the line that is begun: at most 522 bytes, however long the line is.
+/// It holds the line that is begun: at most 522 bytes, however long the line is. Answers that were not asked
+/// for are held as text until they are.
 ///
 /// ```
 #[doc = include_str!("../examples/chunks.rs")]
@@ -61,6 +62,9 @@ impl ChunkReader {
     where
         T: AsRef<[u8]> + ?Sized,
     {
+        if self.left.is_empty() {
+            self.position = 0;
+        }
         Answers {
             reader: self,
             chunk: chunk.as_ref(),
@@ -83,7 +87,8 @@ impl ChunkReader {
         self.line
     }
 
-    /// The line that was answered last, without its line end, if it gave a record; else nothing.
+    /// The line that was answered last, without its line end, if it gave a record; else nothing. It is that
+    /// line until the next is answered, also when there are no more answers.
     pub fn shown(&self) -> &[u8] {
         &self.shown
     }
@@ -144,15 +149,17 @@ impl ChunkReader {
         Some(answer(code, told.a, told.b, told.c, &self.pool))
     }
 
-    /// Keeps what was not asked for of a chunk.
+    /// Keeps what was not asked for of a chunk, behind what was left before it.
     fn keep(&mut self, chunk: &[u8]) {
         if self.flags & ihex_sys::FINISHED != 0 {
+            self.left = Vec::new();
             return;
         }
+        let position = mem::take(&mut self.position);
         if self.left.is_empty() {
-            let position = mem::take(&mut self.position);
             self.left.extend(chunk.get(position..).unwrap_or(&[]));
         } else {
+            self.left.drain(..position.min(self.left.len()));
             self.left.extend(chunk);
         }
     }

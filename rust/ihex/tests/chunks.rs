@@ -263,3 +263,26 @@ fn a_clone_goes_on_by_itself() {
         (&b":00000001FF"[..], &[][..])
     );
 }
+
+#[test]
+fn one_answer_of_each_chunk_leaves_one_line() {
+    let mut reader = ChunkReader::new();
+    let line = ":020000021200EA\n";
+    assert!(reader.feed(&line.repeat(2)).next().is_some());
+    let held = format!("{reader:?}").len();
+    for _ in 0..1000 {
+        assert!(reader.feed(line).next().is_some());
+    }
+    assert!(format!("{reader:?}").len() < held + 100);
+    assert_eq!(reader.finish().count(), 1);
+}
+
+#[test]
+fn forgotten_answers_do_not_move_the_next_chunk() {
+    let mut reader = ChunkReader::new();
+    let mut answers = reader.feed(":020000021200EA\n:02000004FFFFFC\n");
+    assert!(answers.next().is_some());
+    std::mem::forget(answers);
+    let next: Vec<_> = reader.feed(":00000001FF\n").collect();
+    assert_eq!(next, [Ok(Record::EndOfFile)]);
+}

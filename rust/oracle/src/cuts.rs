@@ -26,7 +26,7 @@ fn in_fields(text: &[u8]) -> Vec<usize> {
     let mut found = Vec::new();
     for line in text.split_inclusive(|&byte| byte == b'\n') {
         let end = from + line.len();
-        let last = [end.saturating_sub(3), end - 1];
+        let last = [3, 2, 1].map(|behind| end.saturating_sub(behind).max(from));
         let fields = [1, 2, 5, 8, 10].map(|place| from + place);
         found.extend(fields.into_iter().chain(last).filter(|&place| place < end));
         from = end;

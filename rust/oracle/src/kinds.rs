@@ -356,7 +356,7 @@ fn texts_in_chunks<'a>(port: &'a dyn Port, plan: Plan) -> Vec<Kind<'a>> {
         by_block(
             "texts in chunks, lines of 519 to 70,000 bytes",
             plan,
-            (lengths * plan.times / plan.part_of).max(8),
+            (lengths * plan.times / plan.part_of).max(lengths),
             move |block, chance| cuts::long(cuts::LENGTHS[(block % lengths) as usize], chance),
             move |case: &LongCase| joined::port(port, &case.case()),
         ),

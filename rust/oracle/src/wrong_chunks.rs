@@ -176,11 +176,14 @@ fn cut() -> Vec<Wrong> {
                 call.state.used = 0;
             }
         }),
-        ahead("begins each chunk where the last call stood", |call| {
-            if call.chunk.is_some() && call.state.used == 1 {
-                call.state.position = 1;
-            }
-        }),
+        ahead(
+            "skips a chunk's first byte behind a line of one byte",
+            |call| {
+                if call.chunk.is_some() && call.state.used == 1 {
+                    call.state.position = 1;
+                }
+            },
+        ),
     ]
 }
 
