@@ -4,7 +4,8 @@
  * - A slice is a pointer and a length in bytes, below 2^63; with the length 0 the pointer is not used and may be null.
  * - A pointer to a number is not null. Nothing that a function writes overlaps anything else that it is given.
  *
- * No function allocates or keeps anything, and a refusal changes no byte of any slice, but for unused bytes of a carry.
+ * No function allocates or keeps anything. A refusal changes no byte of any slice but of a carry, in which its line may have been
+ * gathered; of that IHEX_POOL_FULL keeps the used bytes, and IHEX_CARRY_TOO_SMALL all.
  */
 #ifndef IHEX_H
 #define IHEX_H
@@ -117,7 +118,7 @@ uint32_t ihex_next_chunk(const uint8_t *chunk, size_t chunk_len,
                          uint64_t *a, uint64_t *b, uint64_t *c);
 
 /* Ends the text: the line that is begun is its last, if it has a byte. Call it after IHEX_USED_UP: what is left of a chunk is not read.
- * Answers and leaves all as ihex_next_chunk does, never IHEX_USED_UP; then there is only IHEX_DONE. After IHEX_POOL_FULL or 18 the text
+ * Answers and leaves all as ihex_next_chunk does, never IHEX_USED_UP; then there is only IHEX_DONE, or 18. After IHEX_POOL_FULL or 18 the text
  * is not ended: call again with room. */
 uint32_t ihex_finish(uint8_t *carry, size_t carry_len,
                      uint8_t *pool, size_t pool_len, size_t at,

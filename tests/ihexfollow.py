@@ -6,6 +6,7 @@ taken the one before it. The last line is 'N passed, M failed'; the exit status 
 """
 import fcntl
 import os
+import pty
 import random
 import select
 import signal
@@ -13,6 +14,7 @@ import struct
 import subprocess
 import termios
 import time
+import tty
 
 import model
 from programs import ROOT, command, end, told
@@ -243,6 +245,26 @@ def stopped(run):
     return differ(run.finish(), b'records\nD 0000 41\nE\n2 answers\n')
 
 
+def from_terminal(name, pieces):
+    """A terminal in raw mode, as a serial line is, with the end record last."""
+    line, mine = pty.openpty()
+    tty.setraw(mine)
+    child = subprocess.Popen(COMMAND, stdin=mine, stdout=subprocess.PIPE)
+    os.close(mine)
+    for piece in pieces:
+        os.write(line, piece)
+        time.sleep(MOMENT)
+    try:
+        printed = child.communicate(timeout=SECONDS)[0]
+    except subprocess.TimeoutExpired:
+        child.kill()
+        printed = child.communicate()[0]
+    os.close(line)
+    why = differ(printed, model.listing(b''.join(pieces)))
+    told(name, not why, why)
+
+
+from_terminal('a terminal line', cut(DATA + b'\r\n\r\n:00\r\n' + FULL + b'\r\n' + END + b'\r\n', 61))
 tried('an answer is printed before the next piece', at_once)
 tried('two lines and a half', two_lines_and_a_half, (0, -9))
 tried('the end record ends the program while its input is open', end_record(b''))

@@ -25,15 +25,19 @@ use Rattle.chunks.specs.declared.Place.the-variants.{Nowhere, InChunk, I
 use Rattle.chunks.specs.declared.ChunkReply.{ChunkReply}
 use Rattle.chunks.specs.declared.ChunkReply.the-variants.{Read, Refused, UsedUp, Done, CarryTooSmall}
 use Rattle.chunks.specs.declared.ChunkStep.{ChunkStep}
-use Rattle.chunks.specs.Begun.{nothing}
+use Rattle.chunks.specs.Begun.{nothing, look}
 use Rattle.chunks.specs.Next.{Word, tells, used-up, word-of, new-chunks}
 use Rattle.chunks.specs.Rows.{joined, Nth, numbered, showing}
-use Rattle.chunks.specs.Claims.{Judged-as-kept, Any-cuts, givens-of, Same-row, Shown-there, Shows-the-line, without-pools, Nothing-else, New-unique, Next-unique, Finish-unique, Shown-unique}
+use Rattle.chunks.specs.Claims.{Examples, Judged-as-kept, Any-cuts, givens-of, Same-row, Shown-there, Shows-the-line, without-pools, Nothing-else, New-unique, Next-unique, Finish-unique, Shown-unique}
 use Rattle.chunks.proofs.Brief.{judge-brief}
 use Rattle.chunks.proofs.Pieces.{pieces, pieces-lines}
 use Rattle.chunks.proofs.Rows.{from-place, unseen, rows-met}
 use Rattle.chunks.proofs.Kept.{kept-rows, showing-replies, said-numbered, lines-stand, shows-right, Shown-right}
 use Rattle.chunks.proofs.Stops.{alike-rows, behind-stop}
+
+pub examples : Examples
+unfolding look
+examples = record { waits = refl; ends = refl; belongs = refl; passes = refl }
 
 pub judged-as-kept : Judged-as-kept
 judged-as-kept line = judge-brief line

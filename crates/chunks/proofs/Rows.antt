@@ -1,4 +1,4 @@
--- Calls of which only the contracts are known give the row over the pieces of its text: each call answers the first piece
+-- Calls of which only the contracts are known give the row over the pieces of the joined chunks: each call answers the first piece
 -- that is unseen and leaves the rest.
 -- Assumes nothing.
 use Prim.Native.Nat.{ℕ, _+_, _-_, _%_, _≤_}

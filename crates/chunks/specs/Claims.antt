@@ -1,28 +1,36 @@
--- What is claimed of the chunk reader beyond its contracts, and proved in `proofs/Claims.antt`, `proofs/Calls.antt` and `proofs/Stops.antt`.
+-- What is claimed of the chunk reader beyond its contracts, and proved in `proofs/Claims.antt` and `proofs/Calls.antt`.
 -- Assumes nothing.
 use Prim.Native.Nat.{ℕ, _+_, _-_, _^_, _≤_, _<_}
 use mathlib.Core.Path.{_≡_}
 use mathlib.Core.Logic.{_≢_, _⊎_}
 use mathlib.Core.Bool.{true, false}
-use mathlib.Core.Option.{some}
-use mathlib.Core.List.{List, [], _∷_}
+use mathlib.Core.Option.{none, some}
+use mathlib.Core.List.{List, [], _∷_, _++_}
 use denote.Ref.{RefT}
 use lib.ListN.{length, getD, take}
-use Rattle.record.specs.Common.{if_then_else_, Every, pasted}
+use Rattle.record.specs.Common.{if_then_else_, Every, text, pasted}
 use Rattle.record.specs.Refusals.{pool-full, carry-too-small}
 use Rattle.record.specs.Line.{judge}
 use Rattle.reader.specs.declared.ReaderOptions.{ReaderOptions}
 use Rattle.reader.specs.Told.{Told, gives, refuses, done}
-use Rattle.reader.specs.Lines.{lines, through}
+use Rattle.reader.specs.Lines.{LF, CR, lines, through}
 use Rattle.reader.specs.Row.{sayings, stopped}
 use Rattle.reader.specs.Text.{is-full, new-state}
 use Rattle.reader.specs.Calls.{Call, Given, Calls}
 use Rattle.chunks.specs.declared.Chunks.{Chunks}
 use Rattle.chunks.specs.declared.Place.{Place}
 use Rattle.chunks.specs.declared.ChunkStep.{ChunkStep}
-use Rattle.chunks.specs.Begun.{brief}
+use Rattle.chunks.specs.Begun.{nothing, brief, ended, unended, look}
 use Rattle.chunks.specs.Next.{tells, word-of, is-record, new-chunks, at-place, Outcome, unchanged, next-outcome, finish-outcome, NextChunk, Finish, NewChunks, Shown}
 use Rattle.chunks.specs.Rows.{joined, Seen, Fed, numbered, showing}
+
+-- Some cuts. An end record is cut from its LF behind its CR, which waits; the LF comes, and the record has ended; a CR that waited is a byte
+-- of its line where another byte comes; and empty lines are passed and counted; the line behind them begins in this chunk.
+pub record Examples : Type 0 where
+  pub waits : look 0 nothing (text ":00000001FF" ++ (CR ∷ [])) ≡ unended 0 (record { kept = text ":00000001FF"; cr = true })
+  pub ends : look 0 (record { kept = text ":00000001FF"; cr = true }) (LF ∷ text ":02") ≡ ended none 0 (text ":00000001FF") (text ":02")
+  pub belongs : look 0 (record { kept = text ":"; cr = true }) (text "0" ++ (LF ∷ [])) ≡ ended none 0 (58 ∷ CR ∷ 48 ∷ []) []
+  pub passes : look 0 nothing (LF ∷ CR ∷ LF ∷ (text ":0" ++ (LF ∷ []))) ≡ ended (some (text ":0" ++ (LF ∷ []))) 2 (text ":0") []
 
 -- what is kept of a line is judged as the line is
 abbrev pub Judged-as-kept : Type 0
@@ -172,7 +180,7 @@ abbrev pub Done-stays : Type 0
 Done-stays =
     (s : Chunks) (chunk carry pool : List ℕ) (at : ℕ) → next-outcome s chunk carry pool at .word ≡ tells done → Only-done (next-outcome s chunk carry pool at .state)
 
--- an answer to a line of the chunk moves on in it: so asking until the chunk is used up comes to an end
+-- an answer to a line of the chunk, other than PoolFull, moves on in it: so asking with room until the chunk is used up comes to an end
 abbrev pub Moves : Type 0
 Moves =
     (s : Chunks) (chunk carry pool : List ℕ) (at : ℕ) (t : Told) → next-outcome s chunk carry pool at .word ≡ tells t

@@ -85,6 +85,7 @@ unfoldable pub place : (chunk : List ℕ) (start : Option (List ℕ)) (kept : Li
 place chunk (some text) kept = InChunk (length chunk - length text) (length kept)
 place chunk none kept = InCarry (length kept)
 
+-- what such a line leaves at the carry's front
 unfoldable pub in-carry : (start : Option (List ℕ)) (kept : List ℕ) → List ℕ
 in-carry (some text) kept = []
 in-carry none kept = kept

@@ -27,7 +27,7 @@ pub struct Chunks {
     // The line that is begun: so many bytes of the carry, and a CR behind them where `cr` is set.
     pub used: usize,
     pub cr: bool,
-    // Only "done" is answered any more.
+    // Only "done" is answered, or 18.
     pub finished: bool,
     // Which answers end the reading before the text does.
     pub options: ReaderOptions,
@@ -393,7 +393,7 @@ fn used_up(s: Chunks, empties: usize, used: usize, cr: bool) -> ChunkStep
     plain(ChunkReply::UsedUp, state)
 }
 
-// Nothing is begun: the first line of the chunk from a position on is judged where it lies.
+// Nothing is begun: the first line from a position on is judged where it lies; one that does not end in the chunk goes into the carry.
 fn fresh(
     s: Chunks,
     chunk: &[u8],

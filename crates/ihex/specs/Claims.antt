@@ -1,4 +1,4 @@
--- What is claimed of the entry points beyond their contracts, and proved in `proofs/Claims.antt`.
+-- What is claimed of the entry points beyond their contracts, and proved in `proofs/Claims.antt` and `proofs/Chunks.antt`.
 -- Assumes nothing.
 use Prim.Native.Nat.{ℕ}
 use mathlib.Core.Path.{_≡_}
