@@ -50,8 +50,8 @@ fn runs(n: usize) -> Vec<Range<usize>> {
 fn fewer(chunks: &[Vec<u8>], join: bool) -> Vec<Vec<Vec<u8>>> {
     let long = |run: &Range<usize>| !join || run.len() > 1;
     let change = |run: Range<usize>| {
-        let one = chunks[run.clone()].concat();
-        let between = if join { &[one][..] } else { &[] };
+        let one = [chunks[run.clone()].concat()];
+        let between = if join { &one[..] } else { &[] };
         [&chunks[..run.start], between, &chunks[run.end..]].concat()
     };
     runs(chunks.len())
