@@ -246,8 +246,11 @@ def stopped(run):
 
 
 def from_terminal(name, pieces):
-    """A terminal in raw mode, as a serial line is, with the end record last."""
-    line, mine = pty.openpty()
+    """A terminal in raw mode, as a serial line is, with the end record last, where one can be had."""
+    try:
+        line, mine = pty.openpty()
+    except OSError:
+        return print('passed over, there is no terminal: %s' % name)
     tty.setraw(mine)
     child = subprocess.Popen(COMMAND, stdin=mine, stdout=subprocess.PIPE)
     os.close(mine)
