@@ -157,13 +157,13 @@ fn answered(
         empties: 0,
         ..behind
     };
-    if told.code >= REFUSED {
-        return unchanged(told, state, &[]);
-    }
     let (place, carried) = match from {
         Some(from) => ((IN_CHUNK, from, line.len()), vec![]),
-        None => ((IN_CARRY, 0, line.len()), line.clone()),
+        None => ((IN_CARRY, 0, line.len()), kept(&line)),
     };
+    if told.code >= REFUSED {
+        return unchanged(told, state, &carried);
+    }
     Outcome {
         told,
         state,
