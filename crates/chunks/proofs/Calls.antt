@@ -28,10 +28,10 @@ use Rattle.reader.proofs.Stays.{never-done}
 use Rattle.chunks.specs.declared.Chunks.{Chunks}
 use Rattle.chunks.specs.declared.Place.the-variants.{Nowhere}
 use Rattle.chunks.specs.Begun.{Begun, is-empty, with-CR, Sought, ended, unended, look}
-use Rattle.chunks.specs.Next.{Word, tells, used-up, word-of, is-record, begun, past-line, over, number-behind, place, in-carry, Outcome, unchanged, answered-line, of-sought, too-small, next-outcome, finish-outcome, Meets}
+use Rattle.chunks.specs.Next.{Word, tells, used-up, is-record, begun, past-line, over, number-behind, place, in-carry, Outcome, unchanged, answered-line, of-sought, too-small, next-outcome, finish-outcome, Meets}
 use Rattle.chunks.specs.Claims.{Same-heard, Same-but-carry, Same-but-pool, Carry-blind, Pool-blind, Too-small, Carry-first, Eighteen-changes-nothing, Full-keeps, Gives-then, Full-then-room, Only-done, Finish-ends, Done-stays, Moves}
 use Rattle.chunks.proofs.FirstTests.{small-carry, much-used, big-enough, next-18, next-over, next-on, nothing-left, finish-18, finish-over, finish-on}
-use Rattle.chunks.proofs.Rows.{Fine, fine}
+use Rattle.chunks.proofs.Rows.{Fine, fine, same-begun}
 
 -- ---- answers to a line
 
@@ -302,9 +302,6 @@ room-for l n at f s used chunk pool at′ start k position last r = (
   line-word s used chunk pool at′ start k l position last ∙ ap tells (f .then-told (length pool) at′ r),
   line-pool s used chunk pool at′ start k l position last ∙ f .then-poured pool at′ r,
 )
-
-same-begun : (s : Chunks) (carry carry′ : List ℕ) → take (s .used) carry′ ≡ take (s .used) carry → begun s carry′ ≡ begun s carry
-same-begun s carry carry′ e = ap (λ (kept : List ℕ). record { kept = kept; cr = s .cr }) e
 
 pub full-then-room : Full-then-room
 unfolding unchanged of-sought

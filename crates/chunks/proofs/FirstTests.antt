@@ -2,7 +2,7 @@
 -- Assumes nothing.
 use Prim.Native.Nat.{ℕ, zero, suc, _≤_, _<_}
 use mathlib.Core.Path.{_≡_, refl, sym, ap, _∙_}
-use mathlib.Core.Bool.{Bool, true, false, _||_}
+use mathlib.Core.Bool.{Bool, true, false}
 use mathlib.Core.Option.{none, some}
 use mathlib.Core.List.{List, [], _∷_}
 use native.Mathlib.Omega.{arith}
@@ -13,7 +13,7 @@ use borrow.Author.Tests.{lt-ltb, le-ltb, ltb-true, ltb-false}
 use Rattle.record.specs.Common.{if_then_else_}
 use Rattle.record.specs.Refusals.{carry-too-small}
 use Rattle.record.specs.Line.{judge}
-use Rattle.record.proofs.Tests.{if-true, if-false}
+use Rattle.record.proofs.Tests.{if-true, if-false, or-true}
 use Rattle.reader.specs.declared.Answer.{Answer}
 use Rattle.reader.specs.Told.{refuses, done, told}
 use Rattle.reader.specs.Answer.{Reads}
@@ -47,10 +47,6 @@ same-met s reply carry pool r e chunk =
 pub small-carry : (s : Chunks) (carry : List ℕ) → length carry < 522 → too-small s carry ≡ true
 unfolding too-small
 small-carry s carry h = rw (lt-ltb (length carry) 522 h)
-
-or-true : (a : Bool) → a || true ≡ true
-or-true true = refl
-or-true false = refl
 
 pub much-used : (s : Chunks) (carry : List ℕ) → 522 < s .used → too-small s carry ≡ true
 unfolding too-small

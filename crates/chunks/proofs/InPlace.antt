@@ -12,6 +12,7 @@ use lib.ListN.{length, getD, take, drop, length-drop}
 use lib.Seq.{getD-drop}
 use borrow.Author.Tests.{eqb-true, eqb-false, eq-eqb}
 use Rattle.record.specs.Common.{if_then_else_}
+use Rattle.record.proofs.Tests.{or-true}
 use Rattle.reader.specs.Lines.{LF, CR, first-line, rest}
 use Rattle.reader.proofs.Searching.{tail-is, first-line-prefix, first-line-length, behind-inside, behind-moves, rest-behind, Cut-off}
 use Rattle.chunks.specs.Begun.{Begun, nothing, is-empty, brief, add, counted, Sought, ended, seek}
@@ -24,10 +25,6 @@ use Rattle.chunks.proofs.Pass.{step-over}
 unfoldable pub has-LF : List ℕ → Bool
 has-LF [] = false
 has-LF (c ∷ text) = eqb c LF || has-LF text
-
-or-true : (a : Bool) → a || true ≡ true
-or-true true = refl
-or-true false = refl
 
 LF-at : (text : List ℕ) (k : ℕ) → k < length text → getD text k 0 ≡ LF → has-LF text ≡ true
 unfolding has-LF

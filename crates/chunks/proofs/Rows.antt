@@ -5,12 +5,12 @@ use Prim.Native.Nat.{ℕ, _+_, _-_, _%_, _≤_}
 use mathlib.Core.Path.{_≡_, refl, sym, _∙_, ap, ap₂}
 use mathlib.Core.Bool.{Bool, true, false, _||_}
 use mathlib.Core.Option.{Option, none, some}
-use mathlib.Core.List.{List, [], _∷_, _++_, append-assoc}
+use mathlib.Core.List.{List, [], _∷_, _++_}
 use native.Mathlib.Omega.{arith}
 use native.Mathlib.Nat.{add-zero}
 use lib.Dec.{eqb}
-use lib.ListN.{length, take, drop, take-append-drop, length-append}
-use lib.Seq.{length-take-le, drop-at}
+use lib.ListN.{length, take, drop}
+use lib.Seq.{length-take-le}
 use Rattle.record.specs.Common.{if_then_else_}
 use Rattle.record.specs.Line.{judge}
 use Rattle.record.proofs.Tests.{both-ways, if-true, if-false}
@@ -20,6 +20,7 @@ use Rattle.reader.specs.Answer.{answered, poured}
 use Rattle.reader.specs.Lines.{LF, CR}
 use Rattle.reader.specs.Text.{is-full, ends-row}
 use Rattle.reader.specs.Calls.{Call, given-done}
+use Rattle.reader.proofs.Along.{suffix-at, suffix-drop}
 use Rattle.chunks.specs.declared.Chunks.{Chunks}
 use Rattle.chunks.specs.declared.ChunkStep.{ChunkStep}
 use Rattle.chunks.specs.Begun.{Begun, nothing, is-empty, push, with-CR, add, counted, Sought, ended, unended, seek, look}
@@ -59,13 +60,11 @@ fine (c ∷ text) start n b h =
     (fine-cons c (seek (some text) (counted n) nothing text) text (fine text (some text) (counted n) nothing (omega arith))) (c, [], refl))
     (fine-cons c (seek start n (add b c) text) text (fine text start n (add b c) (short-add b c h)))
 
-rest-at : (chunk : List ℕ) (from : ℕ) (p rest : List ℕ) → drop from chunk ≡ p ++ rest → drop (length chunk - length rest) chunk ≡ rest
-rest-at chunk from p rest e =
-    let whole : chunk ≡ (take from chunk ++ p) ++ rest = sym (take-append-drop from chunk) ∙ ap (λ (t : List ℕ). take from chunk ++ t) e ∙ sym (append-assoc (take from chunk) p rest) in
-    let n : length chunk ≡ length (take from chunk ++ p) + length rest = ap length whole ∙ length-append (take from chunk ++ p) rest in
-    ap (drop (length chunk - length rest)) whole ∙ drop-at (take from chunk ++ p) rest (length chunk - length rest) (omega arith)
-
 -- ---- what is unseen
+
+-- the used bytes of a carry are all that is begun
+pub same-begun : (s : Chunks) (carry carry′ : List ℕ) → take (s .used) carry′ ≡ take (s .used) carry → begun s carry′ ≡ begun s carry
+same-begun s carry carry′ e = ap (λ (kept : List ℕ). record { kept = kept; cr = s .cr }) e
 
 -- the chunks, the first from a place on
 unfoldable pub from-place : ℕ → List (List ℕ) → List (List ℕ)
@@ -198,10 +197,8 @@ module _ (options : ReaderOptions) where
               record { row = row; good = rw st (record { big = omega (arith, g .big); small = omega arith; options-is = g .options-is }) }
 
   -- PoolFull keeps what is begun
-  same-begun : (s : Chunks) (carry carry′ : List ℕ) → s .used ≤ length carry → take (length (take (s .used) carry)) carry′ ≡ take (s .used) carry → begun s carry′ ≡ begun s carry
-  same-begun s carry carry′ h k =
-      let n : length (take (s .used) carry) ≡ s .used = length-take-le (s .used) carry h in
-      ap (λ (kept : List ℕ). record { kept = kept; cr = s .cr }) (ap (λ (n : ℕ). take n carry′) (sym n) ∙ k)
+  kept-begun : (s : Chunks) (carry carry′ : List ℕ) → s .used ≤ length carry → take (length (take (s .used) carry)) carry′ ≡ take (s .used) carry → begun s carry′ ≡ begun s carry
+  kept-begun s carry carry′ h k = same-begun s carry carry′ (ap (λ (n : ℕ). take n carry′) (sym (length-take-le (s .used) carry h)) ∙ k)
 
   same-unseen : (s : Chunks) (carry carry′ : List ℕ) (chunks : List (List ℕ)) → begun s carry′ ≡ begun s carry → unseen s carry′ chunks ≡ unseen s carry chunks
   unfolding unseen
@@ -259,7 +256,7 @@ module _ (options : ReaderOptions) where
     next-found d start n kept rest e p tail m =
         line-goes-on s carry chunk (chunk ∷ chunks) chunks call calls r carry′ pool′ (take (s .used) carry) start n kept (length chunk - length rest) false left m (g .options-is)
         (have (unseen-found d (ended start n kept rest) e))
-        (λ k. same-unseen s carry carry′ (chunk ∷ chunks) (same-begun s carry carry′ (omega (arith, g .big, g .small)) k))
+        (λ k. same-unseen s carry carry′ (chunk ∷ chunks) (kept-begun s carry carry′ (omega (arith, g .big, g .small)) k))
         (behind (ends-row (s .options) (answer-to kept call))) g l
       where
         left : List Nth
@@ -271,7 +268,7 @@ module _ (options : ReaderOptions) where
         behind : (b : Bool) → unseen (past-line s (length chunk - length rest) (number-behind s n) b) carry′ (chunk ∷ chunks) ≡ (if b then [] else left)
         behind true = refl
         behind false =
-            ap (λ (x : List ℕ). pieces (number-behind s n + 0) nothing (x ++ joined chunks)) (rest-at chunk (s .position) p rest tail)
+            ap (λ (x : List ℕ). pieces (number-behind s n + 0) nothing (x ++ joined chunks)) (suffix-at rest chunk (suffix-drop (s .position) rest chunk (p, tail)))
             ∙ pieces-mod (rest ++ joined chunks) (number-behind s n + 0) (s .line + counted n) nothing (ap (λ (k : ℕ). k % M) (add-zero (number-behind s n)) ∙ twice (s .line + counted n))
 
     pub next-goes-on : NextChunk s chunk carry (call .pool) (call .at) r carry′ pool′ → Next-goes-on
@@ -331,7 +328,7 @@ module _ (options : ReaderOptions) where
     finish-found d e m =
         line-goes-on s carry [] [] [] call calls r carry′ pool′ (take (s .used) carry) none (s .empties) (with-CR (begun s carry)) 0 true [] m (g .options-is)
         (last-piece d false e)
-        (λ k. same-unseen s carry carry′ [] (same-begun s carry carry′ (omega (arith, g .big, g .small)) k))
+        (λ k. same-unseen s carry carry′ [] (kept-begun s carry carry′ (omega (arith, g .big, g .small)) k))
         (behind (ends-row (s .options) (answer-to (with-CR (begun s carry)) call))) g l
       where
         behind : (b : Bool) → unseen (past-line s 0 (number-behind s (s .empties)) true) carry′ [] ≡ (if b then [] else [])

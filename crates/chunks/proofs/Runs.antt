@@ -2,7 +2,7 @@
 -- Assumes nothing.
 use Prim.Native.Nat.{ℕ, suc, _+_, _-_, _≤_, _<_}
 use mathlib.Core.Path.{_≡_, refl, sym, ap, ap₂, subst, _∙_}
-use mathlib.Core.Bool.{Bool, true, false, _||_}
+use mathlib.Core.Bool.{Bool, true, false}
 use mathlib.Core.Option.{Option}
 use mathlib.Core.List.{List, [], _∷_, _++_, append-assoc, append-nil, foldl, List·Memᴰ, List·Memᴰ·head, List·Memᴰ·tail}
 use native.Mathlib.Omega.{arith}
@@ -12,6 +12,7 @@ use lib.ListN.{length, getD, take, drop, length-append, length-drop, drop-of-len
 use lib.Seq.{paste, take-paste, split-at, length-take-le, take-take, take-length, drop-cons, getD-drop}
 use borrow.Author.Tests.{eqb-true, ltb-true, ltb-false}
 use Rattle.record.specs.Common.{if_then_else_}
+use Rattle.record.proofs.Tests.{or-true}
 use Rattle.reader.specs.Lines.{LF, CR, rest, Ended, with-CRLF, with-LF, with-text, Cut}
 use Rattle.reader.proofs.Cutting.{cut}
 use Rattle.reader.proofs.Searching.{tail-is, behind-inside, rest-behind, Cut-off}
@@ -114,10 +115,6 @@ has-behind : (xs ys : List ℕ) → has-LF ys ≡ true → has-LF (xs ++ ys) ≡
 unfolding has-LF
 has-behind [] ys h = h
 has-behind (x ∷ xs) ys h = rw (has-behind xs ys h) (or-true (eqb x LF))
-  where
-    or-true : (a : Bool) → a || true ≡ true
-    or-true true = refl
-    or-true false = refl
 
 ended-has : {text line end rest : List ℕ} → text ≡ line ++ (end ++ rest) → Ended line end rest → length line < length text - length rest → has-LF text ≡ true
 unfolding has-LF

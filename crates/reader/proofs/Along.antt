@@ -30,7 +30,7 @@ from-found m (a-line e line left) = on (m + e) (judge line) ∷ sayings (m + suc
 from-found m (no-line e) = []
 
 -- a text that holds the other at its end
-abbrev Suffix : List ℕ → List ℕ → Type 0
+abbrev pub Suffix : List ℕ → List ℕ → Type 0
 Suffix left text = (front : List ℕ) × (text ≡ front ++ left)
 
 -- how the line that is found counts: the empty lines, itself, and those behind it
@@ -77,12 +77,12 @@ says-found m k (c ∷ text) =
 -- ---- one call
 
 -- the place where a suffix begins
-suffix-at : (left text : List ℕ) → Suffix left text → drop (length text - length left) text ≡ left
+pub suffix-at : (left text : List ℕ) → Suffix left text → drop (length text - length left) text ≡ left
 suffix-at left text (front, e) =
     let n : length text - length left ≡ length front = let l = length-append front left in omega (arith, ap length e) in
     ap (λ (k : ℕ). drop k text) n ∙ ap (drop (length front)) e ∙ drop-at front left (length front) refl
 
-suffix-drop : (p : ℕ) (left text : List ℕ) → Suffix left (drop p text) → Suffix left text
+pub suffix-drop : (p : ℕ) (left text : List ℕ) → Suffix left (drop p text) → Suffix left text
 suffix-drop p left text (front, e) =
     (take p text ++ front, sym (take-append-drop p text) ∙ ap (λ (l : List ℕ). take p text ++ l) e ∙ sym (append-assoc (take p text) front left))
 

@@ -40,6 +40,10 @@ pub both-ways {ℓ} : (P : Bool → Type ℓ) (b : Bool) → P true → P false 
 both-ways P true t f = t
 both-ways P false t f = f
 
+pub or-true : (a : Bool) → a || true ≡ true
+or-true true = refl
+or-true false = refl
+
 pub or-false : (a b : Bool) → a || b ≡ false → (a ≡ false) × (b ≡ false)
 or-false true b e = (e, cc)
 or-false false b e = (refl, e)
