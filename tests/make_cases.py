@@ -4,7 +4,7 @@
     tests/make_cases.py            writes the two files
     tests/make_cases.py --check    says whether the stored files are what it would write
 
-The answers come from a model of document 01 that shares nothing with the port: its record reader is
+The answers come from a model of documents 01 and 02 that shares nothing with the port: its record reader is
 model.py, the rest stands here. The examples of document 01 and the limits stand here with their answers
 as well, and the model is held to them. src/main.rt of `replay` says what a case looks like.
 """
@@ -95,12 +95,20 @@ def write_object(records, pool, size):
     return put_out("".join(line + "\n" for line, _ in lines), size)
 
 
+def address_of(latest, offset, i):
+    """Where byte i of a data record lies: in the segment of a type 02, or along the line of a type 04."""
+    kind, number = latest
+    if kind == "X2":
+        return 16 * number + (offset + i) % 65536
+    return (65536 * number + offset + i) % 2**32
+
+
 def load(text, first, page_size, marks_size):
     """What the loader answers, page, and marks."""
     untouched = bytes([PAGE]) * page_size, bytes([MARKS]) * marks_size
     if page_size != marks_size or page_size > 65536 or first + page_size > 2**32:
         return "! 16 @0", *untouched
-    base, data, stated = 0, 0, {}
+    latest, data, stated = ("X2", 0), 0, {}
     for number, row in enumerate(lines_of(text), 1):
         if not row:
             continue
@@ -111,14 +119,12 @@ def load(text, first, page_size, marks_size):
         if told.startswith("!"):
             return f"{told} @{number:X}", *untouched
         kind, value, *rest = told.split()
-        if kind == "X2":
-            base = 16 * int(value, 16)
-        if kind == "X4":
-            base = 65536 * int(value, 16)
+        if kind in ("X2", "X4"):
+            latest = kind, int(value, 16)
         if kind == "D":
             data += 1
             for i in range(int(rest[1], 16)):
-                address = (base + int(value, 16) + i) % 2**32
+                address = address_of(latest, int(value, 16), i)
                 if not first <= address < first + page_size:
                     return f"! 17 {address:08X} @{number:X}", *untouched
                 stated[address] = payload[i]
@@ -708,15 +714,6 @@ def of_addresses():
     load_case(PLACED, "! 17 00012005 @2", 0x12000, 5)
     load_case(PLACED, "! 17 00012005 @2", 0x12006, 5)
     load_case(PLACED, "A 1", 0x12000, 6, places={5: 0x77})
-    heading("loads: data at FFFF and 10000")
-    over = ended(":02FFFF00AABB9B", END)
-    load_case(over, "A 1", 0xFFFF, 2, places={0: 0xAA, 1: 0xBB})
-    load_case(over, "A 1", 0xFFF8, 16, places={7: 0xAA, 8: 0xBB})
-    load_case(over, "! 17 00010000 @1", 0xFFF8, 8)
-    load_case(over, "! 17 0000FFFF @1", 0x10000, 8)
-    load_case(over, "! 17 00010000 @1", 0, 65536)
-    load_case(over, "A 1", 1, 65536, places={0xFFFE: 0xAA, 0xFFFF: 0xBB})
-    load_case(ended(":020000021200EA", ":02FFFF00AABB9B", END), "A 1", 0x21FFF, 2, places={0: 0xAA, 1: 0xBB})
     heading("loads: the wrap at 2^32")
     top = ended(":02000004FFFFFC", ":02FFFF00AABB9B", END)
     load_case(top, "! 17 00000000 @2", 0xFFFFFFFF, 1)
@@ -725,6 +722,67 @@ def of_addresses():
     load_case(ended(":02000004FFFFFC", record(0, 0xFFFF, b"\x77"), END), "A 1", 0xFFFFFFFF, 1, places={0: 0x77})
     load_case(ended(":02000004FFFFFC", record(0, 0xFFFF, b"\x77"), END), "A 1", 0xFFFF0000, 65536, places={0xFFFF: 0x77})
     load_case(ended(":02000004FFFFFC", record(0, 0xFFFE, some_bytes(4, 1)), END), "! 17 00000000 @2", 0xFFFFFFC0, 64)
+
+
+# A record of two bytes across offset FFFF.
+OVER = ":02FFFF00AABB9B"
+
+
+def of_segments():
+    heading("loads: a record across FFFF, with no extension record and in segment 0")
+    for ahead in ((), (record(2, 0, b"\x00\x00"),), (record(3, 0, b"\x12\x34\x56\x78"), record(5, 0, b"\x00\x01\x00\x00"))):
+        over, line = ended(*ahead, OVER, END), len(ahead) + 1
+        load_case(over, "A 1", 0, 65536, places={0xFFFF: 0xAA, 0: 0xBB})
+        load_case(over, f"! 17 00000000 @{line}", 0xFFFF, 2)
+        load_case(over, f"! 17 00000000 @{line}", 0xFFF8, 16)
+        load_case(over, f"! 17 00000000 @{line}", 1, 65535)
+        load_case(over, f"! 17 00000000 @{line}", 1, 65536)
+        load_case(over, f"! 17 0000FFFF @{line}", 0, 65535)
+        load_case(over, f"! 17 0000FFFF @{line}", 0, 1)
+        load_case(over, f"! 17 0000FFFF @{line}", 0x10000, 8)
+    heading("loads: a record across FFFF in segments 1200, F000 and FFFF")
+    for number in (0x1200, 0xF000, 0xFFFF):
+        base, ahead = 16 * number, record(2, 0, number.to_bytes(2, "big"))
+        over = ended(ahead, OVER, END)
+        load_case(over, "A 1", base, 65536, places={0xFFFF: 0xAA, 0: 0xBB})
+        load_case(over, f"! 17 {base:08X} @2", base + 0xFFFF, 2)
+        load_case(over, f"! 17 {base:08X} @2", base + 0xFFF8, 8)
+        load_case(over, f"! 17 {base:08X} @2", base + 1, 65536)
+        load_case(over, f"! 17 {base + 0xFFFF:08X} @2", base, 65535)
+        load_case(over, f"! 17 {base + 0xFFFF:08X} @2", base, 8)
+        load_case(over, f"! 17 {base + 0xFFFF:08X} @2", base + 0x10000, 8)
+        load_case(ended(ahead, record(0, 0xFFFF, b"\x77"), record(0, 0, b"\x66"), END), "A 2", base, 65536, places={0xFFFF: 0x77, 0: 0x66})
+        load_case(ended(ahead, record(0, 0xFFFE, b"\x11\x12"), END), "A 1", base + 0xFFFE, 2, places={0: 0x11, 1: 0x12})
+    heading("loads: no wrap at 1 MiB")
+    load_case(ended(record(2, 0, b"\xFF\xFF"), record(0, 0xF, b"\x11\x12"), END), "A 1", 0xFFFFC, places={3: 0x11, 4: 0x12})
+    load_case(ended(record(2, 0, b"\xF0\x00"), OVER, END), "! 17 000F0000 @2", 0xFFFFC, 8)
+    load_case(ended(record(2, 0, b"\xF0\x01"), record(0, 0xFFEF, b"\x11\x12"), END), "A 1", 0xFFFFC, places={3: 0x11, 4: 0x12})
+
+
+def of_wraps():
+    heading("loads: long records across FFFF, and what else lies there")
+    for offset, n in ((0xFFF8, 16), (0xFF80, 255), (0xFF01, 255), (0xFFFF, 255)):
+        places = {(offset + i) % 65536: byte for i, byte in enumerate(some_bytes(n, 5))}
+        load_case(ended(record(0, offset, some_bytes(n, 5)), END), "A 1", 0, 65536, places=places)
+        load_case(ended(SEGMENT, record(0, offset, some_bytes(n, 5)), END), "A 1", 0x12340, 65536, places=places)
+        load_case(ended(record(0, offset, some_bytes(n, 5)), END), "! 17 00000000 @1" if len(places) + offset > 65536 else "A 1", 0xFF00, 256)
+    load_case(ended(record(0, 0, b"\x11\x12"), OVER, END), "A 2", 0, 65536, places={0xFFFF: 0xAA, 0: 0xBB, 1: 0x12})
+    load_case(ended(OVER, record(0, 0, b"\x11\x12"), END), "A 2", 0, 65536, places={0xFFFF: 0xAA, 0: 0x11, 1: 0x12})
+    load_case(ended(OVER, BAD[0]), "! 1 @2", 0, 65536)
+    heading("loads: across FFFF under a type 04")
+    load_case(ended(LINEAR, OVER, END), "A 1", 0x1FFFF, 2, places={0: 0xAA, 1: 0xBB})
+    load_case(ended(LINEAR, OVER, END), "! 17 00020000 @2", 0x10000, 65536)
+    load_case(ended(record(4, 0, b"\x00\x00"), OVER, END), "A 1", 0xFFFF, 2, places={0: 0xAA, 1: 0xBB})
+    load_case(ended(record(4, 0, b"\x00\x00"), OVER, END), "! 17 00010000 @2", 0, 65536)
+    heading("loads: a type 02 after a type 04 and back, each with its own rule")
+    low, line = record(2, 0, b"\x00\x01"), record(4, 0, b"\x00\x00")
+    other = record(0, 0xFFFF, b"\xCC\xDD")
+    load_case(ended(line, OVER, low, other, END), "A 2", 0x10, 65536, places={0xFFEF: 0xAA, 0xFFF0: 0xBB, 0xFFFF: 0xCC, 0: 0xDD})
+    load_case(ended(low, other, line, OVER, END), "A 2", 0x10, 65536, places={0xFFEF: 0xAA, 0xFFF0: 0xBB, 0xFFFF: 0xCC, 0: 0xDD})
+    load_case(ended(line, low, OVER, line, other, END), "A 2", 0x10, 65536, places={0xFFEF: 0xCC, 0xFFF0: 0xDD, 0xFFFF: 0xAA, 0: 0xBB})
+    load_case(ended(line, OVER, low, other, line, record(0, 0xFFFF, b"\x11\x22"), END), "A 3", 0x10, 65536, places={0xFFEF: 0x11, 0xFFF0: 0x22, 0xFFFF: 0xCC, 0: 0xDD})
+    load_case(ended(line, OVER, record(2, 0, b"\x00\x00"), other, END), "! 17 00000000 @4", 0x10, 65536)
+    load_case(ended(LINEAR, low, record(0, 0xFFFF, b"\x77"), END), "A 1", 0x10, 65536, places={0xFFFF: 0x77})
 
 
 def of_windows():
@@ -881,6 +939,8 @@ def make_all():
     of_objects()
     of_refused_payloads()
     of_addresses()
+    of_segments()
+    of_wraps()
     of_windows()
     of_records_half_inside()
     of_bases()

@@ -71,7 +71,7 @@ size_t floor_read_text(const uint8_t *text, size_t len, uint8_t *pool, uint64_t 
     return records;
 }
 
-/* Loads a text that places all at its offsets: judges it first, then writes. */
+/* Loads a text that places all at its offsets, what passes the page's end at its start: judges it first, then writes. */
 size_t floor_load(const uint8_t *text, size_t len, uint8_t *page, uint8_t *marks, size_t size)
 {
     uint8_t bytes[260];
@@ -88,13 +88,17 @@ size_t floor_load(const uint8_t *text, size_t len, uint8_t *page, uint8_t *marks
                 return 0;
             if (bytes[3] != 0)
                 break;
-            size_t offset = bytes[1] * 256 + bytes[2];
-            if (offset + n - 5 > size)
+            size_t offset = bytes[1] * 256 + bytes[2], here = n - 5;
+            if (offset >= size || here > size)
                 return 0;
+            if (here > size - offset)
+                here = size - offset;
             records++;
             if (write) {
-                memcpy(page + offset, bytes + 4, n - 5);
-                memset(marks + offset, 1, n - 5);
+                memcpy(page + offset, bytes + 4, here);
+                memset(marks + offset, 1, here);
+                memcpy(page, bytes + 4 + here, n - 5 - here);
+                memset(marks, 1, n - 5 - here);
             }
         }
         if (write)

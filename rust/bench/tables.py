@@ -25,6 +25,13 @@ CASES = [(what, size) for what in WORK if what != "load" for size in (16, 32, 25
 # How many bytes a chunk has where the text comes in chunks, and from which size on the bar holds.
 CHUNKS = (1, 7, 64, 512, 4096)
 LARGE = 512
+# Loads by where the records lie.
+LOADS = {
+    "load": "no extension record",
+    "segment": "behind a type 02",
+    "linear": "behind a type 04",
+    "across": "each across the end of segment 0",
+}
 REPETITIONS = 2
 
 
@@ -132,6 +139,16 @@ def show_growth():
     table(["Work"] + [f"{records:,} records" for records in sizes], rows)
 
 
+def show_loads(reading):
+    print(f"Instructions a record of 16 bytes, of a load of {FULL:,}, of the port:\n")
+    found = {what: instructions("port", what, 16, FULL) for what in LOADS}
+    if len({result for _, result in found.values()}) != 1:
+        sys.exit(f"loads: the results differ, {found}")
+    rows = [[LOADS[what], whole(n), f"{n / reading:.2f}"] for what, (n, _) in found.items()]
+    table(["Records", "Instructions", "of reading the text"], rows)
+    return max(n for n, _ in found.values())
+
+
 def in_chunks():
     """Instructions a record of 16 bytes by the size of a chunk, 0 for the whole text; all must come to the same results."""
     whole_text = instructions("port", "text", 16, FULL)
@@ -150,9 +167,9 @@ def show_chunks(chunks):
     table(["Bytes a chunk", "Instructions", "of the whole text's"], rows)
 
 
-def show_bars(who, count, chunks):
+def show_bars(who, count, loading, chunks):
     reading, writing = count["port", "text", 16], count["port", "object", 16]
-    bars = [("loading, as a multiple of reading", count["port", "load", 16] / reading, 2.5)]
+    bars = [("loading, as a multiple of reading", loading / reading, 2.5)]
     if "crate" in who:
         bars += [
             ("reading a text, % of the crate's as built here", 100 * reading / count["crate", "text", 16], 18),
@@ -176,9 +193,10 @@ def main():
     if MACHINE == "x86_64":
         show_times(who)
     show_growth()
+    loading = show_loads(count["port", "text", 16])
     chunks = in_chunks()
     show_chunks(chunks)
-    show_bars(who, count, chunks)
+    show_bars(who, count, loading, chunks)
 
 
 main()

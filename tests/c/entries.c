@@ -925,14 +925,6 @@ static void loads_in_windows(void)
     CHECK(load(doc, 0, 0, 0) == IHEX_REFUSED + IHEX_OUTSIDE_WINDOW);
     CHECK(not_loaded(0x12005, 0, 2));
 
-    /* beyond FFFF, and beyond 2^32 */
-    CHECK(load(":02FFFF00AABB9B\n:00000001FF\n", 0xFFFF, 2, 2) == IHEX_OK);
-    CHECK(loaded(1, "11", 0, "\xAA\xBB"));
-    CHECK(load(":02000004FFFFFC\n:02FFFF00AABB9B\n:00000001FF\n", 0xFFFFFFFF, 1, 1) == IHEX_REFUSED + IHEX_OUTSIDE_WINDOW);
-    CHECK(not_loaded(0, 0, 2));
-    CHECK(load(":02000004FFFFFC\n:01FFFF00AA57\n:00000001FF\n", 0xFFFFFFFF, 1, 1) == IHEX_OK);
-    CHECK(loaded(1, "1", 0, "\xAA"));
-
     /* the last statement stands; text behind the end is not read; no data at all */
     CHECK(load(":0100000011EE\n:0100000022DD\n:00000001FF\n:G\n", 0, 2, 2) == IHEX_OK);
     CHECK(loaded(2, "10", 0, "\x22"));
@@ -940,6 +932,58 @@ static void loads_in_windows(void)
     CHECK(loaded(0, "", 0, ""));
     CHECK(load(end_line, 0, 3, 3) == IHEX_OK);
     CHECK(loaded(0, "000", 0, ""));
+}
+
+/* whether a full page from a segment's base on has the record's bytes at its two ends, and nothing else */
+static int at_both_ends(void)
+{
+    size_t i;
+    if (a.value != 1 || b.value != 0 || line.value != 0 || page_.len != IHEX_MAX_PAGE || marks_.len != IHEX_MAX_PAGE)
+        return 0;
+    for (i = 0; i < IHEX_MAX_PAGE; i++) {
+        int stated = i == 0 || i == IHEX_MAX_PAGE - 1;
+        if (marks_.all[EDGE + i] != stated || page_.all[EDGE + i] != (i == 0 ? 0xBB : stated ? 0xAA : OLD))
+            return 0;
+    }
+    return guarded(&page_) && guarded(&marks_);
+}
+
+/* a record across offset FFFF: it wraps in a segment, and before any extension record; along a line it goes on */
+static void loads_across_segments(void)
+{
+    static const struct {
+        const char *text;
+        uint32_t base;
+        size_t line;
+    } wraps[] = {
+        {":02FFFF00AABB9B\n:00000001FF\n", 0, 1},
+        {":020000020000FC\n:02FFFF00AABB9B\n:00000001FF\n", 0, 2},
+        {":020000021200EA\n:02FFFF00AABB9B\n:00000001FF\n", 0x12000, 2},
+        {":02000002F0000C\n:02FFFF00AABB9B\n:00000001FF\n", 0xF0000, 2},
+        {":02000002FFFFFE\n:02FFFF00AABB9B\n:00000001FF\n", 0xFFFF0, 2},
+        {":020000040001F9\n:020000021200EA\n:02FFFF00AABB9B\n:00000001FF\n", 0x12000, 3},
+    };
+    size_t i;
+    for (i = 0; i < sizeof wraps / sizeof *wraps; i++) {
+        const char *text = wraps[i].text;
+        uint32_t base = wraps[i].base;
+        CHECK(load(text, base, IHEX_MAX_PAGE, IHEX_MAX_PAGE) == IHEX_OK);
+        CHECK(at_both_ends());
+        CHECK(load(text, base + 0xFFFF, 2, 2) == IHEX_REFUSED + IHEX_OUTSIDE_WINDOW);
+        CHECK(not_loaded(base, 0, wraps[i].line));
+        CHECK(load(text, base, 8, 8) == IHEX_REFUSED + IHEX_OUTSIDE_WINDOW);
+        CHECK(not_loaded(base + 0xFFFF, 0, wraps[i].line));
+    }
+    CHECK(load(":020000040000FA\n:02FFFF00AABB9B\n:00000001FF\n", 0xFFFF, 2, 2) == IHEX_OK);
+    CHECK(loaded(1, "11", 0, "\xAA\xBB"));
+    CHECK(load(":020000021200EA\n:020000040001F9\n:02FFFF00AABB9B\n:00000001FF\n", 0x1FFFF, 2, 2) == IHEX_OK);
+    CHECK(loaded(1, "11", 0, "\xAA\xBB"));
+    CHECK(load(":02000004FFFFFC\n:02FFFF00AABB9B\n:00000001FF\n", 0xFFFFFFFF, 1, 1) == IHEX_REFUSED + IHEX_OUTSIDE_WINDOW);
+    CHECK(not_loaded(0, 0, 2));
+    CHECK(load(":02000004FFFFFC\n:02FFFF00AABB9B\n:00000001FF\n", 0, 1, 1) == IHEX_REFUSED + IHEX_OUTSIDE_WINDOW);
+    CHECK(not_loaded(0xFFFFFFFF, 0, 2));
+    CHECK(load(":02000004FFFFFC\n:01FFFF00AA57\n:00000001FF\n", 0xFFFFFFFF, 1, 1) == IHEX_OK);
+    CHECK(loaded(1, "1", 0, "\xAA"));
 }
 
 /* refusals of lines, with their numbers, and of texts without an end */
@@ -1037,6 +1081,7 @@ int main(void)
     bad_lists();
     refused_objects();
     loads_in_windows();
+    loads_across_segments();
     refused_loads();
     windows();
     full_page();

@@ -36,7 +36,7 @@ use Rattle.loader.proofs.Reasons.{Walked, walked}
 
 pub examples : Examples
 unfolding load judge meaning number
-examples = record { sixth-place = refl; below-it = refl; no-wrap = refl }
+examples = record { sixth-place = refl; below-it = refl; wraps = refl }
 
 -- ---- reasons
 

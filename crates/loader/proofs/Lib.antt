@@ -9,3 +9,4 @@ pub mod Calls
 pub mod Meeting
 pub mod Passes
 pub mod Loads
+pub mod Segments

@@ -24,7 +24,7 @@ use Rattle.reader.specs.Text.{default-options, new-state, Next}
 use Rattle.reader.proofs.Texts.{lines-few, sayings-few, cut-behind}
 use Rattle.reader.specs.Along.{unread}
 use Rattle.loader.specs.declared.Base.{Base as CodeBase}
-use Rattle.loader.specs.declared.Base.the-variants.{FromStart}
+use Rattle.loader.specs.declared.Base.the-variants.{Segment}
 use Rattle.loader.specs.declared.Turn.{Turn}
 use Rattle.loader.specs.declared.Turn.the-variants.{On, Stop}
 use Rattle.loader.specs.declared.Walk.{Walk}
@@ -37,7 +37,7 @@ use Rattle.loader.proofs.Calls.{One}
 -- ---- the beginning
 
 abbrev pub start : Walk
-start = record { state = new-state default-options; base = FromStart }
+start = record { state = new-state default-options; base = Segment 0 }
 
 pub start-under-way : (text : List ℕ) → length text < 2 ^ 64 → Under-way text start
 start-under-way text h = record { options = refl; countable = omega (arith, lines-few text .0) }

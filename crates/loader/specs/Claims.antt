@@ -225,7 +225,7 @@ Load-unique =
 abbrev pub example : List ℕ
 example = text ":020000021200EA" ++ (LF ∷ text ":010005007783") ++ (LF ∷ text ":00000001FF") ++ (LF ∷ [])
 
--- a record that goes on beyond the offset FFFF, with no extension ahead of it
+-- a record that goes on behind the offset FFFF, with no extension ahead of it
 abbrev pub beyond : List ℕ
 beyond = text ":02FFFF00AABB9B" ++ (LF ∷ text ":00000001FF")
 
@@ -237,4 +237,4 @@ pub record Examples : Type 0 where
         marks = 0 ∷ 0 ∷ 0 ∷ 0 ∷ 0 ∷ 1 ∷ 0 ∷ 0 ∷ [];
       }
   pub below-it : stopping example 0x12006 (replicate 2 9) (replicate 2 7) ≡ some (by 2 (refused (outside-window 0x12005) 2))
-  pub no-wrap : placements beyond ≡ record { address = 0xFFFF; byte = 0xAA } ∷ record { address = 0x10000; byte = 0xBB } ∷ []
+  pub wraps : placements beyond ≡ record { address = 0xFFFF; byte = 0xAA } ∷ record { address = 0; byte = 0xBB } ∷ []

@@ -14,13 +14,13 @@ use Rattle.reader.specs.Row.{Numbered, is-end, through-stop}
 use Rattle.reader.specs.Text.{default-options}
 use Rattle.reader.specs.Along.{unread, Countable}
 use Rattle.loader.specs.declared.Base.{Base as CodeBase}
-use Rattle.loader.specs.declared.Base.the-variants.{FromStart, Segment, Linear}
+use Rattle.loader.specs.declared.Base.the-variants.{Segment, Linear}
 use Rattle.loader.specs.declared.Reach.{Reach}
 use Rattle.loader.specs.declared.Reach.the-variants as reach
 use Rattle.loader.specs.declared.Walk.{Walk}
 use Rattle.loader.specs.declared.Turn.{Turn}
 use Rattle.loader.specs.declared.Turn.the-variants.{On, Stop}
-use Rattle.loader.specs.Placing.{Placement, Base, from-start, segment, linear, base-behind, Action, step-at, steps, stated}
+use Rattle.loader.specs.Placing.{Placement, Base, segment, linear, base-behind, Action, step-at, steps, stated}
 unfoldable pub use Rattle.loader.specs.Placing.{stated-by}
 use Rattle.loader.specs.Load.{Tally, accepted, by, within, outside, decision, verdict, painted}
 use Rattle.loader.specs.Told.{told}
@@ -28,7 +28,6 @@ use Rattle.loader.specs.Told.{told}
 -- ---- one record
 
 abbrev pub based : CodeBase → Base
-based FromStart = from-start
 based (Segment number) = segment number
 based (Linear number) = linear number
 

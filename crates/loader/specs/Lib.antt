@@ -3,3 +3,4 @@ pub mod Load
 pub mod Told
 pub mod Claims
 pub mod Helpers
+pub mod Segments

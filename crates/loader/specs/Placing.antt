@@ -14,21 +14,26 @@ pub record Placement : Type 0 where
 
 -- ---- bases
 
--- what the latest type 02 or 04 record set, if there was one
+-- the base in force, and whether bytes wrap in a segment or lie along one line
 pub data Base : Type 0 where
-  from-start : Base
-  segment : (number : ℕ) → Base
-  linear : (number : ℕ) → Base
+  from-segment : (base : ℕ) → Base
+  from-linear : (base : ℕ) → Base
 
-unfoldable pub base-of : Base → ℕ
-base-of from-start = 0
-base-of (segment number) = 16 * number
-base-of (linear number) = 65536 * number
+-- type 02 sets 16 times its number, type 04 65,536 times its number
+abbrev pub segment : (number : ℕ) → Base
+segment number = from-segment (16 * number)
 
--- byte i of a data record lies at (base + offset + i) modulo 2^32
+abbrev pub linear : (number : ℕ) → Base
+linear number = from-linear (65536 * number)
+
+-- before any such record: the segment rule with base 0
+abbrev pub from-start : Base
+from-start = from-segment 0
+
+-- byte i of a data record: in a segment the offset wraps at 65,536, along a line the sum wraps at 2^32
 unfoldable pub byte-address : Base → (offset i : ℕ) → ℕ
-unfolding base-of
-byte-address base offset i = (base-of base + offset + i) % 2 ^ 32
+byte-address (from-segment base) offset i = base + (offset + i) % 65536
+byte-address (from-linear base) offset i = (base + offset + i) % 2 ^ 32
 
 -- the bytes of a data record from byte i on, each at its address
 unfoldable pub placed : Base → (offset i : ℕ) → List ℕ → List Placement

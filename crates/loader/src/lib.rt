@@ -10,7 +10,7 @@ ghost use Prim.Native.Nat.{_+_, _^_, _≤_, _<_};
 ghost use lib.ListN.{length, replicate};
 ghost use Rattle.record.specs.Record.{meant};
 ghost use Rattle.reader.specs.Text.{new-state, default-options};
-ghost use Rattle.loader.specs.Placing.{base-of, byte-address, placed};
+ghost use Rattle.loader.specs.Placing.{byte-address, placed};
 ghost use Rattle.loader.specs.Load.{within, outside, decision, verdict, unfit, no-records, placements, steps-of};
 ghost use Rattle.loader.specs.Told.{told, Load};
 ghost use Rattle.loader.specs.Helpers.{based, reached, Painted, Fitting, stated-by, Lies-in, Behind, ahead-of, Under-way, Few, Met, Judged, Accepts, Ready, Wrote};
@@ -31,9 +31,8 @@ pub enum Loading {
     Refused(LoaderError, usize),
 }
 
-// What the latest type 02 or 04 record set.
+// The number of the latest type 02 or 04 record; before any, segment 0.
 enum Base {
-    FromStart,
     Segment(u16),
     Linear(u16),
 }
@@ -56,23 +55,16 @@ enum Turn {
     Stop(Loading),
 }
 
-fn base_of(base: Base) -> u32
-    ensures { λ r. ⌜ r ≡ base-of (based base) ⌝ }
-{
-    match base {
-        Base::FromStart => 0,
-        Base::Segment(number) => 16 * (number as u32),
-        Base::Linear(number) => 65536 * (number as u32),
-    }
-}
-
-// The address of byte i of a data record.
+// The address of byte i of a data record: in a segment the offset wraps at 65,536, along a line the sum wraps at 2^32.
 fn byte_address(base: Base, offset: u16, i: usize) -> u32
     requires { ⌜ i < 65536 ⌝ }
     ensures { λ r. ⌜ r ≡ byte-address (based base) offset i ⌝ }
 {
-    let start = base_of(base) as u64;
-    ((start + (offset as u64) + (i as u64)) % 4294967296) as u32
+    let reach = (offset as u32) + (i as u32);
+    match base {
+        Base::Segment(number) => 16 * (number as u32) + reach % 65536,
+        Base::Linear(number) => std::num::wrapping_add_u32(65536 * (number as u32), reach),
+    }
 }
 
 // The base behind a record.
@@ -199,11 +191,11 @@ fn judge_next(
 
 // At the beginning of a text.
 fn begin() -> Walk
-    ensures { λ r. ⌜ r ≡ record { state = new-state default-options; base = Base.FromStart } ⌝ }
+    ensures { λ r. ⌜ r ≡ record { state = new-state default-options; base = Base.Segment 0 } ⌝ }
 {
     Walk {
         state: State::new(),
-        base: Base::FromStart,
+        base: Base::Segment(0),
     }
 }
 

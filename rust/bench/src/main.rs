@@ -2,10 +2,13 @@
 //!
 //!     bench WHO WHAT BYTES RECORDS REPETITIONS
 //!     bench port chunks BYTES RECORDS REPETITIONS CHUNK
+//!     bench port segment|linear|across BYTES RECORDS REPETITIONS
 //!
 //! WHO is crate, port, face or floor. WHAT is record or text (reading), line or object (writing), or
 //! load. BYTES are a record's payload, RECORDS how many there are in a text, or calls a repetition.
-//! `chunks` reads the text in chunks of CHUNK bytes, to the number that `text` prints.
+//! `chunks` reads the text in chunks of CHUNK bytes, to the number that `text` prints. `segment` and
+//! `linear` load it behind a type 02 and a type 04, `across` so many records across a segment's end,
+//! each to the number that `load` prints.
 //! It prints a number that comes from the results, the same for all, and the nanoseconds taken.
 
 mod floor;
@@ -25,6 +28,10 @@ pub struct Given {
     text: String,
     /// Its first line.
     line: String,
+    /// The text behind a type 02, behind a type 04, and with every record across its segment's end.
+    segment: String,
+    linear: String,
+    across: String,
     of_crate: Vec<original::Record>,
     of_face: Vec<ihex::Record>,
     /// The records as the C entry points take them.
@@ -59,6 +66,9 @@ fn given(n: usize, records: usize, chunk: usize) -> Given {
     Given {
         n,
         records,
+        segment: format!(":020000020000FC\n{text}"),
+        linear: format!(":020000040000FA\n{text}"),
+        across: across(n, &pool),
         pool,
         out: vec![0; text.len()],
         text,
@@ -70,6 +80,18 @@ fn given(n: usize, records: usize, chunk: usize) -> Given {
         page: vec![0; 65_536],
         marks: vec![0; 65_536],
     }
+}
+
+/// A text of these payloads, n bytes each, every one across the end of segment 0 by half of it.
+fn across(n: usize, pool: &[u8]) -> String {
+    let offset = (65_536 - n / 2) as u16;
+    let data = |value: &[u8]| original::Record::Data {
+        offset,
+        value: value.to_vec(),
+    };
+    let mut records: Vec<_> = pool.chunks(n.max(1)).map(data).collect();
+    records.push(original::Record::EndOfFile);
+    original::create_object_file_representation(&records).expect("a good object")
 }
 
 /// A piece of work, and the number that comes from its result.
@@ -122,9 +144,12 @@ fn crate_load(given: &mut Given) -> u64 {
     given.marks.fill(0);
     for record in read.unwrap_or_default() {
         if let original::Record::Data { offset, value } = record {
-            let places = usize::from(offset)..usize::from(offset) + value.len();
-            given.page[places.clone()].copy_from_slice(&value);
-            given.marks[places].fill(1);
+            let offset = usize::from(offset);
+            let (here, wrapped) = value.split_at(value.len().min(given.page.len() - offset));
+            for (from, part) in [(offset, here), (0, wrapped)] {
+                given.page[from..from + part.len()].copy_from_slice(part);
+                given.marks[from..from + part.len()].fill(1);
+            }
             loaded += 1;
         }
     }
@@ -256,19 +281,26 @@ mod by_port {
         value
     }
 
-    pub fn load(given: &mut Given) -> u64 {
+    fn loaded(text: &str, page: &mut [u8], marks: &mut [u8]) -> u64 {
         let (mut line, mut a, mut b) = (0, 0, 0);
-        let (page, marks) = (&mut given.page, &mut given.marks);
-        ihex_sys::load(
-            given.text.as_bytes(),
-            0,
-            page,
-            marks,
-            &mut line,
-            &mut a,
-            &mut b,
-        );
+        ihex_sys::load(text.as_bytes(), 0, page, marks, &mut line, &mut a, &mut b);
         a
+    }
+
+    pub fn load(given: &mut Given) -> u64 {
+        loaded(&given.text, &mut given.page, &mut given.marks)
+    }
+
+    pub fn segment(given: &mut Given) -> u64 {
+        loaded(&given.segment, &mut given.page, &mut given.marks)
+    }
+
+    pub fn linear(given: &mut Given) -> u64 {
+        loaded(&given.linear, &mut given.page, &mut given.marks)
+    }
+
+    pub fn across(given: &mut Given) -> u64 {
+        loaded(&given.across, &mut given.page, &mut given.marks)
     }
 }
 
@@ -326,6 +358,9 @@ fn work(who: &str, what: &str) -> Option<Work> {
         ("port", "line") => by_port::line,
         ("port", "object") => by_port::object,
         ("port", "load") => by_port::load,
+        ("port", "segment") => by_port::segment,
+        ("port", "linear") => by_port::linear,
+        ("port", "across") => by_port::across,
         ("floor", "record") => by_floor::record,
         ("floor", "text") => by_floor::text,
         ("floor", "line") => by_floor::line,
@@ -337,7 +372,8 @@ fn work(who: &str, what: &str) -> Option<Work> {
 
 const USAGE: &str = "\
 usage: bench crate|port|face|floor record|text|line|object|load BYTES RECORDS REPETITIONS
-       bench port chunks BYTES RECORDS REPETITIONS CHUNK";
+       bench port chunks BYTES RECORDS REPETITIONS CHUNK
+       bench port segment|linear|across BYTES RECORDS REPETITIONS";
 
 fn main() {
     let words: Vec<String> = env::args().skip(1).collect();

@@ -211,16 +211,58 @@ fn loads_are_refused_and_change_nothing() {
         run("\n:\n", 0, 1, 1),
         Err(LoadError::Line(LineError { line: 2, error }))
     );
-    let crossing = ":02FFFF00AABB9B\n:00000001FF\n";
-    let outside = LoadError::OutsideWindow {
-        line: 1,
-        address: 0x1_0000,
-    };
-    assert_eq!(run(crossing, 0xFFFF, 1, 1), Err(outside));
+}
+
+/// What a record of two bytes across offset FFFF, behind these lines, comes to in a page: the addresses
+/// of its marks, or the address outside.
+fn crossing(ahead: &str, first: u32, size: usize) -> Result<Vec<u32>, u32> {
+    let text = format!("{ahead}:02FFFF00AABB9B\n:00000001FF\n");
+    let (mut page, mut marks) = (vec![0xEE; size], vec![0xEE; size]);
+    match load(&text, first, &mut page, &mut marks) {
+        Ok(loaded) => {
+            assert_eq!(loaded.data_records, 1);
+            Ok((first..)
+                .zip(marks)
+                .filter(|&(_, mark)| mark == 1)
+                .map(|(at, _)| at)
+                .collect())
+        }
+        Err(LoadError::OutsideWindow { address, .. }) => {
+            assert!(page.iter().chain(&marks).all(|&byte| byte == 0xEE));
+            Err(address)
+        }
+        Err(other) => panic!("{other}"),
+    }
+}
+
+#[test]
+fn segments_wrap() {
+    let full = 65_536;
+    for (ahead, base) in [
+        ("", 0),
+        (":020000020000FC\n", 0),
+        (":020000021200EA\n", 0x1_2000),
+        (":02000002F0000C\n", 0xF_0000),
+        (":02000002FFFFFE\n", 0xF_FFF0),
+        (":020000040001F9\n:020000021200EA\n", 0x1_2000),
+    ] {
+        let end = base + 0xFFFF;
+        assert_eq!(crossing(ahead, base, full), Ok(vec![base, end]), "{ahead}");
+        assert_eq!(crossing(ahead, end, 2), Err(base), "{ahead}");
+        assert_eq!(crossing(ahead, base, 8), Err(end), "{ahead}");
+    }
+}
+
+#[test]
+fn lines_do_not_wrap_at_a_segment() {
+    let two = |at| Ok(vec![at, at + 1]);
+    assert_eq!(crossing(":020000040000FA\n", 0xFFFF, 2), two(0xFFFF));
     assert_eq!(
-        run(crossing, 0xFFFF, 2, 2).map(|loaded| loaded.data_records),
-        Ok(1)
+        crossing(":020000021200EA\n:020000040001F9\n", 0x1_FFFF, 2),
+        two(0x1_FFFF)
     );
+    assert_eq!(crossing(":02000004FFFFFC\n", u32::MAX, 1), Err(0));
+    assert_eq!(crossing(":02000004FFFFFC\n", 0, 1), Err(u32::MAX));
 }
 
 #[test]

@@ -519,6 +519,9 @@ pub fn lent_list(chance: &mut Chance) -> ObjectCase {
     }
 }
 
+/// The places of the longest page, and of a segment.
+const FULL: usize = 65_536;
+
 /// Where a page is to show memory: from which address on, how many places, and how many there could be.
 struct Window {
     first: u32,
@@ -527,17 +530,21 @@ struct Window {
 }
 
 fn window(chance: &mut Chance) -> Window {
-    let first = match chance.under(5) {
+    let first = match chance.under(8) {
         0 => 0,
         1 => u32::MAX - chance.under(300) as u32,
         2 => (chance.number() as u32) & 0xFFFF_0000,
-        3 => 16 * u32::from(chance.number() as u16) + chance.under(64) as u32,
+        3 => 16 * u32::from(chance.number() as u16),
+        4 => 16 * u32::from(chance.number() as u16) + chance.under(64) as u32,
+        // around the ends of segment 0 and of 1 MiB
+        5 => 0xFFFF - chance.under(400) as u32,
+        6 => 0xF_FFFF - chance.under(400) as u32,
         _ => chance.number() as u32,
     };
-    let room = ((1u64 << 32) - u64::from(first)).min(65_536) as usize;
+    let room = ((1u64 << 32) - u64::from(first)).min(FULL as u64) as usize;
     let size = match chance.under(64) {
-        0 => room,
-        n if n < 8 => chance.under(4),
+        n if n < 4 => room,
+        n if n < 11 => chance.under(4),
         _ => chance.from_to(200, 700).min(room),
     };
     Window { first, size, room }
@@ -547,12 +554,28 @@ fn line_end(chance: &mut Chance) -> &'static [u8] {
     chance.one_of(&["\n", "\r\n", "\n\n"]).as_bytes()
 }
 
-/// Puts the line of a base near the window from below, and says which base that is.
+/// A segment that ends in the window, or one that begins at the window or a little below it.
+fn segment(window: &Window, chance: &mut Chance) -> u16 {
+    let first = window.first as usize;
+    let end = first + chance.under(window.size + 1);
+    let begin = match chance.under(4) {
+        _ if window.size == FULL && !chance.once_in(16) => first,
+        0 | 1 if end >= FULL => end - FULL,
+        0 | 2 => first,
+        _ => first.saturating_sub(chance.under(1024)),
+    };
+    (begin / 16) as u16
+}
+
+/// Puts the line of a base near the window, and says which base that is. Ahead of all others there
+/// may be none.
 fn put_base(text: &mut Vec<u8>, window: &Window, chance: &mut Chance) -> u32 {
     let first = window.first;
+    if text.is_empty() && first < 1 << 16 && chance.once_in(2) {
+        return 0;
+    }
     let (kind, number) = if first < 1 << 20 && chance.once_in(2) {
-        let below = (first / 16).saturating_sub(chance.under(64) as u32);
-        (2, below as u16)
+        (2, segment(window, chance))
     } else {
         (4, (first >> 16) as u16)
     };
@@ -575,7 +598,11 @@ fn put_data(text: &mut Vec<u8>, window: &Window, base: u32, chance: &mut Chance)
         0
     };
     let place = u64::from(window.first) + chance.under(slack + 1) as u64 + stray as u64;
-    let offset = place.wrapping_sub(u64::from(base)) as u16;
+    let offset = if chance.once_in(if window.size == FULL { 3 } else { 40 }) {
+        (FULL - chance.under(len + 1)) as u16
+    } else {
+        place.wrapping_sub(u64::from(base)) as u16
+    };
     text.extend(line_of(0, offset, &chance.bytes(len)));
     text.extend(line_end(chance));
 }

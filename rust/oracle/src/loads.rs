@@ -55,14 +55,51 @@ impl Case for LoadCase {
 /// What a load answers: its code and values, and the number of the line.
 pub type Answer = (u32, u64, u64, usize);
 
-/// The model: all lines are placed first, and page and marks change on acceptance only.
+/// The latest extension record.
+#[derive(Clone, Copy)]
+pub enum Latest {
+    None,
+    Segment(u16),
+    Linear(u16),
+}
+
+/// Where a byte of a data record lies, from the record's offset and the byte's index.
+pub type Placing = fn(Latest, u64, u64) -> u64;
+
+/// Intel's rule: a segment's offset wraps at 64K, a linear address at 4G. Before any extension
+/// record, segment 0.
+pub fn intel(latest: Latest, offset: u64, i: u64) -> u64 {
+    match latest {
+        Latest::None => (offset + i) & 0xFFFF,
+        Latest::Segment(n) => (u64::from(n) << 4) + ((offset + i) & 0xFFFF),
+        Latest::Linear(n) => ((u64::from(n) << 16) + offset + i) & 0xFFFF_FFFF,
+    }
+}
+
+/// The rule without segments: one sum for every base.
+fn flat(latest: Latest, offset: u64, i: u64) -> u64 {
+    let base = match latest {
+        Latest::None => 0,
+        Latest::Segment(n) => u64::from(n) << 4,
+        Latest::Linear(n) => u64::from(n) << 16,
+    };
+    (base + offset + i) & 0xFFFF_FFFF
+}
+
+/// The model: a load by Intel's rule.
 pub fn model(case: &LoadCase, page: &mut [u8], marks: &mut [u8]) -> Answer {
+    placed_by(intel, case, page, marks)
+}
+
+/// A load by a rule of placing: all lines are placed first, and page and marks change on acceptance
+/// only.
+pub fn placed_by(placing: Placing, case: &LoadCase, page: &mut [u8], marks: &mut [u8]) -> Answer {
     let first = u64::from(case.first);
     let size = page.len() as u64;
     if page.len() != marks.len() || size > 65_536 || first + size > 1 << 32 {
         return (REFUSED + 16, 0, 0, 0);
     }
-    let mut base = 0u64;
+    let mut latest = Latest::None;
     let mut records = 0;
     let mut stated = Vec::new();
     for (answer, place) in rows(&case.text, STOP_AFTER_FIRST_ERROR | STOP_AFTER_EOF) {
@@ -74,15 +111,15 @@ pub fn model(case: &LoadCase, page: &mut [u8], marks: &mut [u8]) -> Answer {
             Ok(Record::Data { offset, value }) => {
                 records += 1;
                 for (i, byte) in value.into_iter().enumerate() {
-                    let address = (base + u64::from(offset) + i as u64) % (1 << 32);
+                    let address = placing(latest, offset.into(), i as u64);
                     if address < first || address >= first + size {
                         return (REFUSED + 17, address, 0, place.line);
                     }
                     stated.push(((address - first) as usize, byte));
                 }
             }
-            Ok(Record::ExtendedSegmentAddress(n)) => base = 16 * u64::from(n),
-            Ok(Record::ExtendedLinearAddress(n)) => base = 65_536 * u64::from(n),
+            Ok(Record::ExtendedSegmentAddress(n)) => latest = Latest::Segment(n),
+            Ok(Record::ExtendedLinearAddress(n)) => latest = Latest::Linear(n),
             Ok(Record::StartSegmentAddress { .. }) | Ok(Record::StartLinearAddress(_)) => {}
             Ok(Record::EndOfFile) => {
                 marks.fill(0);
@@ -97,6 +134,16 @@ pub fn model(case: &LoadCase, page: &mut [u8], marks: &mut [u8]) -> Answer {
     (REFUSED + 13, 0, 0, 0)
 }
 
+/// Whether the load would be another without segments.
+fn rests_on_segments(case: &LoadCase) -> bool {
+    let run = |placing| {
+        let (mut page, mut marks) = (vec![0; case.page], vec![0; case.marks]);
+        let answer = placed_by(placing, case, &mut page, &mut marks);
+        (answer, page, marks)
+    };
+    run(intel) != run(flat)
+}
+
 /// A page and marks to load into, and copies of them on which the model has run, with its answer.
 fn lent(case: &LoadCase) -> (Lent, Lent, Vec<u8>, Vec<u8>, Answer) {
     let (page, marks) = (Lent::new(case.page), Lent::new(case.marks));
@@ -108,6 +155,9 @@ fn lent(case: &LoadCase) -> (Lent, Lent, Vec<u8>, Vec<u8>, Answer) {
 pub fn port(port: &dyn Port, case: &LoadCase) -> Option<String> {
     let (mut page, mut marks, held, marked, should) = lent(case);
     seen::note(seen::LOADER, should.0);
+    if rests_on_segments(case) {
+        seen::note(seen::SEGMENTS, should.0);
+    }
     let text = Lent::holding(&case.text);
     let mut numbers = Numbers::default();
     let third = numbers.values()[2];

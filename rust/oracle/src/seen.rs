@@ -4,8 +4,8 @@ use std::sync::atomic::{AtomicU64, Ordering};
 
 use ihex_sys::{BAD_RECORD, DONE, REFUSED, USED_UP};
 
-/// The entry points, and the codes that each can answer.
-const ANSWERS: [(&str, &[u32]); 7] = [
+/// The entry points, and the codes that each can answer; and those of loads that rest on segments.
+const ANSWERS: [(&str, &[u32]); 8] = [
     (
         "record reader",
         &[
@@ -38,6 +38,7 @@ const ANSWERS: [(&str, &[u32]); 7] = [
             0, 1, 2, 3, 4, 5, 257, 258, 259, 260, 261, 262, 263, 264, 265, 266, 274, DONE,
         ],
     ),
+    ("loader, across a segment's end", &[0, 273]),
 ];
 
 pub const RECORD_READER: usize = 0;
@@ -47,12 +48,13 @@ pub const OBJECT_WRITER: usize = 3;
 pub const LOADER: usize = 4;
 pub const CHUNK_READER: usize = 5;
 pub const CHUNK_END: usize = 6;
+pub const SEGMENTS: usize = 7;
 
 #[allow(clippy::declare_interior_mutable_const)]
 const NONE: AtomicU64 = AtomicU64::new(0);
 #[allow(clippy::declare_interior_mutable_const)]
 const ROW: [AtomicU64; 32] = [NONE; 32];
-static SEEN: [[AtomicU64; 32]; 7] = [ROW; 7];
+static SEEN: [[AtomicU64; 32]; 8] = [ROW; 8];
 
 /// The entry point that is given a chunk, or that ends a text in chunks.
 pub fn entry_of(chunk: Option<&[u8]>) -> usize {

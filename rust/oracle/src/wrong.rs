@@ -5,6 +5,7 @@ use std::io;
 
 use ihex_sys::REFUSED;
 
+use crate::loads::{intel, placed_by, Latest, LoadCase, Placing};
 use crate::port::{Port, Real};
 use crate::replay::Program;
 use crate::stored::Given;
@@ -122,6 +123,31 @@ impl Port for Load {
     }
 }
 
+/// A loader that places bytes by another rule.
+struct Placed(Placing);
+
+impl Port for Placed {
+    fn load(
+        &self,
+        text: &[u8],
+        first: u32,
+        page: &mut [u8],
+        marks: &mut [u8],
+        line: &mut usize,
+        (a, b): (&mut u64, &mut u64),
+    ) -> u32 {
+        let case = LoadCase {
+            text: text.to_vec(),
+            first,
+            page: page.len(),
+            marks: marks.len(),
+        };
+        let (code, x, y, n) = placed_by(self.0, &case, page, marks);
+        (*a, *b, *line) = (x, y, n);
+        code
+    }
+}
+
 /// Every wrong port.
 pub fn all() -> Vec<Wrong> {
     [
@@ -133,6 +159,7 @@ pub fn all() -> Vec<Wrong> {
         records(),
         objects(),
         loads(),
+        placings(),
     ]
     .into_iter()
     .flatten()
@@ -336,6 +363,40 @@ fn loads() -> Vec<Wrong> {
                 marks.fill(0);
             }
         }),
+    ]
+}
+
+fn placings() -> Vec<Wrong> {
+    let placed = |name, placing| -> Wrong { (name, Box::new(Placed(placing))) };
+    vec![
+        placed(
+            "goes on beyond a segment's end",
+            |latest, offset, i| match latest {
+                Latest::Segment(n) => (u64::from(n) << 4) + offset + i,
+                _ => intel(latest, offset, i),
+            },
+        ),
+        placed(
+            "wraps at 64K along a line too",
+            |latest, offset, i| match latest {
+                Latest::Linear(n) => (u64::from(n) << 16) + ((offset + i) & 0xFFFF),
+                _ => intel(latest, offset, i),
+            },
+        ),
+        placed(
+            "takes the sum before any extension record",
+            |latest, offset, i| match latest {
+                Latest::None => offset + i,
+                _ => intel(latest, offset, i),
+            },
+        ),
+        placed(
+            "wraps a segment at 1 MiB",
+            |latest, offset, i| match latest {
+                Latest::Segment(_) => intel(latest, offset, i) & 0xF_FFFF,
+                _ => intel(latest, offset, i),
+            },
+        ),
     ]
 }
 

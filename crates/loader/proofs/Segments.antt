@@ -1,0 +1,232 @@
+-- The claims of `specs/Segments.antt`, proved: the base in force is the latest one, each byte lies by its index, and an offset that stays
+-- under 65,536 is added to a segment's base with nothing lost.
+-- Assumes nothing.
+use mathlib.Core.Path.{_≡_, refl, sym, ap, _∙_}
+use mathlib.Core.Logic.{_↔_, _⊎_, inl, inr}
+use Prim.Native.Nat.{ℕ, zero, suc, _+_, _*_, _-_, _%_, _^_, _≤_, _<_}
+use native.Mathlib.Nat.{zero-add, add-zero}
+use native.Mathlib.Omega.{arith}
+use mathlib.Core.Bool.{Bool, true, false, _&&_}
+use mathlib.Core.Option.{Option, none, some}
+use mathlib.Core.List.{List, [], _∷_, _++_}
+use lib.ListN.{length, getD}
+use Rattle.record.specs.Common.{if_then_else_, Every}
+use Rattle.record.specs.Digits.{number}
+use Rattle.record.specs.Line.{Said, says, wrong, judge}
+use Rattle.record.specs.Meaning.{Meaning, data-at, end-of-file, extended-segment, start-segment, extended-linear, start-linear, meaning}
+use Rattle.record.specs.Written.{Sayable}
+use Rattle.record.proofs.Writing.{said-is-sayable}
+use Rattle.reader.specs.Lines.{lines}
+use Rattle.reader.specs.Row.{Numbered, on, sayings, is-end, through-stop, row}
+use Rattle.reader.specs.Text.{default-options}
+use Rattle.loader.specs.Placing.{Placement, Base, from-segment, from-linear, segment, linear, from-start, byte-address, placed, stated-by, base-behind, Action, step-at, steps, stated}
+use Rattle.loader.specs.Load.{steps-of}
+use Rattle.loader.specs.Claims.{record-on, sets, latest, in-force, states}
+use Rattle.loader.specs.Segments.{No-extension, Latest, Lie, Intel, Intel-rule, flat, flat-steps, In-segment, In-segments, Record-unchanged, Text-unchanged, Examples}
+
+-- ---- each byte by its index
+
+length-placed : (base : Base) (offset i : ℕ) (bytes : List ℕ) → length (placed base offset i bytes) ≡ length bytes
+unfolding placed
+length-placed base offset i [] = refl
+length-placed base offset i (b ∷ bytes) = ap suc (length-placed base offset (suc i) bytes)
+
+placed-at : (base : Base) (offset i : ℕ) (bytes : List ℕ) (j : ℕ) → j < length bytes
+    → getD (placed base offset i bytes) j (record { address = 0; byte = 0 }) ≡ record { address = byte-address base offset (i + j); byte = getD bytes j 0 }
+unfolding placed
+placed-at base offset i [] j h = absurd (omega arith)
+placed-at base offset i (b ∷ bytes) zero h = rw (add-zero i)
+placed-at base offset i (b ∷ bytes) (suc j) h = let e : i + suc j ≡ suc i + j = omega arith in rw e (placed-at base offset (suc i) bytes j (omega arith))
+
+-- ---- the latest base
+
+-- a line that is no extension sets nothing
+sets-none : (l : List ℕ) (o : Option Meaning) → record-on l ≡ o → No-extension l → sets o ≡ none
+unfolding sets
+sets-none l none e x = refl
+sets-none l (some (data-at offset bytes)) e x = refl
+sets-none l (some end-of-file) e x = refl
+sets-none l (some (extended-segment n)) e x = absurd (x n .0 e)
+sets-none l (some (start-segment cs ip)) e x = refl
+sets-none l (some (extended-linear n)) e x = absurd (x n .1 e)
+sets-none l (some (start-linear n)) e x = refl
+
+no-extension : (l : List ℕ) → sets (record-on l) ≡ none → No-extension l
+unfolding sets
+no-extension l e n = ((λ q. apart _ (sym e ∙ ap sets q)), (λ q. apart _ (sym e ∙ ap sets q)))
+  where
+    apart : (b : Base) → ¬ (none ≡ some b)
+    apart b q = let z : _≡_ {A = ℕ} 0 1 = cc in omega arith
+
+none-latest : (ls : List (List ℕ)) → Every No-extension ls → latest ls ≡ none
+unfolding latest
+none-latest [] e = refl
+none-latest (l ∷ ls) (x, xs) = rw (none-latest ls xs, sets-none l (record-on l) refl x)
+
+latest-is : (before : List (List ℕ)) (l : List ℕ) (after : List (List ℕ)) (b : Base) → Every No-extension after → sets (record-on l) ≡ some b
+    → latest (before ++ (l ∷ after)) ≡ some b
+unfolding latest
+latest-is [] l after b x e = rw (none-latest after x, e)
+latest-is (k ∷ before) l after b x e = rw (latest-is before l after b x e)
+
+in-force-is : (ahead : List (List ℕ)) (m : Meaning) (b : Base) → Latest ahead m → sets (some m) ≡ some b → in-force ahead ≡ b
+unfolding in-force
+in-force-is ahead m b x e = rw (x .whole, latest-is (x .before) (x .line) (x .after) b (x .none-later) (ap sets (x .there) ∙ e))
+
+-- ---- Intel's rule
+
+-- bytes lie by any rule that has the addresses of the base in force
+lie : (ahead : List (List ℕ)) (b : Base) (rule : (drlo dri : ℕ) → ℕ) → in-force ahead ≡ b → ((drlo dri : ℕ) → byte-address b drlo dri ≡ rule drlo dri) → Lie ahead rule
+unfolding states stated-by
+lie ahead b rule e r drlo bytes =
+    rw e (length-placed b drlo 0 bytes, λ dri h. rw (placed-at b drlo 0 bytes dri h, zero-add dri, r drlo dri))
+
+abbrev One-holds : List (List ℕ) → Type 0
+One-holds ahead = ((usba : ℕ) × Latest ahead (extended-segment usba)) ⊎ (((ulba : ℕ) × Latest ahead (extended-linear ulba)) ⊎ Every No-extension ahead)
+
+more : (l : List ℕ) (ls : List (List ℕ)) (m : Meaning) → Latest ls m → Latest (l ∷ ls) m
+more l ls m x = record { before = l ∷ x .before; line = x .line; after = x .after; whole = ap (λ (k : List (List ℕ)). l ∷ k) (x .whole); there = x .there; none-later = x .none-later }
+
+first : (l : List ℕ) (ls : List (List ℕ)) (m : Meaning) → record-on l ≡ some m → Every No-extension ls → Latest (l ∷ ls) m
+first l ls m e x = record { before = []; line = l; after = ls; whole = refl; there = e; none-later = x }
+
+one-holds : (ahead : List (List ℕ)) → One-holds ahead
+unfolding sets
+one-holds [] = inr (inr tt)
+one-holds (l ∷ ls) = go (one-holds ls)
+  where
+    other : Every No-extension ls → (o : Option Meaning) → record-on l ≡ o → One-holds (l ∷ ls)
+    other x none e = inr (inr (no-extension l (ap sets e), x))
+    other x (some (extended-segment n)) e = inl (n, first l ls (extended-segment n) e x)
+    other x (some (extended-linear n)) e = inr (inl (n, first l ls (extended-linear n) e x))
+    other x (some (data-at offset bytes)) e = inr (inr (no-extension l (ap sets e), x))
+    other x (some end-of-file) e = inr (inr (no-extension l (ap sets e), x))
+    other x (some (start-segment cs ip)) e = inr (inr (no-extension l (ap sets e), x))
+    other x (some (start-linear n)) e = inr (inr (no-extension l (ap sets e), x))
+
+    go : One-holds ls → One-holds (l ∷ ls)
+    go (inl (n, x)) = inl (n, more l ls (extended-segment n) x)
+    go (inr (inl (n, x))) = inr (inl (n, more l ls (extended-linear n) x))
+    go (inr (inr x)) = other x (record-on l) refl
+
+pub intel-rule : Intel-rule
+unfolding sets in-force byte-address
+intel-rule ahead =
+    record {
+      in-segment = λ usba x. lie ahead (segment usba) _ (in-force-is ahead (extended-segment usba) (segment usba) x refl) (λ drlo dri. omega arith);
+      along-line = λ ulba x. lie ahead (linear ulba) _ (in-force-is ahead (extended-linear ulba) (linear ulba) x refl) (λ drlo dri. omega arith);
+      from-zero = λ x. lie ahead from-start _ (rw (none-latest ahead x)) (λ drlo dri. omega arith);
+      one-holds = one-holds ahead;
+    }
+
+-- ---- without segments
+
+-- an offset that stays under 65,536 is added with nothing lost
+unwrapped : (base offset i : ℕ) (bytes : List ℕ) → base + 65536 ≤ 2 ^ 32 → offset + i + length bytes ≤ 65536
+    → placed (from-linear base) offset i bytes ≡ placed (from-segment base) offset i bytes
+unfolding placed byte-address
+unwrapped base offset i [] b h = refl
+unwrapped base offset i (x ∷ bytes) b h =
+    let e : (base + offset + i) % 2 ^ 32 ≡ base + (offset + i) % 65536 = omega arith in
+    rw (e, unwrapped base offset (suc i) bytes b (omega arith))
+
+-- the byte behind the segment's end lies apart
+wrapped : (base offset : ℕ) (bytes : List ℕ) → offset < 65536 → placed (from-linear base) offset 0 bytes ≡ placed (from-segment base) offset 0 bytes
+    → offset + length bytes ≤ 65536
+unfolding byte-address
+wrapped base offset bytes o e =
+    let k = 65536 - offset in
+    let inside : ¬ (k < length bytes) =
+    λ h. let linear = placed-at (from-linear base) offset 0 bytes k h in
+    let segment = placed-at (from-segment base) offset 0 bytes k h in
+    let same : (base + offset + (0 + k)) % 2 ^ 32 ≡ base + (offset + (0 + k)) % 65536 =
+    ap (λ (p : Placement). p .address) (sym linear ∙ ap (λ (ps : List Placement). getD ps k (record { address = 0; byte = 0 })) e ∙ segment) in
+    omega arith in
+    omega arith
+
+pub record-unchanged : Record-unchanged
+unfolding stated-by flat
+record-unchanged number offset bytes n o = (wrapped (16 * number) offset bytes o, λ h. unwrapped (16 * number) offset 0 bytes (omega arith) (omega arith))
+
+-- a base that a record of a line can set
+Low : Base → Type 0
+Low (from-segment base) = base + 65536 ≤ 2 ^ 32
+Low (from-linear base) = Unit
+
+low-behind : (base : Base) (m : Meaning) → Sayable m → Low base → Low (base-behind base m)
+unfolding Low base-behind
+low-behind base (data-at offset bytes) s h = h
+low-behind base end-of-file s h = h
+low-behind base (extended-segment n) s h = omega arith
+low-behind base (start-segment cs ip) s h = h
+low-behind base (extended-linear n) s h = tt
+low-behind base (start-linear n) s h = h
+
+-- a record's step is the same exactly if the record stays in its segment
+step-same : (n : ℕ) (base : Base) (m : Meaning) → Sayable m → Low base → (step-at n (flat base) m ≡ step-at n base m) ↔ In-segment base m
+unfolding Low flat step-at
+step-same n (from-linear base) m s h = ((λ e. tt), (λ k. refl))
+step-same n (from-segment base) (data-at offset bytes) s h = ((λ e. wrapped base offset bytes (s .0) cc), (λ k. rw (unwrapped base offset 0 bytes h (omega arith))))
+step-same n (from-segment base) end-of-file s h = ((λ e. tt), (λ k. refl))
+step-same n (from-segment base) (extended-segment x) s h = ((λ e. tt), (λ k. refl))
+step-same n (from-segment base) (start-segment cs ip) s h = ((λ e. tt), (λ k. refl))
+step-same n (from-segment base) (extended-linear x) s h = ((λ e. tt), (λ k. refl))
+step-same n (from-segment base) (start-linear x) s h = ((λ e. tt), (λ k. refl))
+
+step-length : (n : ℕ) (base b : Base) (m : Meaning) → length (step-at n b m) ≡ length (step-at n base m)
+unfolding step-at
+step-length n base b (data-at offset bytes) = refl
+step-length n base b end-of-file = refl
+step-length n base b (extended-segment x) = refl
+step-length n base b (start-segment cs ip) = refl
+step-length n base b (extended-linear x) = refl
+step-length n base b (start-linear x) = refl
+
+parts : (s₁ s₂ a b : List Action) → length s₁ ≡ length s₂ → s₁ ++ a ≡ s₂ ++ b → (s₁ ≡ s₂) × (a ≡ b)
+parts [] [] a b l e = (refl, e)
+parts [] (y ∷ s₂) a b l e = absurd (omega arith)
+parts (x ∷ s₁) [] a b l e = absurd (omega arith)
+parts (x ∷ s₁) (y ∷ s₂) a b l e = let (p, q) = parts s₁ s₂ a b (omega arith) cc in (cc, q)
+
+abbrev Unchanged : Base → List Numbered → Type 0
+Unchanged base row = (flat-steps base row ≡ steps base row) ↔ In-segments base row
+
+unchanged-record : (n : ℕ) (base : Base) (kind address : ℕ) (payload : List ℕ) (row : List Numbered) → let m = meaning kind address payload in
+    Sayable m → Low base → Unchanged (base-behind base m) row → Unchanged base (on n (says kind address payload) ∷ row)
+unfolding flat-steps steps
+unchanged-record n base kind address payload row s h (there, back) =
+    let m = meaning kind address payload in
+    let (out, in-it) = step-same n base m s h in (
+      (λ e. let (p, q) = parts _ _ _ _ (step-length n base (flat base) m) e in (out p, there q)),
+      (λ k. rw (in-it (k .0), back (k .1))),
+    )
+
+unchanged : (n : ℕ) (ls : List (List ℕ)) (base : Base) → Low base → Unchanged base (through-stop default-options (sayings n ls))
+unfolding sayings through-stop flat-steps steps
+unchanged n [] base h = ((λ e. tt), (λ k. refl))
+unchanged n ([] ∷ ls) base h = unchanged (suc n) ls base h
+unchanged n ((c ∷ l) ∷ ls) base h = go (judge (c ∷ l)) refl (unchanged (suc n) ls)
+  where
+    row : List Numbered
+    row = through-stop default-options (sayings (suc n) ls)
+
+    cut : (b : Bool) (base′ : Base) → Unchanged base′ row → Unchanged base′ (if b then [] else row)
+    cut true base′ u = ((λ e. tt), (λ k. refl))
+    cut false base′ u = u
+
+    go : (s : Said) → judge (c ∷ l) ≡ s → ((base′ : Base) → Low base′ → Unchanged base′ row)
+        → Unchanged base (through-stop default-options (on n s ∷ sayings (suc n) ls))
+    go (wrong r) q ih = ((λ e. tt), (λ k. refl))
+    go (says kind address payload) q ih =
+        let m = meaning kind address payload in
+        let s = said-is-sayable (c ∷ l) kind address payload q in
+        unchanged-record n base kind address payload (if is-end m && true then [] else row) s h
+        (cut (is-end m && true) (base-behind base m) (ih (base-behind base m) (low-behind base m s h)))
+
+pub text-unchanged : Text-unchanged
+unfolding Low row steps-of
+text-unchanged text = unchanged 1 (lines text) from-start (omega arith)
+
+pub examples : Examples
+unfolding flat-steps row judge meaning number stated
+examples = record { beyond-flat = refl }
