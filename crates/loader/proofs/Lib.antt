@@ -10,3 +10,4 @@ pub mod Meeting
 pub mod Passes
 pub mod Loads
 pub mod Segments
+pub mod Stored

@@ -1,7 +1,7 @@
 -- The claims of `specs/Segments.antt`, proved: the base in force is the latest one, each byte lies by its index, and an offset that stays
 -- under 65,536 is added to a segment's base with nothing lost.
 -- Assumes nothing.
-use mathlib.Core.Path.{_≡_, refl, sym, ap, _∙_}
+use mathlib.Core.Path.{_≡_, refl, sym, ap, _∙_, subst}
 use mathlib.Core.Logic.{_↔_, _⊎_, inl, inr}
 use Prim.Native.Nat.{ℕ, zero, suc, _+_, _*_, _-_, _%_, _^_, _≤_, _<_}
 use native.Mathlib.Nat.{zero-add, add-zero}
@@ -20,9 +20,9 @@ use Rattle.reader.specs.Lines.{lines}
 use Rattle.reader.specs.Row.{Numbered, on, sayings, is-end, through-stop, row}
 use Rattle.reader.specs.Text.{default-options}
 use Rattle.loader.specs.Placing.{Placement, Base, from-segment, from-linear, segment, linear, from-start, byte-address, placed, stated-by, base-behind, Action, step-at, steps, stated}
-use Rattle.loader.specs.Load.{steps-of}
+use Rattle.loader.specs.Load.{verdict, store, stopping-at, steps-of, load}
 use Rattle.loader.specs.Claims.{record-on, sets, latest, in-force, states}
-use Rattle.loader.specs.Segments.{No-extension, Latest, Lie, Intel, Intel-rule, flat, flat-steps, In-segment, In-segments, Record-unchanged, Text-unchanged, Examples}
+use Rattle.loader.specs.Segments.{No-extension, Latest, At, in-segment, along-line, from-zero, Intel-rule, One-address, flat, flat-steps, flat-load, In-segment, In-segments, Record-unchanged, Text-unchanged, Load-unchanged, Examples}
 
 -- ---- each byte by its index
 
@@ -75,12 +75,6 @@ in-force-is ahead m b x e = rw (x .whole, latest-is (x .before) (x .line) (x .af
 
 -- ---- Intel's rule
 
--- bytes lie by any rule that has the addresses of the base in force
-lie : (ahead : List (List ℕ)) (b : Base) (rule : (drlo dri : ℕ) → ℕ) → in-force ahead ≡ b → ((drlo dri : ℕ) → byte-address b drlo dri ≡ rule drlo dri) → Lie ahead rule
-unfolding states stated-by
-lie ahead b rule e r drlo bytes =
-    rw e (length-placed b drlo 0 bytes, λ dri h. rw (placed-at b drlo 0 bytes dri h, zero-add dri, r drlo dri))
-
 abbrev One-holds : List (List ℕ) → Type 0
 One-holds ahead = ((usba : ℕ) × Latest ahead (extended-segment usba)) ⊎ (((ulba : ℕ) × Latest ahead (extended-linear ulba)) ⊎ Every No-extension ahead)
 
@@ -109,15 +103,30 @@ one-holds (l ∷ ls) = go (one-holds ls)
     go (inr (inl (n, x))) = inr (inl (n, more l ls (extended-linear n) x))
     go (inr (inr x)) = other x (record-on l) refl
 
-pub intel-rule : Intel-rule
+-- Intel's address is the one that the definitions give
+pub at-only : (ahead : List (List ℕ)) (drlo dri a : ℕ) → At ahead drlo dri a → a ≡ byte-address (in-force ahead) drlo dri
 unfolding sets in-force byte-address
-intel-rule ahead =
-    record {
-      in-segment = λ usba x. lie ahead (segment usba) _ (in-force-is ahead (extended-segment usba) (segment usba) x refl) (λ drlo dri. omega arith);
-      along-line = λ ulba x. lie ahead (linear ulba) _ (in-force-is ahead (extended-linear ulba) (linear ulba) x refl) (λ drlo dri. omega arith);
-      from-zero = λ x. lie ahead from-start _ (rw (none-latest ahead x)) (λ drlo dri. omega arith);
-      one-holds = one-holds ahead;
-    }
+at-only ahead drlo dri a (in-segment usba x) = rw (in-force-is ahead (extended-segment usba) (segment usba) x refl) (omega arith)
+at-only ahead drlo dri a (along-line ulba x) = rw (in-force-is ahead (extended-linear ulba) (linear ulba) x refl) (omega arith)
+at-only ahead drlo dri a (from-zero x) = rw (none-latest ahead x) (omega arith)
+
+pub at-there : (ahead : List (List ℕ)) (drlo dri : ℕ) → At ahead drlo dri (byte-address (in-force ahead) drlo dri)
+at-there ahead drlo dri = go (one-holds ahead)
+  where
+    so : (a : ℕ) → At ahead drlo dri a → At ahead drlo dri (byte-address (in-force ahead) drlo dri)
+    so a x = subst (At ahead drlo dri) (at-only ahead drlo dri a x) x
+
+    go : One-holds ahead → At ahead drlo dri (byte-address (in-force ahead) drlo dri)
+    go (inl (usba, x)) = so _ (in-segment usba x)
+    go (inr (inl (ulba, x))) = so _ (along-line ulba x)
+    go (inr (inr x)) = so _ (from-zero x)
+
+pub intel-rule : Intel-rule
+unfolding states stated-by
+intel-rule ahead drlo bytes = (length-placed (in-force ahead) drlo 0 bytes, λ dri h. rw (placed-at (in-force ahead) drlo 0 bytes dri h, zero-add dri) (at-there ahead drlo dri, refl))
+
+pub one-address : One-address
+one-address ahead drlo dri a a′ x y = at-only ahead drlo dri a x ∙ sym (at-only ahead drlo dri a′ y)
 
 -- ---- without segments
 
@@ -226,6 +235,10 @@ unchanged n ((c ∷ l) ∷ ls) base h = go (judge (c ∷ l)) refl (unchanged (su
 pub text-unchanged : Text-unchanged
 unfolding Low row steps-of
 text-unchanged text = unchanged 1 (lines text) from-start (omega arith)
+
+pub load-unchanged : Load-unchanged
+unfolding flat-load load
+load-unchanged text first page marks h = ap (λ (s : List Action). store first (stated s) page marks (verdict (stopping-at s first page marks))) (text-unchanged text .1 h)
 
 pub examples : Examples
 unfolding flat-steps row judge meaning number stated

@@ -100,6 +100,13 @@ unfolding painted marked
 store first ps page marks (accepted tally) = record { answer = accepted tally; page = painted first ps page; marks = marked first ps marks }
 store first ps page marks (refused r line) = record { answer = refused r line; page = page; marks = marks }
 
+-- where and how steps stop a load: before the first line if the window is bad, else at the first line that decides, if one does
+unfoldable pub stopping-at : List Action → (first : ℕ) (page marks : List ℕ) → Option Decision
+unfolding unfit within decision
+stopping-at steps first page marks =
+    if unfit first (length page) (length marks) then some (by 0 (refused bad-window 0)) else
+    decision (within first (length page)) no-records steps
+
 -- a text's steps, as the reader reads it with both stops on
 unfoldable pub steps-of : List ℕ → List Action
 unfolding steps row
@@ -110,12 +117,9 @@ unfoldable pub placements : List ℕ → List Placement
 unfolding stated steps-of
 placements text = stated (steps-of text)
 
--- where and how the load stops: before the first line if the window is bad, else at the first line that decides, if one does
 unfoldable pub stopping : List ℕ → (first : ℕ) (page marks : List ℕ) → Option Decision
-unfolding unfit within decision steps-of
-stopping text first page marks =
-    if unfit first (length page) (length marks) then some (by 0 (refused bad-window 0)) else
-    decision (within first (length page)) no-records (steps-of text)
+unfolding stopping-at steps-of
+stopping text first page marks = stopping-at (steps-of text) first page marks
 
 unfoldable pub load : List ℕ → (first : ℕ) (page marks : List ℕ) → Loaded
 unfolding store placements verdict stopping

@@ -6,14 +6,15 @@ use mathlib.Core.Logic.{_≢_, _↔_, _⊎_}
 use Prim.Native.Nat.{ℕ, _+_, _*_, _%_, _^_, _≤_, _<_}
 use mathlib.Core.Option.{some}
 use mathlib.Core.List.{List, [], _∷_, _++_}
-use lib.ListN.{length, getD}
+use lib.ListN.{length, getD, take}
 use Rattle.record.specs.Common.{Every, text}
 use Rattle.record.specs.Line.{says, wrong}
 use Rattle.record.specs.Meaning.{Meaning, data-at, end-of-file, extended-segment, start-segment, extended-linear, start-linear, meaning}
+use Rattle.reader.specs.Lines.{lines}
 use Rattle.reader.specs.Row.{Numbered, on, row}
 use Rattle.reader.specs.Text.{default-options}
-use Rattle.loader.specs.Placing.{Placement, Base, from-segment, from-linear, segment, from-start, stated-by, base-behind, Action, fails, step-at, stated}
-use Rattle.loader.specs.Load.{steps-of}
+use Rattle.loader.specs.Placing.{Base, from-segment, from-linear, segment, from-start, stated-by, base-behind, Action, fails, step-at, stated}
+use Rattle.loader.specs.Load.{Tally, accepted, verdict, Loaded, store, stopping-at, steps-of, load}
 use Rattle.loader.specs.Claims.{record-on, states, beyond}
 
 -- ---- Intel's rule
@@ -31,32 +32,72 @@ pub record Latest (ahead : List (List ℕ)) (m : Meaning) : Type 0 where
   pub there : record-on line ≡ some m
   pub none-later : Every No-extension after
 
--- a data record behind these lines has each byte where the rule has it: DRLO is its load offset, DRI the byte's index
-abbrev pub Lie : (ahead : List (List ℕ)) → (rule : (drlo dri : ℕ) → ℕ) → Type 0
-Lie ahead rule =
-    (drlo : ℕ) (bytes : List ℕ)
-    → let ps = states ahead (some (data-at drlo bytes)) in
-    (length ps ≡ length bytes)
-    × ((dri : ℕ) → dri < length bytes → getD ps dri (record { address = 0; byte = 0 }) ≡ record { address = rule drlo dri; byte = getD bytes dri 0 })
-
--- USBA is bits 4 to 19 of the segment base, and ULBA is bits 16 to 31 of the linear base; their other bits are zero
+-- USBA is bits 4 to 19 of the segment base SBA, and ULBA bits 16 to 31 of the linear base LBA; their other bits are zero
 abbrev pub SBA : (usba : ℕ) → ℕ
 SBA usba = usba * 2 ^ 4
 
 abbrev pub LBA : (ulba : ℕ) → ℕ
 LBA ulba = ulba * 2 ^ 16
 
--- modulo 64K and modulo 4G
-pub record Intel (ahead : List (List ℕ)) : Type 0 where
-  pub in-segment : (usba : ℕ) → Latest ahead (extended-segment usba) → Lie ahead (λ drlo dri. SBA usba + (drlo + dri) % 2 ^ 16)
-  pub along-line : (ulba : ℕ) → Latest ahead (extended-linear ulba) → Lie ahead (λ drlo dri. (LBA ulba + drlo + dri) % 2 ^ 32)
-  -- before either the segment base is zero
-  pub from-zero : Every No-extension ahead → Lie ahead (λ drlo dri. (drlo + dri) % 2 ^ 16)
-  -- and there is no fourth case
-  pub one-holds : ((usba : ℕ) × Latest ahead (extended-segment usba)) ⊎ (((ulba : ℕ) × Latest ahead (extended-linear ulba)) ⊎ Every No-extension ahead)
+-- where byte DRI of a data record lies that stands behind these lines and has the load offset DRLO: the sums go modulo 64K and modulo 4G;
+-- before any extension record the segment base is zero
+pub data At (ahead : List (List ℕ)) (drlo dri : ℕ) : (address : ℕ) → Type 0 where
+  in-segment : (usba : ℕ) → Latest ahead (extended-segment usba) → At ahead drlo dri (SBA usba + (drlo + dri) % 2 ^ 16)
+  along-line : (ulba : ℕ) → Latest ahead (extended-linear ulba) → At ahead drlo dri ((LBA ulba + drlo + dri) % 2 ^ 32)
+  from-zero : Every No-extension ahead → At ahead drlo dri ((drlo + dri) % 2 ^ 16)
 
+-- every byte that a data record states lies there
 abbrev pub Intel-rule : Type 0
-Intel-rule = (ahead : List (List ℕ)) → Intel ahead
+Intel-rule =
+    (ahead : List (List ℕ)) (drlo : ℕ) (bytes : List ℕ)
+    → let ps = states ahead (some (data-at drlo bytes)) in
+    (length ps ≡ length bytes)
+    × ((dri : ℕ) → dri < length bytes → let p = getD ps dri (record { address = 0; byte = 0 }) in At ahead drlo dri (p .address) × (p .byte ≡ getD bytes dri 0))
+
+-- and nowhere else
+abbrev pub One-address : Type 0
+One-address = (ahead : List (List ℕ)) (drlo dri a a′ : ℕ) → At ahead drlo dri a → At ahead drlo dri a′ → a ≡ a′
+
+-- ---- demand 3 in Intel's words
+
+-- on line n (the first is 0) stands a data record, and Intel's rule puts its byte DRI at the address
+pub record Puts (ls : List (List ℕ)) (n dri address byte : ℕ) : Type 0 where
+  pub drlo : ℕ
+  pub bytes : List ℕ
+  pub there : record-on (getD ls n []) ≡ some (data-at drlo bytes)
+  pub inside : dri < length bytes
+  pub holds : getD bytes dri 0 ≡ byte
+  pub at : At (take n ls) drlo dri address
+
+-- the last byte that is put at the address
+pub record Last-put (ls : List (List ℕ)) (address byte : ℕ) : Type 0 where
+  pub line : ℕ
+  pub dri : ℕ
+  pub puts : Puts ls line dri address byte
+  pub none-later : (n d b : ℕ) → Puts ls n d address b → (n < line) ⊎ ((n ≡ line) × (d ≤ dri))
+
+-- what an accepted load owes a place, from the lines ahead of the end record: its address, its byte before, its mark and its byte after
+pub record Owed (ahead : List (List ℕ)) (address old mark byte : ℕ) : Type 0 where
+  pub one-or-zero : (mark ≡ 1) ⊎ (mark ≡ 0)
+  pub marked-iff-put : (mark ≡ 1) ↔ ((n : ℕ) × (dri : ℕ) × (b : ℕ) × Puts ahead n dri address b)
+  pub marked-holds : mark ≡ 1 → Last-put ahead address byte
+  pub unmarked-keeps : mark ≡ 0 → byte ≡ old
+
+-- the lines ahead of the first end record, and what a load into this window owes each place
+pub record Stored (text : List ℕ) (first : ℕ) (page marks : List ℕ) (l : Loaded) : Type 0 where
+  pub ahead : List (List ℕ)
+  pub end : List ℕ
+  pub later : List (List ℕ)
+  pub whole : lines text ≡ ahead ++ (end ∷ later)
+  pub ends : record-on end ≡ some end-of-file
+  pub none-ahead : Every (λ (line : List ℕ). record-on line ≢ some end-of-file) ahead
+  pub places : (i : ℕ) → i < length page → Owed ahead (first + i) (getD page i 0) (getD (l .marks) i 0) (getD (l .page) i 0)
+
+abbrev pub Stored-by-Intel : Type 0
+Stored-by-Intel =
+    (text : List ℕ) (first : ℕ) (page marks : List ℕ) (tally : Tally)
+    → let l = load text first page marks in
+    l .answer ≡ accepted tally → Stored text first page marks l
 
 -- ---- without segments
 
@@ -72,6 +113,13 @@ flat-steps base [] = []
 flat-steps base (on n (says kind address payload) ∷ row) =
     step-at n (flat base) (meaning kind address payload) ++ flat-steps (base-behind base (meaning kind address payload)) row
 flat-steps base (on n (wrong r) ∷ row) = fails n r ∷ flat-steps base row
+
+-- the load of a text, placed so
+unfoldable pub flat-load : List ℕ → (first : ℕ) (page marks : List ℕ) → Loaded
+unfolding flat-steps row store stated verdict stopping-at
+flat-load text first page marks =
+    let steps = flat-steps from-start (row default-options text) in
+    store first (stated steps) page marks (verdict (stopping-at steps first page marks))
 
 -- no data record passes its segment's end
 abbrev pub In-segment : Base → Meaning → Type 0
@@ -95,10 +143,16 @@ Record-unchanged =
     (number offset : ℕ) (bytes : List ℕ) → number < 65536 → offset < 65536
     → (stated-by (flat (segment number)) (data-at offset bytes) ≡ stated-by (segment number) (data-at offset bytes)) ↔ (offset + length bytes ≤ 65536)
 
--- a text's load rests on its steps: they are what they are without segments exactly if no data record through the end record passes its segment's end
+-- a text's steps are what they are without segments exactly if no data record through the end record passes its segment's end
 abbrev pub Text-unchanged : Type 0
 Text-unchanged =
     (text : List ℕ) → let read = row default-options text in (flat-steps from-start read ≡ steps-of text) ↔ In-segments from-start read
+
+-- and then so is its load into every window: answer, page and marks
+abbrev pub Load-unchanged : Type 0
+Load-unchanged =
+    (text : List ℕ) (first : ℕ) (page marks : List ℕ) → In-segments from-start (row default-options text)
+    → flat-load text first page marks ≡ load text first page marks
 
 -- ---- examples
 

@@ -4,8 +4,6 @@ use reader::Reply;
 use reader::State;
 use record::Record;
 ghost use mathlib.Core.Path.{_≡_};
-ghost use mathlib.Core.Option.{none, some};
-ghost use mathlib.Core.List.{map};
 ghost use Prim.Native.Nat.{_+_, _^_, _≤_, _<_};
 ghost use lib.ListN.{length, replicate};
 ghost use Rattle.record.specs.Record.{meant};
@@ -13,7 +11,7 @@ ghost use Rattle.reader.specs.Text.{new-state, default-options};
 ghost use Rattle.loader.specs.Placing.{byte-address, placed};
 ghost use Rattle.loader.specs.Load.{within, outside, decision, verdict, unfit, no-records, placements, steps-of};
 ghost use Rattle.loader.specs.Told.{told, Load};
-ghost use Rattle.loader.specs.Helpers.{based, reached, Painted, Fitting, stated-by, Lies-in, Behind, ahead-of, Under-way, Few, Met, Judged, Accepts, Ready, Wrote};
+ghost use Rattle.loader.specs.Helpers.{based, reached, Painted, Fitting, stated-by, Lies-in, Behind, Under-way, Few, Met, Judged, Accepts, Ready, Wrote};
 
 // Why a text is not loaded.
 pub enum LoaderError {
