@@ -174,10 +174,11 @@ uint32_t ihex_create_object_file_representation(const void *list, size_t list_le
                                                 uint8_t *out, size_t out_len,
                                                 uint64_t *value);
 
-/* Loads a text, both stops on, into a page from the address `first` on; marks become 1 where it states a byte, else 0. Byte i of
- * a data record lies at base + ((offset + i) modulo 65,536) behind a type 02, and before any extension record with base 0; behind
- * a type 04 it lies at (base + offset + i) modulo 2^32. Returns 0 and counts data records in a; or IHEX_REFUSED and 16, the first
- * line's 1 to 9 or 17, with its number in line (else 0), or 13. */
+/* Loads a text, both stops on, into a page from the address `first` on; marks become 1 where it states a byte, else 0. Returns 0
+ * and counts data records in a; or IHEX_REFUSED and 16, the first line's 1 to 9 or 17, with its number in line (else 0), or 13.
+ * While a type 02 is the latest extension record, with base 16 times its number, and before any, with base 0, byte i of a data
+ * record lies at base + ((offset + i) modulo 65,536). While a type 04 is, with base 65,536 times its number, it lies at
+ * (base + offset + i) modulo 2^32. */
 uint32_t ihex_load(const uint8_t *text, size_t text_len, uint32_t first,
                    uint8_t *page, size_t page_len,
                    uint8_t *marks, size_t marks_len,

@@ -118,7 +118,7 @@ non-interference text₁ text₂ first page₁ marks₁ page₂ marks₂ lp lm n
 
 -- ---- the second half
 
-stored-answer : (first : ℕ) (ps : List Placement) (page marks : List ℕ) (v : Verdict) → (store first ps page marks v) .answer ≡ v
+pub stored-answer : (first : ℕ) (ps : List Placement) (page marks : List ℕ) (v : Verdict) → (store first ps page marks v) .answer ≡ v
 unfolding store
 stored-answer first ps page marks (accepted k) = refl
 stored-answer first ps page marks (refused r n) = refl

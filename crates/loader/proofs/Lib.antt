@@ -10,4 +10,6 @@ pub mod Meeting
 pub mod Passes
 pub mod Loads
 pub mod Segments
+pub mod Puts
 pub mod Stored
+pub mod Apart

@@ -17,7 +17,7 @@ use Rattle.loader.specs.Claims.{said-record, record-on, states, Passes, 
 
 -- ---- lists
 
-not-empty : {A : Type 0} (before : List A) (x : A) (after : List A) → [] ≡ before ++ (x ∷ after) → ⊥
+pub not-empty : {A : Type 0} (before : List A) (x : A) (after : List A) → [] ≡ before ++ (x ∷ after) → ⊥
 not-empty [] x after e = nil≢cons e
 not-empty (y ∷ before) x after e = nil≢cons e
 
@@ -39,7 +39,7 @@ wrong-none : (line : List ℕ) (r : Refusal) → judge line ≡ wrong r → reco
 unfolding said-record
 wrong-none line r e = rw e
 
-empty-none : (line : List ℕ) → line ≡ [] → record-on line ≡ none
+pub empty-none : (line : List ℕ) → line ≡ [] → record-on line ≡ none
 unfolding said-record judge
 empty-none line e = rw e
 

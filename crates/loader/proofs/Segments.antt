@@ -11,6 +11,7 @@ use mathlib.Core.Option.{Option, none, some}
 use mathlib.Core.List.{List, [], _∷_, _++_}
 use lib.ListN.{length, getD}
 use Rattle.record.specs.Common.{if_then_else_, Every}
+use Rattle.record.specs.Refusals.{Refusal}
 use Rattle.record.specs.Digits.{number}
 use Rattle.record.specs.Line.{Said, says, wrong, judge}
 use Rattle.record.specs.Meaning.{Meaning, data-at, end-of-file, extended-segment, start-segment, extended-linear, start-linear, meaning}
@@ -26,12 +27,12 @@ use Rattle.loader.specs.Segments.{No-extension, Latest, At, in-segment, 
 
 -- ---- each byte by its index
 
-length-placed : (base : Base) (offset i : ℕ) (bytes : List ℕ) → length (placed base offset i bytes) ≡ length bytes
+pub length-placed : (base : Base) (offset i : ℕ) (bytes : List ℕ) → length (placed base offset i bytes) ≡ length bytes
 unfolding placed
 length-placed base offset i [] = refl
 length-placed base offset i (b ∷ bytes) = ap suc (length-placed base offset (suc i) bytes)
 
-placed-at : (base : Base) (offset i : ℕ) (bytes : List ℕ) (j : ℕ) → j < length bytes
+pub placed-at : (base : Base) (offset i : ℕ) (bytes : List ℕ) (j : ℕ) → j < length bytes
     → getD (placed base offset i bytes) j (record { address = 0; byte = 0 }) ≡ record { address = byte-address base offset (i + j); byte = getD bytes j 0 }
 unfolding placed
 placed-at base offset i [] j h = absurd (omega arith)
@@ -131,7 +132,7 @@ one-address ahead drlo dri a a′ x y = at-only ahead drlo dri a x ∙ sym (at-o
 -- ---- without segments
 
 -- an offset that stays under 65,536 is added with nothing lost
-unwrapped : (base offset i : ℕ) (bytes : List ℕ) → base + 65536 ≤ 2 ^ 32 → offset + i + length bytes ≤ 65536
+pub unwrapped : (base offset i : ℕ) (bytes : List ℕ) → base + 65536 ≤ 2 ^ 32 → offset + i + length bytes ≤ 65536
     → placed (from-linear base) offset i bytes ≡ placed (from-segment base) offset i bytes
 unfolding placed byte-address
 unwrapped base offset i [] b h = refl
@@ -158,7 +159,7 @@ unfolding stated-by flat
 record-unchanged number offset bytes n o = (wrapped (16 * number) offset bytes o, λ h. unwrapped (16 * number) offset 0 bytes (omega arith) (omega arith))
 
 -- a base that a record of a line can set
-Low : Base → Type 0
+unfoldable pub Low : Base → Type 0
 Low (from-segment base) = base + 65536 ≤ 2 ^ 32
 Low (from-linear base) = Unit
 
@@ -170,6 +171,35 @@ low-behind base (extended-segment n) s h = omega arith
 low-behind base (start-segment cs ip) s h = h
 low-behind base (extended-linear n) s h = tt
 low-behind base (start-linear n) s h = h
+
+pub low-start : Low from-start
+unfolding Low
+low-start = omega arith
+
+-- what holds of the rows of lines, if it holds of nothing and of a refused line, and goes on from behind a record to it
+pub by-rows : (P : Base → List Numbered → Type 0) → ((base : Base) → P base []) → ((n : ℕ) (base : Base) (r : Refusal) → P base (on n (wrong r) ∷ []))
+    → ((n : ℕ) (base : Base) (kind address : ℕ) (payload : List ℕ) (row : List Numbered) → let m = meaning kind address payload in
+    Sayable m → Low base → P (base-behind base m) row → P base (on n (says kind address payload) ∷ row))
+    → (n : ℕ) (ls : List (List ℕ)) (base : Base) → Low base → P base (through-stop default-options (sayings n ls))
+unfolding sayings through-stop
+by-rows P nothing fails goes n [] base h = nothing base
+by-rows P nothing fails goes n ([] ∷ ls) base h = by-rows P nothing fails goes (suc n) ls base h
+by-rows P nothing fails goes n ((c ∷ l) ∷ ls) base h = go (judge (c ∷ l)) refl (by-rows P nothing fails goes (suc n) ls)
+  where
+    row : List Numbered
+    row = through-stop default-options (sayings (suc n) ls)
+
+    cut : (b : Bool) (base′ : Base) → P base′ row → P base′ (if b then [] else row)
+    cut true base′ p = nothing base′
+    cut false base′ p = p
+
+    go : (s : Said) → judge (c ∷ l) ≡ s → ((base′ : Base) → Low base′ → P base′ row) → P base (through-stop default-options (on n s ∷ sayings (suc n) ls))
+    go (wrong r) q ih = fails n base r
+    go (says kind address payload) q ih =
+        let m = meaning kind address payload in
+        let s = said-is-sayable (c ∷ l) kind address payload q in
+        goes n base kind address payload (if is-end m && true then [] else row) s h
+        (cut (is-end m && true) (base-behind base m) (ih (base-behind base m) (low-behind base m s h)))
 
 -- a record's step is the same exactly if the record stays in its segment
 step-same : (n : ℕ) (base : Base) (m : Meaning) → Sayable m → Low base → (step-at n (flat base) m ≡ step-at n base m) ↔ In-segment base m
@@ -210,31 +240,9 @@ unchanged-record n base kind address payload row s h (there, back) =
       (λ k. rw (in-it (k .0), back (k .1))),
     )
 
-unchanged : (n : ℕ) (ls : List (List ℕ)) (base : Base) → Low base → Unchanged base (through-stop default-options (sayings n ls))
-unfolding sayings through-stop flat-steps steps
-unchanged n [] base h = ((λ e. tt), (λ k. refl))
-unchanged n ([] ∷ ls) base h = unchanged (suc n) ls base h
-unchanged n ((c ∷ l) ∷ ls) base h = go (judge (c ∷ l)) refl (unchanged (suc n) ls)
-  where
-    row : List Numbered
-    row = through-stop default-options (sayings (suc n) ls)
-
-    cut : (b : Bool) (base′ : Base) → Unchanged base′ row → Unchanged base′ (if b then [] else row)
-    cut true base′ u = ((λ e. tt), (λ k. refl))
-    cut false base′ u = u
-
-    go : (s : Said) → judge (c ∷ l) ≡ s → ((base′ : Base) → Low base′ → Unchanged base′ row)
-        → Unchanged base (through-stop default-options (on n s ∷ sayings (suc n) ls))
-    go (wrong r) q ih = ((λ e. tt), (λ k. refl))
-    go (says kind address payload) q ih =
-        let m = meaning kind address payload in
-        let s = said-is-sayable (c ∷ l) kind address payload q in
-        unchanged-record n base kind address payload (if is-end m && true then [] else row) s h
-        (cut (is-end m && true) (base-behind base m) (ih (base-behind base m) (low-behind base m s h)))
-
 pub text-unchanged : Text-unchanged
-unfolding Low row steps-of
-text-unchanged text = unchanged 1 (lines text) from-start (omega arith)
+unfolding row steps-of flat-steps steps
+text-unchanged text = by-rows Unchanged (λ base. ((λ e. tt), (λ k. refl))) (λ n base r. ((λ e. tt), (λ k. refl))) unchanged-record 1 (lines text) from-start low-start
 
 pub load-unchanged : Load-unchanged
 unfolding flat-load load

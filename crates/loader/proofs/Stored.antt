@@ -1,164 +1,32 @@
--- Demand 3 in Intel's words, proved: the lines ahead of the end record are walked once, and what `last-at` finds among their placements
--- is the last byte that is put at the address.
+-- Demand 3 and refusal 17 in Intel's words, proved from what the lines of a load put.
 -- Assumes nothing.
-use mathlib.Core.Path.{_≡_, refl, sym, ap, _∙_, subst}
+use mathlib.Core.Path.{_≡_, refl, sym, ap, ap₂, _∙_, subst}
 use mathlib.Core.Logic.{_≢_, _⊎_, inl, inr}
-use Prim.Native.Nat.{ℕ, zero, suc, _+_, _≤_, _<_}
-use native.Mathlib.Nat.{zero-add, add-zero}
+use Prim.Native.Nat.{ℕ, suc, _+_, _≤_, _<_}
+use native.Mathlib.Nat.{zero-add}
 use native.Mathlib.Omega.{arith}
-use mathlib.Core.Bool.{Bool, true, false}
+use mathlib.Core.Bool.{Bool, true}
 use mathlib.Core.Option.{Option, none, some, Option·getD}
-use mathlib.Core.List.{List, [], _∷_, _++_, append-assoc, append-nil}
-use lib.Dec.{eqb}
-use lib.ListN.{length, getD, take}
-use borrow.Author.Tests.{eqb-true, eqb-false}
-use Rattle.record.specs.Common.{if_then_else_, or-else, Every}
-use Rattle.record.specs.Line.{judge}
+use mathlib.Core.List.{List, [], _∷_, _++_}
+use lib.ListN.{length, getD, take, length-append, List·getD-append}
+use lib.Seq.{take-append-seam, take-append-le, getD-append-seam}
+use Rattle.record.specs.Common.{Every}
+use Rattle.record.specs.Refusals.{number-of, outside-window}
 use Rattle.record.specs.Meaning.{Meaning, data-at, end-of-file, extended-segment, start-segment, extended-linear, start-linear}
-use Rattle.loader.specs.Placing.{Base, byte-address, placed, stated-by}
-use Rattle.loader.specs.Load.{Tally, Verdict, accepted, verdict, last-at, mark, placements, stopping, load}
-use Rattle.loader.specs.Claims.{said-record, record-on, in-force, states, all-states, counts, Passes, is-empty, goes-on, All-pass, Stops, the-end, no-record, first-outside, Why, bad-one, no-end, at-line}
-use Rattle.loader.specs.Segments.{At, Puts, Owed, Stored, Stored-by-Intel}
-use Rattle.loader.proofs.Pages.{last-append, painted-at, marked-at}
+use Rattle.record.proofs.Standing.{Stands, stands, fault-few}
+use Rattle.reader.specs.Lines.{lines}
+use Rattle.loader.specs.Placing.{Placement, byte-address, placed, stated-by}
+use Rattle.loader.specs.Load.{Tally, Verdict, accepted, refused, verdict, within, last-at, mark, placements, stopping, load}
+use Rattle.loader.specs.Claims.{record-on, in-force, states, all-states, Passes, is-empty, goes-on, All-pass, Stops, the-end, no-record, first-outside, Why, bad-one, no-end, at-line}
+use Rattle.loader.specs.Segments.{At, Puts, Last-put, Owed, Owed-unique, Stored, Stored-by-Intel, First-outside, Outside-by-Intel}
+use Rattle.loader.proofs.Pages.{painted-at, marked-at}
 use Rattle.loader.proofs.Demand3.{load-answer, accepted-load}
 use Rattle.loader.proofs.Claims.{reasons}
-use Rattle.loader.proofs.Segments.{at-only, at-there}
+use Rattle.loader.proofs.OneReason.{empty-none, not-empty}
+use Rattle.loader.proofs.Segments.{length-placed, placed-at, at-only, at-there}
+use Rattle.loader.proofs.Puts.{Among, among, behind-none, first-inside, all-inside}
 
--- ---- one record
-
-module _ (base : Base) (offset a : ℕ) where
-  -- what the bytes from byte i on have at the address: none of them, or this one as the last
-  abbrev In-record : (i : ℕ) → List ℕ → Option ℕ → Type 0
-  In-record i bytes none = (j : ℕ) → j < length bytes → byte-address base offset (i + j) ≢ a
-  In-record i bytes (some b) =
-      (j : ℕ) × (j < length bytes) × (byte-address base offset (i + j) ≡ a) × (getD bytes j 0 ≡ b)
-      × ((k : ℕ) → k < length bytes → byte-address base offset (i + k) ≡ a → k ≤ j)
-
-  one-more : (i b : ℕ) (bytes : List ℕ) (o : Option ℕ) (t : Bool) → eqb (byte-address base offset i) a ≡ t → In-record (suc i) bytes o
-      → In-record i (b ∷ bytes) (or-else o (if t then some b else none))
-  one-more i b bytes (some c) t e (j, h, q, g, later) = (suc j, omega arith, rw (step j) q, g, at-most)
-    where
-      step : (k : ℕ) → i + suc k ≡ suc i + k
-      step k = omega arith
-
-      at-most : (k : ℕ) → k < suc (length bytes) → byte-address base offset (i + k) ≡ a → k ≤ suc j
-      at-most zero l p = omega arith
-      at-most (suc k) l p = let r = later k (omega arith) (rw (← (step k)) p) in omega arith
-  one-more i b bytes none true e f = (zero, omega arith, rw (add-zero i) (eqb-true (byte-address base offset i) a e), refl, at-most)
-    where
-      at-most : (k : ℕ) → k < suc (length bytes) → byte-address base offset (i + k) ≡ a → k ≤ 0
-      at-most zero l p = omega arith
-      at-most (suc k) l p = let s : i + suc k ≡ suc i + k = omega arith in absurd (f k (omega arith) (rw (← s) p))
-  one-more i b bytes none false e f = nowhere
-    where
-      nowhere : (k : ℕ) → k < suc (length bytes) → byte-address base offset (i + k) ≢ a
-      nowhere zero l p = eqb-false (byte-address base offset i) a e (rw (← (add-zero i)) p)
-      nowhere (suc k) l p = let s : i + suc k ≡ suc i + k = omega arith in f k (omega arith) (rw (← s) p)
-
-  in-record : (i : ℕ) (bytes : List ℕ) → In-record i bytes (last-at a (placed base offset i bytes))
-  unfolding last-at placed
-  in-record i [] = λ j h. absurd (omega arith)
-  in-record i (b ∷ bytes) = one-more i b bytes (last-at a (placed base offset (suc i) bytes)) (eqb (byte-address base offset i) a) refl (in-record (suc i) bytes)
-
--- ---- lines behind others
-
--- `Puts` for lines that stand behind others
-pub record Puts-behind (ahead ls : List (List ℕ)) (a n dri byte : ℕ) : Type 0 where
-  pub drlo : ℕ
-  pub bytes : List ℕ
-  pub there : record-on (getD ls n []) ≡ some (data-at drlo bytes)
-  pub inside : dri < length bytes
-  pub holds : getD bytes dri 0 ≡ byte
-  pub at : At (ahead ++ take n ls) drlo dri a
-
-module _ (a : ℕ) where
-  -- what the lines have at the address: nothing, or this byte as the last
-  abbrev Among : (ahead ls : List (List ℕ)) → Option ℕ → Type 0
-  Among ahead ls none = (n dri b : ℕ) → ¬ Puts-behind ahead ls a n dri b
-  Among ahead ls (some byte) =
-      (line : ℕ) × (dri : ℕ) × Puts-behind ahead ls a line dri byte
-      × ((n d b : ℕ) → Puts-behind ahead ls a n d b → (n < line) ⊎ ((n ≡ line) × (d ≤ dri)))
-
-  -- what the first of them has
-  abbrev On-first : (ahead : List (List ℕ)) (l : List ℕ) (ls : List (List ℕ)) → Option ℕ → Type 0
-  On-first ahead l ls none = (dri b : ℕ) → ¬ Puts-behind ahead (l ∷ ls) a zero dri b
-  On-first ahead l ls (some byte) =
-      (dri : ℕ) × Puts-behind ahead (l ∷ ls) a zero dri byte × ((d b : ℕ) → Puts-behind ahead (l ∷ ls) a zero d b → d ≤ dri)
-
-  module _ (ahead : List (List ℕ)) (l : List ℕ) (ls : List (List ℕ)) where
-    -- a line that is no data record puts nothing
-    puts-none : counts (record-on l) ≡ 0 → On-first ahead l ls none
-    unfolding counts
-    puts-none e dri b p = let one : counts (record-on l) ≡ 1 = ap counts (p .there) in omega arith
-
-    module _ (offset : ℕ) (bytes : List ℕ) (e : record-on l ≡ some (data-at offset bytes)) where
-      met : (d b : ℕ) → Puts-behind ahead (l ∷ ls) a zero d b → (d < length bytes) × (byte-address (in-force ahead) offset (0 + d) ≡ a)
-      met d b p =
-          let same : some (data-at offset bytes) ≡ some (data-at (p .drlo) (p .bytes)) = sym e ∙ p .there in
-          let o : p .drlo ≡ offset = cc in
-          let bs : p .bytes ≡ bytes = cc in
-          (rw (← bs) (p .inside), rw (zero-add d, ← o) (sym (at-only ahead (p .drlo) d a (rw append-nil at (p .at)))))
-
-      put : (j b : ℕ) → j < length bytes → byte-address (in-force ahead) offset (0 + j) ≡ a → getD bytes j 0 ≡ b → Puts-behind ahead (l ∷ ls) a zero j b
-      put j b h q g =
-          record { drlo = offset; bytes = bytes; there = e; inside = h; holds = g; at = rw append-nil (subst (At ahead offset j) (rw (zero-add j) at q) (at-there ahead offset j)) }
-
-      on-data : (o : Option ℕ) → In-record (in-force ahead) offset a 0 bytes o → On-first ahead l ls o
-      on-data none f = λ d b p. let (h, q) = met d b p in f d h q
-      on-data (some b) (j, h, q, g, later) = (j, put j b h q g, λ d c p. let (i, r) = met d c p in later d i r)
-
-    on-first : On-first ahead l ls (last-at a (states ahead (record-on l)))
-    unfolding states stated-by last-at counts
-    on-first = go (record-on l) refl
-      where
-        go : (o : Option Meaning) → record-on l ≡ o → On-first ahead l ls (last-at a (states ahead o))
-        go none e = puts-none (ap counts e)
-        go (some (data-at offset bytes)) e = on-data offset bytes e (last-at a (placed (in-force ahead) offset 0 bytes)) (in-record (in-force ahead) offset a 0 bytes)
-        go (some end-of-file) e = puts-none (ap counts e)
-        go (some (extended-segment n)) e = puts-none (ap counts e)
-        go (some (start-segment cs ip)) e = puts-none (ap counts e)
-        go (some (extended-linear n)) e = puts-none (ap counts e)
-        go (some (start-linear n)) e = puts-none (ap counts e)
-
-    -- the lines behind the first
-    down : (n dri b : ℕ) → Puts-behind ahead (l ∷ ls) a (suc n) dri b → Puts-behind (ahead ++ (l ∷ [])) ls a n dri b
-    down n dri b p = record { drlo = p .drlo; bytes = p .bytes; there = p .there; inside = p .inside; holds = p .holds; at = rw append-assoc (p .at) }
-
-    up : (n dri b : ℕ) → Puts-behind (ahead ++ (l ∷ [])) ls a n dri b → Puts-behind ahead (l ∷ ls) a (suc n) dri b
-    up n dri b p = record { drlo = p .drlo; bytes = p .bytes; there = p .there; inside = p .inside; holds = p .holds; at = rw append-assoc at (p .at) }
-
-    both : (o₁ o₂ : Option ℕ) → On-first ahead l ls o₁ → Among (ahead ++ (l ∷ [])) ls o₂ → Among ahead (l ∷ ls) (or-else o₂ o₁)
-    both o₁ (some b) f (line, dri, p, later) = (suc line, dri, up line dri b p, last)
-      where
-        last : (n d c : ℕ) → Puts-behind ahead (l ∷ ls) a n d c → (n < suc line) ⊎ ((n ≡ suc line) × (d ≤ dri))
-        last zero d c q = inl (omega arith)
-        last (suc n) d c q = go (later n d c (down n d c q))
-          where
-            go : (n < line) ⊎ ((n ≡ line) × (d ≤ dri)) → (suc n < suc line) ⊎ ((suc n ≡ suc line) × (d ≤ dri))
-            go (inl h) = inl (omega arith)
-            go (inr (h, k)) = inr (ap suc h, k)
-    both (some b) none (dri, p, later) g = (zero, dri, p, last)
-      where
-        last : (n d c : ℕ) → Puts-behind ahead (l ∷ ls) a n d c → (n < 0) ⊎ ((n ≡ 0) × (d ≤ dri))
-        last zero d c q = inr (refl, later d c q)
-        last (suc n) d c q = absurd (g n d c (down n d c q))
-    both none none f g = nothing
-      where
-        nothing : (n d c : ℕ) → ¬ Puts-behind ahead (l ∷ ls) a n d c
-        nothing zero d c q = f d c q
-        nothing (suc n) d c q = g n d c (down n d c q)
-
-  among : (ahead ls : List (List ℕ)) → Among ahead ls (last-at a (all-states ahead ls))
-  unfolding all-states last-at said-record judge
-  among ahead [] = λ n dri b p. let e : none ≡ some (data-at (p .drlo) (p .bytes)) = p .there in let z : _≡_ {A = ℕ} 0 1 = cc in omega arith
-  among ahead (l ∷ ls) =
-      rw (last-append a (states ahead (record-on l)) (all-states (ahead ++ (l ∷ [])) ls))
-      (both ahead l ls (last-at a (states ahead (record-on l))) (last-at a (all-states (ahead ++ (l ∷ [])) ls)) (on-first ahead l ls) (among (ahead ++ (l ∷ [])) ls))
-
--- ---- a load
-
-behind-none : (ls : List (List ℕ)) (a n dri b : ℕ) → Puts ls n dri a b → Puts-behind [] ls a n dri b
-behind-none ls a n dri b p = record { drlo = p .drlo; bytes = p .bytes; there = p .there; inside = p .inside; holds = p .holds; at = p .at }
+-- ---- a load that is accepted
 
 -- what an accepted load owes a place, from what was found for it
 owed : (ls : List (List ℕ)) (a old : ℕ) (o : Option ℕ) → Among a [] ls o → Owed ls a old (mark o) (Option·getD o old)
@@ -181,12 +49,11 @@ owed ls a old (some b) (line, dri, p, later) =
 
 -- each line that passes is no end record
 none-ends : (inside : ℕ → Bool) (ahead ls : List (List ℕ)) → All-pass inside ahead ls → Every (λ (line : List ℕ). record-on line ≢ some end-of-file) ls
-unfolding said-record judge
 none-ends inside ahead [] p = tt
 none-ends inside ahead (l ∷ ls) (p, ps) = (go p, none-ends inside (ahead ++ (l ∷ [])) ls ps)
   where
     go : Passes inside ahead l → record-on l ≢ some end-of-file
-    go (is-empty e) q = let x : none ≡ some end-of-file = sym (ap record-on e) ∙ q in let z : _≡_ {A = ℕ} 0 1 = cc in omega arith
+    go (is-empty e) q = let x = empty-none l e in let z : _≡_ {A = ℕ} 0 1 = cc in omega arith
     go (goes-on m ne e d i) q = d cc
 
 -- and one that accepts is
@@ -201,7 +68,7 @@ stored-by-intel text first page marks k e = go (load text first page marks .answ
     v : verdict (stopping text first page marks) ≡ accepted k
     v = sym (load-answer text first page marks) ∙ e
 
-    go : (a : Verdict) → Why text first page marks a → a ≡ accepted k → Stored text first page marks (load text first page marks)
+    go : (a : Verdict) → Why text first page marks a → a ≡ accepted k → Stored text first page (load text first page marks)
     go a (bad-one w) q = let z : _≡_ {A = ℕ} 0 1 = cc in absurd (omega arith)
     go a (no-end w all) q = let z : _≡_ {A = ℕ} 0 1 = cc in absurd (omega arith)
     go a (at-line n v′ w d) q =
@@ -212,7 +79,123 @@ stored-by-intel text first page marks k e = go (load text first page marks .answ
           whole = d .whole;
           ends = end-stops _ (d .ahead) (d .line) n v′ k (d .stops) q;
           none-ahead = none-ends _ [] (d .ahead) (d .pass);
+          inside = λ n′ dri a′ b p. all-inside _ [] (d .ahead) (d .pass) n′ dri a′ b (behind-none (d .ahead) a′ n′ dri b p);
           places = λ i h. rw (accepted-load text first page marks k v)
               (rw (marked-at first (placements text) marks i (omega (arith, w .even)), painted-at first (placements text) page i h, d .stated k q)
               (owed (d .ahead) (first + i) (getD page i 0) (last-at (first + i) (all-states [] (d .ahead))) (among (first + i) [] (d .ahead))));
         }
+
+pub owed-unique : Owed-unique
+owed-unique ls a old m m′ b b′ x y = go (x .one-or-zero) (y .one-or-zero)
+  where
+    -- one is marked and the other is not
+    differ : (c d n n′ : ℕ) → Owed ls a old n c → Owed ls a old n′ d → n ≡ 1 → n′ ≡ 0 → ⊥
+    differ c d n n′ p q e f = let h = q .marked-iff-put .1 (p .marked-iff-put .0 e) in omega arith
+
+    -- two last bytes are one
+    one : Last-put ls a b → Last-put ls a b′ → b ≡ b′
+    one p q =
+        let (l, d) = same (p .none-later (q .line) (q .dri) b′ (q .puts)) (q .none-later (p .line) (p .dri) b (p .puts)) in
+        let there : some (data-at (p .puts .drlo) (p .puts .bytes)) ≡ some (data-at (q .puts .drlo) (q .puts .bytes)) =
+        sym (p .puts .there) ∙ ap (λ (n : ℕ). record-on (getD ls n [])) l ∙ q .puts .there in
+        let bytes : p .puts .bytes ≡ q .puts .bytes = cc in
+        sym (p .puts .holds) ∙ ap₂ (λ (bs : List ℕ) (n : ℕ). getD bs n 0) bytes d ∙ q .puts .holds
+      where
+        same : (q .line < p .line) ⊎ ((q .line ≡ p .line) × (q .dri ≤ p .dri)) → (p .line < q .line) ⊎ ((p .line ≡ q .line) × (p .dri ≤ q .dri)) → (p .line ≡ q .line) × (p .dri ≡ q .dri)
+        same (inl h) (inl k) = absurd (omega arith)
+        same (inl h) (inr (e, k)) = absurd (omega arith)
+        same (inr (e, h)) (inl k) = absurd (omega arith)
+        same (inr (e, h)) (inr (f, k)) = (f, omega arith)
+
+    go : (m ≡ 1) ⊎ (m ≡ 0) → (m′ ≡ 1) ⊎ (m′ ≡ 0) → (m ≡ m′) × (b ≡ b′)
+    go (inl e) (inl f) = (e ∙ sym f, one (x .marked-holds e) (y .marked-holds f))
+    go (inl e) (inr f) = absurd (differ b b′ m m′ x y e f)
+    go (inr e) (inl f) = absurd (differ b′ b m′ m y x f e)
+    go (inr e) (inr f) = (e ∙ sym f, x .unmarked-keeps e ∙ sym (y .unmarked-keeps f))
+
+-- ---- refusal 17
+
+module _ (inside : ℕ → Bool) (ahead : List (List ℕ)) (line : List ℕ) (later : List (List ℕ)) (pass : All-pass inside [] ahead) (before after : List Placement) (p : Placement) where
+  abbrev all : List (List ℕ)
+  all = ahead ++ (line ∷ later)
+
+  -- the record on the line that stops the load
+  module _ (offset : ℕ) (bytes : List ℕ) (e : record-on line ≡ some (data-at offset bytes)) (w : placed (in-force ahead) offset 0 bytes ≡ before ++ (p ∷ after)) where
+    there : record-on (getD all (length ahead) []) ≡ some (data-at offset bytes)
+    there = rw (getD-append-seam ahead line later []) e
+
+    short : length before < length bytes
+    short = let n = length-placed (in-force ahead) offset 0 bytes in let k = ap length w in let s = length-append before (p ∷ after) in omega arith
+
+    address-is : byte-address (in-force ahead) offset (length before) ≡ p .address
+    address-is =
+        let there = placed-at (in-force ahead) offset 0 bytes (length before) short in
+        let same = ap (λ (ps : List Placement). getD ps (length before) (record { address = 0; byte = 0 })) w ∙ getD-append-seam before p after (record { address = 0; byte = 0 }) in
+        rw (← (zero-add (length before))) (ap (λ (q : Placement). q .address) (sym there ∙ same))
+
+    puts : Puts all (length ahead) (length before) (p .address) (getD bytes (length before) 0)
+    puts = record { drlo = offset; bytes = bytes; there = there; inside = short; holds = refl; at = rw (take-append-seam ahead (line ∷ later), ← address-is) (at-there ahead offset (length before)) }
+
+    earlier : Every (λ (q : Placement). inside (q .address) ≡ true) before
+        → (m d a b : ℕ) → Puts all m d a b → (m < length ahead) ⊎ ((m ≡ length ahead) × (d < length before)) → inside a ≡ true
+    earlier x m d a b q (inl h) =
+        all-inside inside [] ahead pass m d a b
+        (record {
+          drlo = q .drlo;
+          bytes = q .bytes;
+          there = ap record-on (sym (List·getD-append ahead (line ∷ later) [] m h)) ∙ q .there;
+          inside = q .inside;
+          holds = q .holds;
+          at = subst (λ (ls : List (List ℕ)). At ls (q .drlo) d a) (take-append-le m ahead (line ∷ later) (omega arith)) (q .at);
+        })
+    earlier x m d a b q (inr (h, k)) =
+        let again : some (data-at offset bytes) ≡ some (data-at (q .drlo) (q .bytes)) = sym there ∙ ap (λ (n : ℕ). record-on (getD all n [])) (sym h) ∙ q .there in
+        let o : q .drlo ≡ offset = cc in
+        let ls : take m all ≡ ahead = ap (λ (n : ℕ). take n all) h ∙ take-append-seam ahead (line ∷ later) in
+        let a-is : a ≡ byte-address (in-force ahead) offset (0 + d) = at-only (take m all) (q .drlo) d a (q .at) ∙ rw (ls, o, zero-add d) in
+        rw a-is (first-inside inside (in-force ahead) offset 0 bytes before (p ∷ after) w x d k)
+
+  -- the line's first byte outside, which its placements have behind those that lie inside
+  first-out : states ahead (record-on line) ≡ before ++ (p ∷ after) → Every (λ (q : Placement). inside (q .address) ≡ true) before
+      → (dri : ℕ) × (b : ℕ) × Puts all (length ahead) dri (p .address) b
+      × ((m d a c : ℕ) → Puts all m d a c → (m < length ahead) ⊎ ((m ≡ length ahead) × (d < dri)) → inside a ≡ true)
+  unfolding states stated-by
+  first-out w x = go (record-on line) refl
+    where
+      go : (o : Option Meaning) → record-on line ≡ o
+          → (dri : ℕ) × (b : ℕ) × Puts all (length ahead) dri (p .address) b
+          × ((m d a c : ℕ) → Puts all m d a c → (m < length ahead) ⊎ ((m ≡ length ahead) × (d < dri)) → inside a ≡ true)
+      go (some (data-at offset bytes)) e =
+          let v : placed (in-force ahead) offset 0 bytes ≡ before ++ (p ∷ after) = sym (ap (states ahead) e) ∙ w in
+          (length before, getD bytes (length before) 0, puts offset bytes e v, earlier offset bytes e v x)
+      go none e = absurd (not-empty before p after (sym (ap (states ahead) e) ∙ w))
+      go (some end-of-file) e = absurd (not-empty before p after (sym (ap (states ahead) e) ∙ w))
+      go (some (extended-segment n)) e = absurd (not-empty before p after (sym (ap (states ahead) e) ∙ w))
+      go (some (start-segment cs ip)) e = absurd (not-empty before p after (sym (ap (states ahead) e) ∙ w))
+      go (some (extended-linear n)) e = absurd (not-empty before p after (sym (ap (states ahead) e) ∙ w))
+      go (some (start-linear n)) e = absurd (not-empty before p after (sym (ap (states ahead) e) ∙ w))
+
+pub outside-by-intel : Outside-by-Intel
+outside-by-intel text first page marks address line e = go (load text first page marks .answer) (reasons text first page marks) e
+  where
+    size : ℕ
+    size = length page
+
+    stops : (ahead : List (List ℕ)) (l : List ℕ) (later : List (List ℕ)) (n : ℕ) (a : Verdict) → lines text ≡ ahead ++ (l ∷ later) → n ≡ suc (length ahead)
+        → All-pass (within first size) [] ahead → Stops (within first size) ahead l n a → a ≡ refused (outside-window address) line → First-outside (lines text) first size address line
+    stops ahead l later n a w k x (the-end tally s c) q = let z : _≡_ {A = ℕ} 0 1 = cc in absurd (omega arith)
+    stops ahead l later n a w k x (no-record r b s) q =
+        let few = fault-few (subst (Stands l) s (stands l)) in
+        let r-is : r ≡ outside-window address = cc in
+        let many = ap number-of r-is in
+        absurd (omega arith)
+    stops ahead l later n a w k x (first-outside before after p s i o) q =
+        let (dri, b, puts, earlier) = first-out (within first size) ahead l later x before after p s i in
+        let at : p .address ≡ address = cc in
+        let on : n ≡ line = cc in
+        rw (w, ← at, ← on) (record { n = length ahead; dri = dri; byte = b; number = k; puts = puts; out = o; earlier = earlier })
+
+    go : (a : Verdict) → Why text first page marks a → a ≡ refused (outside-window address) line → First-outside (lines text) first size address line
+    go a (bad-one w) q = let z : _≡_ {A = ℕ} 0 1 = cc in absurd (omega arith)
+    go a (no-end w all) q = let z : _≡_ {A = ℕ} 0 1 = cc in absurd (omega arith)
+    go a (at-line n v w d) q = stops (d .ahead) (d .line) (d .later) n v (d .whole) (d .number) (d .pass) (d .stops) q

@@ -1,4 +1,4 @@
--- A text loaded into a page with marks: document 01, "Loader", and rows 13, 16, 17 of its table.
+-- A text loaded into a page with marks: document 01, "Loader", and rows 13, 16, 17 of its table. Where bytes lie stands in `Placing`.
 -- Assumes nothing.
 use Prim.Native.Nat.{ℕ, suc, _+_, _^_}
 use mathlib.Core.Bool.{Bool, not, _&&_, _||_}

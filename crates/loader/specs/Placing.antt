@@ -1,4 +1,4 @@
--- What a row of things said states: bytes at addresses, in order.
+-- What a row of things said states: bytes at addresses, in order. Document 01, "Loader", with the bases and sums of document 02's second request.
 -- Assumes nothing.
 use Prim.Native.Nat.{ℕ, suc, _+_, _*_, _%_, _^_}
 use mathlib.Core.List.{List, [], _∷_, _++_}

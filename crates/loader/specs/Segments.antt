@@ -1,20 +1,22 @@
--- What is claimed of the placing: Intel's rule in Intel's words, for each of the three cases; and which texts are placed here as by tools
--- that know no segments. Each claim is proved in `proofs/Segments.antt`.
+-- What is claimed of the placing: Intel's rule in Intel's words, for each of the three cases, and what a load stores by it; and which texts
+-- are loaded as they would be without segments. Each claim is proved in `proofs/Segments.antt`, `proofs/Stored.antt` or `proofs/Apart.antt`.
 -- Assumes nothing.
 use mathlib.Core.Path.{_≡_}
 use mathlib.Core.Logic.{_≢_, _↔_, _⊎_}
-use Prim.Native.Nat.{ℕ, _+_, _*_, _%_, _^_, _≤_, _<_}
+use Prim.Native.Nat.{ℕ, suc, _+_, _*_, _%_, _^_, _≤_, _<_}
+use mathlib.Core.Bool.{true, false}
 use mathlib.Core.Option.{some}
 use mathlib.Core.List.{List, [], _∷_, _++_}
 use lib.ListN.{length, getD, take}
 use Rattle.record.specs.Common.{Every, text}
+use Rattle.record.specs.Refusals.{outside-window}
 use Rattle.record.specs.Line.{says, wrong}
 use Rattle.record.specs.Meaning.{Meaning, data-at, end-of-file, extended-segment, start-segment, extended-linear, start-linear, meaning}
 use Rattle.reader.specs.Lines.{lines}
 use Rattle.reader.specs.Row.{Numbered, on, row}
 use Rattle.reader.specs.Text.{default-options}
 use Rattle.loader.specs.Placing.{Base, from-segment, from-linear, segment, from-start, stated-by, base-behind, Action, fails, step-at, stated}
-use Rattle.loader.specs.Load.{Tally, accepted, verdict, Loaded, store, stopping-at, steps-of, load}
+use Rattle.loader.specs.Load.{Tally, Verdict, accepted, refused, verdict, within, Loaded, store, stopping-at, steps-of, load}
 use Rattle.loader.specs.Claims.{record-on, states, beyond}
 
 -- ---- Intel's rule
@@ -39,8 +41,9 @@ SBA usba = usba * 2 ^ 4
 abbrev pub LBA : (ulba : ℕ) → ℕ
 LBA ulba = ulba * 2 ^ 16
 
--- where byte DRI of a data record lies that stands behind these lines and has the load offset DRLO: the sums go modulo 64K and modulo 4G;
--- before any extension record the segment base is zero
+-- where byte DRI of a data record lies that stands behind these lines and has the load offset DRLO: the sums go modulo 64K and modulo 4G.
+-- Each sum is Intel's. That the latest extension record says which holds, and that before any it is the first with a base of zero, is
+-- document 02's.
 pub data At (ahead : List (List ℕ)) (drlo dri : ℕ) : (address : ℕ) → Type 0 where
   in-segment : (usba : ℕ) → Latest ahead (extended-segment usba) → At ahead drlo dri (SBA usba + (drlo + dri) % 2 ^ 16)
   along-line : (ulba : ℕ) → Latest ahead (extended-linear ulba) → At ahead drlo dri ((LBA ulba + drlo + dri) % 2 ^ 32)
@@ -83,21 +86,44 @@ pub record Owed (ahead : List (List ℕ)) (address old mark byte : ℕ) : Type 0
   pub marked-holds : mark ≡ 1 → Last-put ahead address byte
   pub unmarked-keeps : mark ≡ 0 → byte ≡ old
 
--- the lines ahead of the first end record, and what a load into this window owes each place
-pub record Stored (text : List ℕ) (first : ℕ) (page marks : List ℕ) (l : Loaded) : Type 0 where
+-- which leaves nothing open
+abbrev pub Owed-unique : Type 0
+Owed-unique =
+    (ahead : List (List ℕ)) (address old mark mark′ byte byte′ : ℕ)
+    → Owed ahead address old mark byte → Owed ahead address old mark′ byte′ → (mark ≡ mark′) × (byte ≡ byte′)
+
+-- the lines ahead of the first end record put every byte inside this window, and a load owes each place what they put
+pub record Stored (text : List ℕ) (first : ℕ) (page : List ℕ) (l : Loaded) : Type 0 where
   pub ahead : List (List ℕ)
   pub end : List ℕ
   pub later : List (List ℕ)
   pub whole : lines text ≡ ahead ++ (end ∷ later)
   pub ends : record-on end ≡ some end-of-file
   pub none-ahead : Every (λ (line : List ℕ). record-on line ≢ some end-of-file) ahead
+  pub inside : (n dri a b : ℕ) → Puts ahead n dri a b → within first (length page) a ≡ true
   pub places : (i : ℕ) → i < length page → Owed ahead (first + i) (getD page i 0) (getD (l .marks) i 0) (getD (l .page) i 0)
 
 abbrev pub Stored-by-Intel : Type 0
 Stored-by-Intel =
     (text : List ℕ) (first : ℕ) (page marks : List ℕ) (tally : Tally)
     → let l = load text first page marks in
-    l .answer ≡ accepted tally → Stored text first page marks l
+    l .answer ≡ accepted tally → Stored text first page l
+
+-- the first byte that lines put outside a window, on a line whose number counts from 1: every earlier byte lies inside
+pub record First-outside (ls : List (List ℕ)) (first size address line : ℕ) : Type 0 where
+  pub n : ℕ
+  pub dri : ℕ
+  pub byte : ℕ
+  pub number : line ≡ suc n
+  pub puts : Puts ls n dri address byte
+  pub out : within first size address ≡ false
+  pub earlier : (m d a b : ℕ) → Puts ls m d a b → (m < n) ⊎ ((m ≡ n) × (d < dri)) → within first size a ≡ true
+
+-- refusal 17 names it
+abbrev pub Outside-by-Intel : Type 0
+Outside-by-Intel =
+    (text : List ℕ) (first : ℕ) (page marks : List ℕ) (address line : ℕ)
+    → (load text first page marks) .answer ≡ refused (outside-window address) line → First-outside (lines text) first (length page) address line
 
 -- ---- without segments
 
@@ -121,7 +147,7 @@ flat-load text first page marks =
     let steps = flat-steps from-start (row default-options text) in
     store first (stated steps) page marks (verdict (stopping-at steps first page marks))
 
--- no data record passes its segment's end
+-- the record does not pass its segment's end: only a data record in a segment could
 abbrev pub In-segment : Base → Meaning → Type 0
 In-segment (from-segment base) (data-at offset bytes) = offset + length bytes ≤ 65536
 In-segment (from-segment base) end-of-file = Unit
@@ -131,6 +157,7 @@ In-segment (from-segment base) (extended-linear number) = Unit
 In-segment (from-segment base) (start-linear number) = Unit
 In-segment (from-linear base) m = Unit
 
+-- no record of the row does
 abbrev pub In-segments : Base → List Numbered → Type 0
 In-segments base [] = Unit
 In-segments base (on n (says kind address payload) ∷ row) =
@@ -143,7 +170,8 @@ Record-unchanged =
     (number offset : ℕ) (bytes : List ℕ) → number < 65536 → offset < 65536
     → (stated-by (flat (segment number)) (data-at offset bytes) ≡ stated-by (segment number) (data-at offset bytes)) ↔ (offset + length bytes ≤ 65536)
 
--- a text's steps are what they are without segments exactly if no data record through the end record passes its segment's end
+-- a text's steps are what they are without segments exactly if no data record passes its segment's end, through the line at which the
+-- reading stops: the first end record, or the first line that is refused
 abbrev pub Text-unchanged : Type 0
 Text-unchanged =
     (text : List ℕ) → let read = row default-options text in (flat-steps from-start read ≡ steps-of text) ↔ In-segments from-start read
@@ -153,6 +181,18 @@ abbrev pub Load-unchanged : Type 0
 Load-unchanged =
     (text : List ℕ) (first : ℕ) (page marks : List ℕ) → In-segments from-start (row default-options text)
     → flat-load text first page marks ≡ load text first page marks
+
+-- refused with 17
+abbrev pub Outside : Verdict → Type 0
+Outside v = (address : ℕ) × (line : ℕ) × (v ≡ refused (outside-window address) line)
+
+-- where the two loads are not the same, one of them is refused with 17: what both accept, they store alike
+abbrev pub Same-or-outside : Type 0
+Same-or-outside =
+    (text : List ℕ) (first : ℕ) (page marks : List ℕ)
+    → let l = load text first page marks in
+    let f = flat-load text first page marks in
+    (f ≡ l) ⊎ (Outside (f .answer) ⊎ Outside (l .answer))
 
 -- ---- examples
 

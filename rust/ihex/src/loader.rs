@@ -82,10 +82,10 @@ impl Error for LoadError {
 /// that the text states holds its byte and its mark is 1, and every other place keeps its byte and
 /// its mark is 0. A refused load changes neither page nor marks.
 ///
-/// Byte i of a data record lies by Intel's rule: while a type 02 is the latest extension record, and
-/// before any with base 0, at base + ((offset + i) modulo 65,536); while a type 04 is, at (base +
-/// offset + i) modulo 2^32. So a record that passes the end of its segment goes on at the segment's
-/// start.
+/// While a type 02 is the latest extension record, with base 16 times its number, and before any,
+/// with base 0, byte i of a data record lies at base + ((offset + i) modulo 65,536): a record that
+/// passes the end of its segment goes on at the segment's start. While a type 04 is, with base 65,536
+/// times its number, it lies at (base + offset + i) modulo 2^32.
 ///
 /// ```
 #[doc = include_str!("../examples/load.rs")]

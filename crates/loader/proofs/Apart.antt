@@ -1,0 +1,141 @@
+-- Where a load and the load without segments part, one of them is refused with 17: a record that passes its segment's end states the
+-- segment's base by one placing and lies 65,536 further by the other, and no window holds both.
+-- Assumes nothing.
+use mathlib.Core.Path.{_≡_, refl, sym, ap, ap₂, _∙_}
+use mathlib.Core.Logic.{_⊎_, inl, inr}
+use Prim.Native.Nat.{ℕ, zero, suc, _+_, _-_, _^_, _≤_, _<_}
+use native.Mathlib.Omega.{arith}
+use mathlib.Core.Bool.{Bool, true, false}
+use mathlib.Core.Option.{Option, none, some}
+use mathlib.Core.List.{List, [], _∷_, _++_}
+use lib.Dec.{ltb}
+use lib.ListN.{length, getD}
+use borrow.Author.Tests.{ltb-true, ltb-false}
+use Rattle.record.specs.Common.{if_then_else_}
+use Rattle.record.specs.Refusals.{bad-window}
+use Rattle.record.specs.Line.{says}
+use Rattle.record.specs.Meaning.{Meaning, data-at, end-of-file, extended-segment, start-segment, extended-linear, start-linear, meaning}
+use Rattle.record.specs.Written.{Sayable}
+use Rattle.reader.specs.Lines.{lines}
+use Rattle.reader.specs.Row.{Numbered, on, row}
+use Rattle.reader.specs.Text.{default-options}
+use Rattle.loader.specs.Placing.{Placement, Base, from-segment, from-linear, from-start, byte-address, placed, base-behind, Action, places, step-at, steps, stated}
+use Rattle.loader.specs.Load.{Tally, no-records, one-more, Decision, by, refused, verdict, within, outside, or-later, decision, unfit, Loaded, store, steps-of, placements, stopping, load}
+use Rattle.loader.specs.Segments.{flat, flat-steps, flat-load, Outside, Same-or-outside}
+use Rattle.loader.proofs.Stores.{within-true, outside-none}
+use Rattle.loader.proofs.Demand3.{good-window, stored-answer}
+use Rattle.loader.proofs.Segments.{Low, low-start, placed-at, length-placed, unwrapped, by-rows}
+
+module _ (first size : ℕ) (small : size ≤ 65536) where
+  abbrev inside : ℕ → Bool
+  inside = within first size
+
+  -- two rows of steps: they come to the same, or one of them is refused with 17
+  abbrev Alike : Tally → (s₁ s₂ : List Action) → Type 0
+  Alike tally s₁ s₂ = (decision inside tally s₁ ≡ decision inside tally s₂) × (stated s₁ ≡ stated s₂)
+
+  abbrev Sides : Tally → (s₁ s₂ : List Action) → Type 0
+  Sides tally s₁ s₂ = Alike tally s₁ s₂ ⊎ (Outside (verdict (decision inside tally s₁)) ⊎ Outside (verdict (decision inside tally s₂)))
+
+  inside-at : (ps : List Placement) (j : ℕ) → j < length ps → outside inside ps ≡ none → inside ((getD ps j (record { address = 0; byte = 0 })) .address) ≡ true
+  inside-at [] j h e = absurd (omega arith)
+  inside-at (p ∷ ps) zero h e = outside-none inside p ps e .0
+  inside-at (p ∷ ps) (suc j) h e = inside-at ps j (omega arith) (outside-none inside p ps e .1)
+
+  byte-inside : (base : Base) (offset : ℕ) (bytes : List ℕ) (j : ℕ) → j < length bytes → outside inside (placed base offset 0 bytes) ≡ none
+      → (first ≤ byte-address base offset (0 + j)) × (byte-address base offset (0 + j) < first + size)
+  byte-inside base offset bytes j h e =
+      let i = inside-at (placed base offset 0 bytes) j (rw (length-placed base offset 0 bytes) h) e in
+      within-true first size (byte-address base offset (0 + j)) (ap (λ (p : Placement). inside (p .address)) (sym (placed-at base offset 0 bytes j h)) ∙ i)
+
+  -- a record that passes its segment's end does not lie inside by both placings
+  not-both : (base offset : ℕ) (bytes : List ℕ) → base + 65536 ≤ 2 ^ 32 → offset < 65536 → 65536 < offset + length bytes
+      → outside inside (placed (from-linear base) offset 0 bytes) ≡ none → outside inside (placed (from-segment base) offset 0 bytes) ≡ none → ⊥
+  unfolding byte-address
+  not-both base offset bytes b o h x y =
+      let k = 65536 - offset in
+      let along = byte-inside (from-linear base) offset bytes k (omega arith) x in
+      let wrapped = byte-inside (from-segment base) offset bytes k (omega arith) y in
+      omega arith
+
+  -- the same step ahead of both
+  ahead : (n : ℕ) (what : List Placement) (s₁ s₂ : List Action) → ((t : Tally) → Sides t s₁ s₂) → (tally : Tally) → Sides tally (places n what ∷ s₁) (places n what ∷ s₂)
+  unfolding decision or-later verdict stated
+  ahead n what s₁ s₂ h tally = go (outside inside what) (h (one-more tally))
+    where
+      go : (o : Option ℕ) → Sides (one-more tally) s₁ s₂
+          → ((or-later n o (decision inside (one-more tally) s₁) ≡ or-later n o (decision inside (one-more tally) s₂)) × (what ++ stated s₁ ≡ what ++ stated s₂))
+          ⊎ (Outside (verdict (or-later n o (decision inside (one-more tally) s₁))) ⊎ Outside (verdict (or-later n o (decision inside (one-more tally) s₂))))
+      go (some a) x = inr (inl (a, n, refl))
+      go none (inl (d, e)) = inl (d, ap (λ (ps : List Placement). what ++ ps) e)
+      go none (inr x) = inr x
+
+  -- the steps of a record that passes its segment's end
+  parted : (n base offset : ℕ) (bytes : List ℕ) (s₁ s₂ : List Action) → base + 65536 ≤ 2 ^ 32 → offset < 65536 → 65536 < offset + length bytes
+      → (tally : Tally) → Sides tally (places n (placed (from-linear base) offset 0 bytes) ∷ s₁) (places n (placed (from-segment base) offset 0 bytes) ∷ s₂)
+  unfolding decision or-later verdict stated
+  parted n base offset bytes s₁ s₂ b o h tally = inr (go (outside inside (placed (from-linear base) offset 0 bytes)) (outside inside (placed (from-segment base) offset 0 bytes)) refl refl)
+    where
+      go : (p q : Option ℕ) → outside inside (placed (from-linear base) offset 0 bytes) ≡ p → outside inside (placed (from-segment base) offset 0 bytes) ≡ q
+          → Outside (verdict (or-later n p (decision inside (one-more tally) s₁))) ⊎ Outside (verdict (or-later n q (decision inside (one-more tally) s₂)))
+      go (some a) q x y = inl (a, n, refl)
+      go none (some a) x y = inr (a, n, refl)
+      go none none x y = absurd (not-both base offset bytes b o h x y)
+
+  abbrev Parts : Base → List Numbered → Type 0
+  Parts base row = (tally : Tally) → Sides tally (flat-steps base row) (steps base row)
+
+  step-parts : (n : ℕ) (base : Base) (m : Meaning) (s₁ s₂ : List Action) → Sayable m → Low base → ((t : Tally) → Sides t s₁ s₂)
+      → (tally : Tally) → Sides tally (step-at n (flat base) m ++ s₁) (step-at n base m ++ s₂)
+  unfolding step-at flat decision stated Low
+  step-parts n (from-linear base) (data-at offset bytes) s₁ s₂ s h f tally = ahead n (placed (from-linear base) offset 0 bytes) s₁ s₂ f tally
+  step-parts n (from-segment base) (data-at offset bytes) s₁ s₂ s h f tally = go (ltb 65536 (offset + length bytes)) refl
+    where
+      go : (t : Bool) → ltb 65536 (offset + length bytes) ≡ t
+          → Sides tally (places n (placed (from-linear base) offset 0 bytes) ∷ s₁) (places n (placed (from-segment base) offset 0 bytes) ∷ s₂)
+      go true e = parted n base offset bytes s₁ s₂ h (s .0) (ltb-true 65536 (offset + length bytes) e) tally
+      go false e =
+          rw (unwrapped base offset 0 bytes h (omega (arith, ltb-false 65536 (offset + length bytes) e))) (ahead n (placed (from-segment base) offset 0 bytes) s₁ s₂ f tally)
+  step-parts n base end-of-file s₁ s₂ s h f tally = inl (refl, refl)
+  step-parts n base (extended-segment x) s₁ s₂ s h f tally = f tally
+  step-parts n base (start-segment cs ip) s₁ s₂ s h f tally = f tally
+  step-parts n base (extended-linear x) s₁ s₂ s h f tally = f tally
+  step-parts n base (start-linear x) s₁ s₂ s h f tally = f tally
+
+  record-parts : (n : ℕ) (base : Base) (kind address : ℕ) (payload : List ℕ) (row : List Numbered) → let m = meaning kind address payload in
+      Sayable m → Low base → Parts (base-behind base m) row → Parts base (on n (says kind address payload) ∷ row)
+  unfolding flat-steps steps
+  record-parts n base kind address payload row s h f = step-parts n base (meaning kind address payload) _ _ s h f
+
+  parts : (text : List ℕ) → Parts from-start (row default-options text)
+  unfolding row flat-steps steps decision stated
+  parts text = by-rows Parts (λ base tally. inl (refl, refl)) (λ n base r tally. inl (refl, refl)) record-parts 1 (lines text) from-start low-start
+
+pub same-or-outside : Same-or-outside
+unfolding load flat-load placements stopping
+same-or-outside text first page marks = go (unfit first (length page) (length marks)) refl
+  where
+    inside-it : ℕ → Bool
+    inside-it = within first (length page)
+
+    -- the load of steps, once it is known whether the window is refused
+    kept : Bool → List Action → Loaded
+    kept b s = store first (stated s) page marks (verdict (if b then some (by 0 (refused bad-window 0)) else decision inside-it no-records s))
+
+    answers : (s : List Action) → Outside (verdict (decision inside-it no-records s)) → Outside ((kept false s) .answer)
+    answers s (a, n, e) = (a, n, stored-answer first (stated s) page marks (verdict (decision inside-it no-records s)) ∙ e)
+
+    s₁ : List Action
+    s₁ = flat-steps from-start (row default-options text)
+
+    s₂ : List Action
+    s₂ = steps-of text
+
+    go : (b : Bool) → unfit first (length page) (length marks) ≡ b → (kept b s₁ ≡ kept b s₂) ⊎ (Outside ((kept b s₁) .answer) ⊎ Outside ((kept b s₂) .answer))
+    go true e = inl refl
+    go false e = sides (parts first (length page) (good-window first page marks e .small) text no-records)
+      where
+        sides : Sides first (length page) (good-window first page marks e .small) no-records s₁ s₂ → (kept false s₁ ≡ kept false s₂) ⊎ (Outside ((kept false s₁) .answer) ⊎ Outside ((kept false s₂) .answer))
+        sides (inl (d, q)) = inl (ap₂ (λ (ps : List Placement) (o : Option Decision). store first ps page marks (verdict o)) q d)
+        sides (inr (inl o)) = inr (inl (answers s₁ o))
+        sides (inr (inr o)) = inr (inr (answers s₂ o))
