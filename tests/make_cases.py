@@ -5,8 +5,8 @@
     tests/make_cases.py --check    says whether the stored files are what it would write
 
 The answers come from a model of documents 01 and 02 that shares nothing with the port: its record reader is
-model.py, the rest stands here. The examples of document 01 and the limits stand here with their answers
-as well, and the model is held to them. src/main.rt of `replay` says what a case looks like.
+model.py, the rest stands here. The examples of documents 01 and 02 and the limits stand here with their
+answers as well, and the model is held to them. src/main.rt of `replay` says what a case looks like.
 """
 import pathlib
 import sys
@@ -703,8 +703,9 @@ def of_refused_payloads():
 
 # Document 01's example of a load: a byte at 12005.
 PLACED = ended(":020000021200EA", ":010005007783", END)
-# A byte 77 at offset 2, and lines that set the base to 12340 and to 10000.
+# A byte 77 at offset 2; lines that set the base to 12340 and to 10000; and others that set it to 12000 and to 20000.
 ONE, SEGMENT, LINEAR = record(0, 2, b"\x77"), record(2, 0, b"\x12\x34"), record(4, 0, b"\x00\x01")
+OTHER_SEGMENT, OTHER_LINEAR = record(2, 0, b"\x12\x00"), record(4, 0, b"\x00\x02")
 
 
 def of_addresses():
@@ -724,13 +725,14 @@ def of_addresses():
     load_case(ended(":02000004FFFFFC", record(0, 0xFFFE, some_bytes(4, 1)), END), "! 17 00000000 @2", 0xFFFFFFC0, 64)
 
 
-# A record of two bytes across offset FFFF.
+# A record of two bytes across offset FFFF, and start records of both types.
 OVER = ":02FFFF00AABB9B"
+STARTS = record(3, 0, b"\x12\x34\x56\x78"), record(5, 0, b"\x00\x01\x00\x00")
 
 
 def of_segments():
     heading("loads: a record across FFFF, with no extension record and in segment 0")
-    for ahead in ((), (record(2, 0, b"\x00\x00"),), (record(3, 0, b"\x12\x34\x56\x78"), record(5, 0, b"\x00\x01\x00\x00"))):
+    for ahead in ((), (record(2, 0, b"\x00\x00"),), STARTS):
         over, line = ended(*ahead, OVER, END), len(ahead) + 1
         load_case(over, "A 1", 0, 65536, places={0xFFFF: 0xAA, 0: 0xBB})
         load_case(over, f"! 17 00000000 @{line}", 0xFFFF, 2)
@@ -757,6 +759,37 @@ def of_segments():
     load_case(ended(record(2, 0, b"\xFF\xFF"), record(0, 0xF, b"\x11\x12"), END), "A 1", 0xFFFFC, places={3: 0x11, 4: 0x12})
     load_case(ended(record(2, 0, b"\xF0\x00"), OVER, END), "! 17 000F0000 @2", 0xFFFFC, 8)
     load_case(ended(record(2, 0, b"\xF0\x01"), record(0, 0xFFEF, b"\x11\x12"), END), "A 1", 0xFFFFC, places={3: 0x11, 4: 0x12})
+    heading("loads: a record across FFFF behind two of type 02 and two of type 04, the second holds alone")
+    over = ended(SEGMENT, OTHER_SEGMENT, OVER, END)
+    load_case(over, "A 1", 0x12000, 65536, places={0xFFFF: 0xAA, 0: 0xBB})
+    load_case(over, "! 17 00012000 @3", 0x12340, 65536)
+    load_case(over, "! 17 00021FFF @3", 0x24340, 65536)
+    over = ended(OTHER_SEGMENT, SEGMENT, OVER, END)
+    load_case(over, "A 1", 0x12340, 65536, places={0xFFFF: 0xAA, 0: 0xBB})
+    load_case(over, "! 17 0002233F @3", 0x12000, 65536)
+    load_case(over, "! 17 0002233F @3", 0x24340, 65536)
+    over = ended(LINEAR, OTHER_LINEAR, OVER, END)
+    load_case(over, "A 1", 0x2FFFF, 2, places={0: 0xAA, 1: 0xBB})
+    load_case(over, "! 17 0002FFFF @3", 0x1FFFF, 2)
+    load_case(over, "! 17 0002FFFF @3", 0x3FFFF, 2)
+
+
+def of_inside_again():
+    heading("loads: a record inside the window, then outside, then inside again")
+    three, six = ":03FFFE001122339A", ":06FFFD00010203040506E9"
+    load_case(ended(three, END), "A 1", 0, 65536, places={0xFFFE: 0x11, 0xFFFF: 0x22, 0: 0x33})
+    load_case(ended(three, END), "! 17 0000FFFF @1", 0, 65535)
+    load_case(ended(six, END), "! 17 0000FFFD @1", 0, 8)
+    load_case(ended(six, END), "! 17 0000FFFE @1", 0, 65534)
+    load_case(ended(six, END), "! 17 00000000 @1", 1, 65535)
+    load_case(ended(six, END), "! 17 00000000 @1", 2, 65536)
+    heading("loads: the same in segment 1200")
+    load_case(ended(OTHER_SEGMENT, three, END), "A 1", 0x12000, 65536, places={0xFFFE: 0x11, 0xFFFF: 0x22, 0: 0x33})
+    load_case(ended(OTHER_SEGMENT, three, END), "! 17 00021FFF @2", 0x12000, 65535)
+    load_case(ended(OTHER_SEGMENT, six, END), "! 17 00021FFD @2", 0x12000, 8)
+    load_case(ended(OTHER_SEGMENT, six, END), "! 17 00021FFE @2", 0x12000, 65534)
+    load_case(ended(OTHER_SEGMENT, six, END), "! 17 00012000 @2", 0x12001, 65535)
+    load_case(ended(OTHER_SEGMENT, six, END), "! 17 00012000 @2", 0x12002, 65536)
 
 
 def of_wraps():
@@ -783,6 +816,27 @@ def of_wraps():
     load_case(ended(line, OVER, low, other, line, record(0, 0xFFFF, b"\x11\x22"), END), "A 3", 0x10, 65536, places={0xFFEF: 0x11, 0xFFF0: 0x22, 0xFFFF: 0xCC, 0: 0xDD})
     load_case(ended(line, OVER, record(2, 0, b"\x00\x00"), other, END), "! 17 00000000 @4", 0x10, 65536)
     load_case(ended(LINEAR, low, record(0, 0xFFFF, b"\x77"), END), "A 1", 0x10, 65536, places={0xFFFF: 0x77})
+
+
+def of_wraps_behind_starts():
+    heading("loads: across FFFF behind a start record, by the rule of the extension record ahead of it")
+    for start in STARTS:
+        over = ended(SEGMENT, start, OVER, END)
+        load_case(over, "A 1", 0x12340, 65536, places={0xFFFF: 0xAA, 0: 0xBB})
+        load_case(over, "! 17 00012340 @3", 0x2233F, 2)
+        load_case(over, "! 17 0002233F @3", 0, 65536)
+        load_case(over, "! 17 0002233F @3", 0xFFFF, 2)
+        over = ended(LINEAR, start, OVER, END)
+        load_case(over, "A 1", 0x1FFFF, 2, places={0: 0xAA, 1: 0xBB})
+        load_case(over, "! 17 00020000 @3", 0x10000, 65536)
+        load_case(over, "! 17 0001FFFF @3", 0x10, 65536)
+        load_case(over, "! 17 0001FFFF @3", 0, 65536)
+        load_case(over, "! 17 0001FFFF @3", 0xFFFF, 2)
+        over = ended(record(4, 0, b"\x00\x00"), start, OVER, END)
+        load_case(over, "A 1", 0xFFFF, 2, places={0: 0xAA, 1: 0xBB})
+        load_case(over, "! 17 00010000 @3", 0, 65536)
+        load_case(ended(LINEAR, SEGMENT, start, OVER, END), "A 1", 0x12340, 65536, places={0xFFFF: 0xAA, 0: 0xBB})
+        load_case(ended(SEGMENT, LINEAR, start, OVER, END), "A 1", 0x1FFFF, 2, places={0: 0xAA, 1: 0xBB})
 
 
 def of_windows():
@@ -832,7 +886,19 @@ def of_bases():
     load_case(ended(record(2, 0, b"\xFF\xFF"), record(0, 0xFFFF, b"\x77"), END), "A 1", 0x10FFE8, places={7: 0x77})
     load_case(ended(ONE, LINEAR, record(0, 0, b"\x55"), END), "! 17 00010000 @3", 0)
     load_case(ended(record(0, 0xFFFF, b"\x11"), LINEAR, record(0, 0, b"\x22"), END), "A 2", 0xFFFC, places={3: 0x11, 4: 0x22})
-    load_case(ended(record(3, 0, b"\x12\x34\x56\x78"), ONE, record(5, 0, b"\x00\x01\x00\x00"), record(0, 3, b"\x66"), END), "A 2", places={2: 0x77, 3: 0x66})
+    load_case(ended(STARTS[0], ONE, STARTS[1], record(0, 3, b"\x66"), END), "A 2", places={2: 0x77, 3: 0x66})
+    for start in STARTS:
+        load_case(ended(SEGMENT, start, ONE, END), "A 1", 0x12340, places={2: 0x77})
+        load_case(ended(SEGMENT, start, ONE, END), "! 17 00012342 @3", 0)
+        load_case(ended(LINEAR, start, ONE, END), "A 1", 0x10000, places={2: 0x77})
+        load_case(ended(LINEAR, start, ONE, END), "! 17 00010002 @3", 0)
+        load_case(ended(LINEAR, start, ONE, END), "! 17 00010002 @3", 0x10)
+    load_case(ended(SEGMENT, ONE, OTHER_SEGMENT, ONE, END), "A 2", 0x12000, 1024, places={0x342: 0x77, 2: 0x77})
+    load_case(ended(SEGMENT, OTHER_SEGMENT, ONE, END), "! 17 00012002 @3", 0x12340)
+    load_case(ended(SEGMENT, OTHER_SEGMENT, ONE, END), "! 17 00012002 @3", 0x24340)
+    load_case(ended(LINEAR, record(0, 0xFFFF, b"\x11"), OTHER_LINEAR, record(0, 0, b"\x22"), END), "A 2", 0x1FFFC, places={3: 0x11, 4: 0x22})
+    load_case(ended(LINEAR, OTHER_LINEAR, ONE, END), "! 17 00020002 @3", 0x10000)
+    load_case(ended(LINEAR, OTHER_LINEAR, ONE, END), "! 17 00020002 @3", 0x30000)
     load_case(ended(record(2, 0x1234, b"\x00\x00"), record(4, 5, b"\x00\x00"), ONE, ":00123401B9"), "A 1", places={2: 0x77})
 
 
@@ -940,7 +1006,9 @@ def make_all():
     of_refused_payloads()
     of_addresses()
     of_segments()
+    of_inside_again()
     of_wraps()
+    of_wraps_behind_starts()
     of_windows()
     of_records_half_inside()
     of_bases()

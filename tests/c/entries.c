@@ -962,6 +962,7 @@ static void loads_across_segments(void)
         {":02000002F0000C\n:02FFFF00AABB9B\n:00000001FF\n", 0xF0000, 2},
         {":02000002FFFFFE\n:02FFFF00AABB9B\n:00000001FF\n", 0xFFFF0, 2},
         {":020000040001F9\n:020000021200EA\n:02FFFF00AABB9B\n:00000001FF\n", 0x12000, 3},
+        {":020000021200EA\n:0400000300003800C1\n:02FFFF00AABB9B\n:00000001FF\n", 0x12000, 3},
     };
     size_t i;
     for (i = 0; i < sizeof wraps / sizeof *wraps; i++) {
@@ -974,6 +975,9 @@ static void loads_across_segments(void)
         CHECK(load(text, base, 8, 8) == IHEX_REFUSED + IHEX_OUTSIDE_WINDOW);
         CHECK(not_loaded(base + 0xFFFF, 0, wraps[i].line));
     }
+    /* inside the window, outside, and inside again */
+    CHECK(load(":03FFFE001122339A\n:00000001FF\n", 0, IHEX_MAX_PAGE - 1, IHEX_MAX_PAGE - 1) == IHEX_REFUSED + IHEX_OUTSIDE_WINDOW);
+    CHECK(not_loaded(0xFFFF, 0, 1));
     CHECK(load(":020000040000FA\n:02FFFF00AABB9B\n:00000001FF\n", 0xFFFF, 2, 2) == IHEX_OK);
     CHECK(loaded(1, "11", 0, "\xAA\xBB"));
     CHECK(load(":020000021200EA\n:020000040001F9\n:02FFFF00AABB9B\n:00000001FF\n", 0x1FFFF, 2, 2) == IHEX_OK);

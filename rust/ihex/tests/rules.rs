@@ -213,19 +213,20 @@ fn loads_are_refused_and_change_nothing() {
     );
 }
 
-/// What a record of two bytes across offset FFFF, behind these lines, comes to in a page: the addresses
-/// of its marks, or the address outside.
-fn crossing(ahead: &str, first: u32, size: usize) -> Result<Vec<u32>, u32> {
-    let text = format!("{ahead}:02FFFF00AABB9B\n:00000001FF\n");
+/// What these lines and an end record come to in a page: the marked addresses with their bytes, or the
+/// address outside.
+fn loaded(lines: &str, first: u32, size: usize) -> Result<Vec<(u32, u8)>, u32> {
+    let text = format!("{lines}:00000001FF\n");
     let (mut page, mut marks) = (vec![0xEE; size], vec![0xEE; size]);
     match load(&text, first, &mut page, &mut marks) {
         Ok(loaded) => {
             assert_eq!(loaded.data_records, 1);
-            Ok((first..)
-                .zip(marks)
-                .filter(|&(_, mark)| mark == 1)
-                .map(|(at, _)| at)
-                .collect())
+            let places = (first..).zip(page).zip(marks);
+            let (marked, rest): (Vec<_>, Vec<_>) = places.partition(|&(_, mark)| mark == 1);
+            for ((_, byte), mark) in rest {
+                assert_eq!((byte, mark), (0xEE, 0));
+            }
+            Ok(marked.into_iter().map(|(place, _)| place).collect())
         }
         Err(LoadError::OutsideWindow { address, .. }) => {
             assert!(page.iter().chain(&marks).all(|&byte| byte == 0xEE));
@@ -233,6 +234,11 @@ fn crossing(ahead: &str, first: u32, size: usize) -> Result<Vec<u32>, u32> {
         }
         Err(other) => panic!("{other}"),
     }
+}
+
+/// What a record of AA and BB across offset FFFF, behind these lines, comes to.
+fn crossing(ahead: &str, first: u32, size: usize) -> Result<Vec<(u32, u8)>, u32> {
+    loaded(&format!("{ahead}:02FFFF00AABB9B\n"), first, size)
 }
 
 #[test]
@@ -245,17 +251,21 @@ fn segments_wrap() {
         (":02000002F0000C\n", 0xF_0000),
         (":02000002FFFFFE\n", 0xF_FFF0),
         (":020000040001F9\n:020000021200EA\n", 0x1_2000),
+        (":020000021200EA\n:0400000300003800C1\n", 0x1_2000),
     ] {
         let end = base + 0xFFFF;
-        assert_eq!(crossing(ahead, base, full), Ok(vec![base, end]), "{ahead}");
+        let both = Ok(vec![(base, 0xBB), (end, 0xAA)]);
+        assert_eq!(crossing(ahead, base, full), both, "{ahead}");
         assert_eq!(crossing(ahead, end, 2), Err(base), "{ahead}");
         assert_eq!(crossing(ahead, base, 8), Err(end), "{ahead}");
     }
+    // inside the window, outside, and inside again
+    assert_eq!(loaded(":03FFFE001122339A\n", 0, full - 1), Err(0xFFFF));
 }
 
 #[test]
 fn lines_do_not_wrap_at_a_segment() {
-    let two = |at| Ok(vec![at, at + 1]);
+    let two = |at| Ok(vec![(at, 0xAA), (at + 1, 0xBB)]);
     assert_eq!(crossing(":020000040000FA\n", 0xFFFF, 2), two(0xFFFF));
     assert_eq!(
         crossing(":020000021200EA\n:020000040001F9\n", 0x1_FFFF, 2),

@@ -21,6 +21,8 @@ pub fn fill(
         match record? {
             Record::Data { offset, value } => {
                 records += 1;
+                // One sum, as its programmer wrote it, and no segment's wrap. The window lies out of
+                // any segment's reach, so nothing shown depends on it.
                 let place = (base + u32::from(offset)).wrapping_sub(first) as usize;
                 for (i, byte) in value.into_iter().enumerate() {
                     if place + i < page.len() {

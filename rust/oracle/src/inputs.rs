@@ -521,6 +521,8 @@ pub fn lent_list(chance: &mut Chance) -> ObjectCase {
 
 /// The places of the longest page, and of a segment.
 const FULL: usize = 65_536;
+/// A window of a segment misses fewer of its places than this.
+const MISSED: usize = 8;
 
 /// Where a page is to show memory: from which address on, how many places, and how many there could be.
 struct Window {
@@ -529,7 +531,30 @@ struct Window {
     room: usize,
 }
 
+impl Window {
+    /// Whether it is long enough for a segment, but for a few places.
+    fn holds_segment(&self) -> bool {
+        self.size > FULL - MISSED
+    }
+}
+
+/// A window of a segment, whole or without a few places at its start or its end.
+fn window_of_segment(chance: &mut Chance) -> Window {
+    let number = chance.number() as u16;
+    let number = chance.one_of(&[0, number]);
+    let missed = chance.under(MISSED);
+    let (late, short) = chance.one_of(&[(0, 0), (0, 0), (missed, 0), (0, missed)]);
+    Window {
+        first: 16 * u32::from(number) + late as u32,
+        size: FULL - short,
+        room: FULL,
+    }
+}
+
 fn window(chance: &mut Chance) -> Window {
+    if chance.once_in(10) {
+        return window_of_segment(chance);
+    }
     let first = match chance.under(8) {
         0 => 0,
         1 => u32::MAX - chance.under(300) as u32,
@@ -559,7 +584,7 @@ fn segment(window: &Window, chance: &mut Chance) -> u16 {
     let first = window.first as usize;
     let end = first + chance.under(window.size + 1);
     let begin = match chance.under(4) {
-        _ if window.size == FULL && !chance.once_in(16) => first,
+        _ if window.holds_segment() && !chance.once_in(16) => first,
         0 | 1 if end >= FULL => end - FULL,
         0 | 2 => first,
         _ => first.saturating_sub(chance.under(1024)),
@@ -567,25 +592,27 @@ fn segment(window: &Window, chance: &mut Chance) -> u16 {
     (begin / 16) as u16
 }
 
-/// Puts the line of a base near the window, and says which base that is. Ahead of all others there
-/// may be none.
-fn put_base(text: &mut Vec<u8>, window: &Window, chance: &mut Chance) -> u32 {
+/// Puts the line of a base near the window, and says which base that is and whether it wraps. Ahead
+/// of all others there may be none.
+fn put_base(text: &mut Vec<u8>, window: &Window, chance: &mut Chance) -> (u32, bool) {
     let first = window.first;
     if text.is_empty() && first < 1 << 16 && chance.once_in(2) {
-        return 0;
+        return (0, true);
     }
-    let (kind, number) = if first < 1 << 20 && chance.once_in(2) {
-        (2, segment(window, chance))
+    let wraps = first < 1 << 20 && chance.once_in(2);
+    let (kind, number, unit) = if wraps {
+        (2, segment(window, chance), 16)
     } else {
-        (4, (first >> 16) as u16)
+        (4, (first >> 16) as u16, 65_536)
     };
     text.extend(line_of(kind, 0, &number.to_be_bytes()));
     text.extend(line_end(chance));
-    u32::from(number) * if kind == 2 { 16 } else { 65_536 }
+    (u32::from(number) * unit, wraps)
 }
 
-/// Puts a line of data, mostly inside the window, with its offset from the base in force.
-fn put_data(text: &mut Vec<u8>, window: &Window, base: u32, chance: &mut Chance) {
+/// Puts a line of data, mostly inside the window, with its offset from the base in force; at times across
+/// offset FFFF, and often where that wraps in the window.
+fn put_data(text: &mut Vec<u8>, window: &Window, (base, wraps): (u32, bool), chance: &mut Chance) {
     let len = if chance.once_in(16) {
         chance.from_to(0, 255)
     } else {
@@ -598,12 +625,18 @@ fn put_data(text: &mut Vec<u8>, window: &Window, base: u32, chance: &mut Chance)
         0
     };
     let place = u64::from(window.first) + chance.under(slack + 1) as u64 + stray as u64;
-    let offset = if chance.once_in(if window.size == FULL { 3 } else { 40 }) {
+    let often = wraps && window.holds_segment();
+    let offset = if chance.once_in(if often { 3 } else { 40 }) {
         (FULL - chance.under(len + 1)) as u16
     } else {
         place.wrapping_sub(u64::from(base)) as u16
     };
     text.extend(line_of(0, offset, &chance.bytes(len)));
+    text.extend(line_end(chance));
+}
+
+fn put_start(text: &mut Vec<u8>, chance: &mut Chance) {
+    text.extend(line_of(chance.one_of(&[3, 5]), 0, &chance.bytes(4)));
     text.extend(line_end(chance));
 }
 
@@ -630,12 +663,12 @@ pub fn load(chance: &mut Chance) -> LoadCase {
     let mut text = Vec::new();
     for _ in 0..chance.under(8) {
         let base = put_base(&mut text, &window, chance);
-        for _ in 0..chance.under(6) {
-            put_data(&mut text, &window, base, chance);
-        }
-        if chance.once_in(8) {
-            text.extend(line_of(chance.one_of(&[3, 5]), 0, &chance.bytes(4)));
-            text.push(b'\n');
+        for _ in 0..chance.under(7) {
+            if chance.once_in(6) {
+                put_start(&mut text, chance);
+            } else {
+                put_data(&mut text, &window, base, chance);
+            }
         }
     }
     put_end(&mut text, chance);

@@ -4,8 +4,9 @@ use std::sync::atomic::{AtomicU64, Ordering};
 
 use ihex_sys::{BAD_RECORD, DONE, REFUSED, USED_UP};
 
-/// The entry points, and the codes that each can answer; and those of loads that rest on segments.
-const ANSWERS: [(&str, &[u32]); 8] = [
+/// The entry points, and the codes that each can answer; then the three wraps at a segment's end, and
+/// the codes that loads which rest on each are to have.
+const ANSWERS: [(&str, &[u32]); 10] = [
     (
         "record reader",
         &[
@@ -38,7 +39,15 @@ const ANSWERS: [(&str, &[u32]); 8] = [
             0, 1, 2, 3, 4, 5, 257, 258, 259, 260, 261, 262, 263, 264, 265, 266, 274, DONE,
         ],
     ),
-    ("loader, across a segment's end", &[0, 273]),
+    (
+        "loader, across a segment's end before any extension record",
+        &[0, 273],
+    ),
+    ("loader, across a segment's end behind a type 02", &[0, 273]),
+    (
+        "loader, across a segment's end behind a type 02 that stands behind a type 04",
+        &[0, 273],
+    ),
 ];
 
 pub const RECORD_READER: usize = 0;
@@ -48,13 +57,14 @@ pub const OBJECT_WRITER: usize = 3;
 pub const LOADER: usize = 4;
 pub const CHUNK_READER: usize = 5;
 pub const CHUNK_END: usize = 6;
-pub const SEGMENTS: usize = 7;
+/// The first of the three wraps, which stand in the order of `loads::UNWRAPPED`.
+pub const WRAPS: usize = 7;
 
 #[allow(clippy::declare_interior_mutable_const)]
 const NONE: AtomicU64 = AtomicU64::new(0);
 #[allow(clippy::declare_interior_mutable_const)]
 const ROW: [AtomicU64; 32] = [NONE; 32];
-static SEEN: [[AtomicU64; 32]; 8] = [ROW; 8];
+static SEEN: [[AtomicU64; 32]; 10] = [ROW; 10];
 
 /// The entry point that is given a chunk, or that ends a text in chunks.
 pub fn entry_of(chunk: Option<&[u8]>) -> usize {
@@ -71,7 +81,7 @@ fn place(code: u32) -> usize {
     }
 }
 
-/// One more answer of this entry point with this code was called for.
+/// One more answer of this entry point, or of this wrap, with this code was called for.
 pub fn note(entry: usize, code: u32) {
     SEEN[entry][place(code)].fetch_add(1, Ordering::Relaxed);
 }

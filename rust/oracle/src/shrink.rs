@@ -123,13 +123,15 @@ pub fn smaller_text(text: &[u8]) -> Vec<Vec<u8>> {
     found
 }
 
-/// Smaller numbers.
+/// Smaller numbers: with all of it taken off first, then half of it, then a quarter, down to 1.
 pub fn smaller_number(n: usize) -> Vec<usize> {
-    match n {
-        0 => vec![],
-        1 => vec![0],
-        _ => vec![0, n / 2, n - 1],
+    let mut found = Vec::new();
+    let mut off = n;
+    while off > 0 {
+        found.push(n - off);
+        off /= 2;
     }
+    found
 }
 
 /// A text as one reads it: all that is no plain character is escaped, and a long run of one

@@ -5,7 +5,9 @@ use std::io;
 
 use ihex_sys::REFUSED;
 
-use crate::loads::{intel, placed_by, Latest, LoadCase, Placing};
+use crate::loads::{
+    first_outside, intel, placed_by, Latest, LoadCase, Placing, Rules, RIGHT, UNWRAPPED,
+};
 use crate::port::{Port, Real};
 use crate::replay::Program;
 use crate::stored::Given;
@@ -123,10 +125,10 @@ impl Port for Load {
     }
 }
 
-/// A loader that places bytes by another rule.
-struct Placed(Placing);
+/// A loader that goes by other rules.
+struct Ruled(Rules);
 
-impl Port for Placed {
+impl Port for Ruled {
     fn load(
         &self,
         text: &[u8],
@@ -160,6 +162,7 @@ pub fn all() -> Vec<Wrong> {
         objects(),
         loads(),
         placings(),
+        bases(),
     ]
     .into_iter()
     .flatten()
@@ -366,35 +369,74 @@ fn loads() -> Vec<Wrong> {
     ]
 }
 
+fn ruled(name: &'static str, rules: Rules) -> Wrong {
+    (name, Box::new(Ruled(rules)))
+}
+
+/// Loaders that place a record's bytes wrongly.
 fn placings() -> Vec<Wrong> {
-    let placed = |name, placing| -> Wrong { (name, Box::new(Placed(placing))) };
-    vec![
-        placed(
-            "goes on beyond a segment's end",
-            |latest, offset, i| match latest {
-                Latest::Segment(n) => (u64::from(n) << 4) + offset + i,
-                _ => intel(latest, offset, i),
-            },
-        ),
-        placed(
+    let placed = |(name, placing)| ruled(name, Rules { placing, ..RIGHT });
+    let others: [(_, Placing); 2] = [
+        (
             "wraps at 64K along a line too",
             |latest, offset, i| match latest {
-                Latest::Linear(n) => (u64::from(n) << 16) + ((offset + i) & 0xFFFF),
+                Latest::Linear(base) => base + ((offset + i) & 0xFFFF),
                 _ => intel(latest, offset, i),
             },
         ),
-        placed(
-            "takes the sum before any extension record",
-            |latest, offset, i| match latest {
-                Latest::None => offset + i,
-                _ => intel(latest, offset, i),
-            },
-        ),
-        placed(
+        (
             "wraps a segment at 1 MiB",
             |latest, offset, i| match latest {
-                Latest::Segment(_) => intel(latest, offset, i) & 0xF_FFFF,
+                Latest::Segment(_) | Latest::Back(_) => intel(latest, offset, i) & 0xF_FFFF,
                 _ => intel(latest, offset, i),
+            },
+        ),
+    ];
+    UNWRAPPED.into_iter().chain(others).map(placed).collect()
+}
+
+/// Loaders that take another base, or another byte for the one outside.
+fn bases() -> Vec<Wrong> {
+    let start = |name, start| ruled(name, Rules { start, ..RIGHT });
+    vec![
+        start(
+            "ends the wrap at a start record before any extension record",
+            |latest| match latest {
+                Latest::None => Latest::Linear(0),
+                _ => latest,
+            },
+        ),
+        start(
+            "ends a segment's wrap at a start record",
+            |latest| match latest {
+                Latest::None => latest,
+                _ => Latest::Linear(latest.base()),
+            },
+        ),
+        start("takes the base back to 0 at a start record", |_| {
+            Latest::None
+        }),
+        start("wraps along a line behind a start record", |latest| {
+            Latest::Segment(latest.base())
+        }),
+        ruled(
+            "adds a type 02 to the one before",
+            Rules {
+                segment: |latest, base| match latest {
+                    Latest::Linear(_) => Latest::Back(base),
+                    _ => Latest::Back(latest.base() + base),
+                },
+                ..RIGHT
+            },
+        ),
+        ruled(
+            "accepts a record whose first and last byte lie inside",
+            Rules {
+                outside: |addresses, window| match (addresses.first(), addresses.last()) {
+                    (Some(a), Some(b)) if window.contains(a) && window.contains(b) => None,
+                    _ => first_outside(addresses, window),
+                },
+                ..RIGHT
             },
         ),
     ]
