@@ -96,7 +96,7 @@ def write_object(records, pool, size):
 
 
 def address_of(latest, offset, i):
-    """Where byte i of a data record lies: in the segment of a type 02, or along the line of a type 04."""
+    """Where byte i of a data record lies, by the latest extension record; before any that is a type 02 with number 0."""
     kind, number = latest
     if kind == "X2":
         return 16 * number + (offset + i) % 65536
@@ -793,7 +793,7 @@ def of_inside_again():
 
 
 def of_wraps():
-    heading("loads: long records across FFFF, and what else lies there")
+    heading("loads: long records up to FFFF and across it, and what else lies there")
     for offset, n in ((0xFFF8, 16), (0xFF80, 255), (0xFF01, 255), (0xFFFF, 255)):
         places = {(offset + i) % 65536: byte for i, byte in enumerate(some_bytes(n, 5))}
         load_case(ended(record(0, offset, some_bytes(n, 5)), END), "A 1", 0, 65536, places=places)

@@ -71,7 +71,7 @@ size_t floor_read_text(const uint8_t *text, size_t len, uint8_t *pool, uint64_t 
     return records;
 }
 
-/* Loads a text that places all at its offsets, what passes the page's end at its start: judges it first, then writes. */
+/* Loads a text with no extension record; what passes the page's end goes on at its start. Judges first, then writes. */
 size_t floor_load(const uint8_t *text, size_t len, uint8_t *page, uint8_t *marks, size_t size)
 {
     uint8_t bytes[260];

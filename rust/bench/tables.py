@@ -81,8 +81,8 @@ def whole(x):
 
 
 def shown(x):
-    """A percentage with one digit behind the point, a multiple with two."""
-    return f"{x:.2f}" if x < 2 else f"{x:.1f}"
+    """A multiple with two digits behind the point, a percentage, which is over 4, with one."""
+    return f"{x:.2f}" if x < 4 else f"{x:.1f}"
 
 
 def measured():
@@ -145,7 +145,7 @@ def show_loads(reading):
     if len({result for _, result in found.values()}) != 1:
         sys.exit(f"loads: the results differ, {found}")
     rows = [[LOADS[what], whole(n), f"{n / reading:.2f}"] for what, (n, _) in found.items()]
-    table(["Records", "Instructions", "of reading the text"], rows)
+    table(["Records", "Instructions", "times reading the text"], rows)
     return max(n for n, _ in found.values())
 
 
@@ -169,7 +169,7 @@ def show_chunks(chunks):
 
 def show_bars(who, count, loading, chunks):
     reading, writing = count["port", "text", 16], count["port", "object", 16]
-    bars = [("loading, as a multiple of reading", loading / reading, 2.5)]
+    bars = [("the dearest load, as a multiple of reading", loading / reading, 2.5)]
     if "crate" in who:
         bars += [
             ("reading a text, % of the crate's as built here", 100 * reading / count["crate", "text", 16], 18),

@@ -948,7 +948,7 @@ static int at_both_ends(void)
     return guarded(&page_) && guarded(&marks_);
 }
 
-/* a record across offset FFFF: it wraps in a segment, and before any extension record; along a line it goes on */
+/* a record across offset FFFF: it wraps in a segment, and before any extension record; under a linear base it goes on */
 static void loads_across_segments(void)
 {
     static const struct {

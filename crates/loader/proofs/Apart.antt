@@ -17,23 +17,24 @@ use Rattle.record.specs.Line.{says}
 use Rattle.record.specs.Meaning.{Meaning, data-at, end-of-file, extended-segment, start-segment, extended-linear, start-linear, meaning}
 use Rattle.record.specs.Written.{Sayable}
 use Rattle.reader.specs.Lines.{lines}
-use Rattle.reader.specs.Row.{Numbered, on, row}
+use Rattle.reader.specs.Row.{Numbered, on, is-end, row}
 use Rattle.reader.specs.Text.{default-options}
 use Rattle.loader.specs.Placing.{Placement, Base, from-segment, from-linear, from-start, byte-address, placed, base-behind, Action, places, step-at, steps, stated}
-use Rattle.loader.specs.Load.{Tally, no-records, one-more, Decision, by, refused, verdict, within, outside, or-later, decision, unfit, Loaded, store, steps-of, placements, stopping, load}
-use Rattle.loader.specs.Segments.{flat, flat-steps, flat-load, Outside, Same-or-outside}
+use Rattle.loader.specs.Load.{Tally, no-records, one-more, Decision, by, accepted, refused, verdict, within, outside, or-later, decision, unfit, Loaded, store, stopping-at, steps-of, placements, stopping, load}
+use Rattle.loader.specs.Segments.{flat, flat-steps, flat-load, In-segment, In-segments, Outside, Never-both, Same-or-outside}
 use Rattle.loader.proofs.Stores.{within-true, outside-none}
-use Rattle.loader.proofs.Demand3.{good-window, stored-answer}
+use Rattle.loader.proofs.Demand3.{good-window, stored-answer, accepted-window}
 use Rattle.loader.proofs.Segments.{Low, low-start, placed-at, length-placed, unwrapped, by-rows}
 
 module _ (first size : ℕ) (small : size ≤ 65536) where
   abbrev inside : ℕ → Bool
   inside = within first size
 
-  -- two rows of steps: they come to the same, or one of them is refused with 17
+  -- two rows of steps come to the same decision and placements
   abbrev Alike : Tally → (s₁ s₂ : List Action) → Type 0
   Alike tally s₁ s₂ = (decision inside tally s₁ ≡ decision inside tally s₂) × (stated s₁ ≡ stated s₂)
 
+  -- or one of them is refused with 17
   abbrev Sides : Tally → (s₁ s₂ : List Action) → Type 0
   Sides tally s₁ s₂ = Alike tally s₁ s₂ ⊎ (Outside (verdict (decision inside tally s₁)) ⊎ Outside (verdict (decision inside tally s₂)))
 
@@ -103,13 +104,67 @@ module _ (first size : ℕ) (small : size ≤ 65536) where
   step-parts n base (start-linear x) s₁ s₂ s h f tally = f tally
 
   record-parts : (n : ℕ) (base : Base) (kind address : ℕ) (payload : List ℕ) (row : List Numbered) → let m = meaning kind address payload in
-      Sayable m → Low base → Parts (base-behind base m) row → Parts base (on n (says kind address payload) ∷ row)
+      Sayable m → Low base → (is-end m ≡ true → row ≡ []) → Parts (base-behind base m) row → Parts base (on n (says kind address payload) ∷ row)
   unfolding flat-steps steps
-  record-parts n base kind address payload row s h f = step-parts n base (meaning kind address payload) _ _ s h f
+  record-parts n base kind address payload row s h ends f = step-parts n base (meaning kind address payload) _ _ s h f
 
   parts : (text : List ℕ) → Parts from-start (row default-options text)
   unfolding row flat-steps steps decision stated
   parts text = by-rows Parts (λ base tally. inl (refl, refl)) (λ n base r tally. inl (refl, refl)) record-parts 1 (lines text) from-start low-start
+
+  -- a decision that accepts
+  abbrev Accept : Option Decision → Type 0
+  Accept d = (t : Tally) × (verdict d ≡ accepted t)
+
+  -- where both rows of steps are accepted, no record passes its segment's end
+  abbrev Whole : Base → List Numbered → Type 0
+  Whole base row = (tally : Tally) → Accept (decision inside tally (flat-steps base row)) → Accept (decision inside tally (steps base row)) → In-segments base row
+
+  -- a record that is passed lies inside, and what is behind it is accepted
+  passed : (n : ℕ) (o : Option ℕ) (d : Option Decision) → Accept (or-later n o d) → (o ≡ none) × Accept d
+  unfolding or-later verdict
+  passed n none d x = (refl, x)
+  passed n (some a) d (t, e) = let z : _≡_ {A = ℕ} 0 1 = cc in absurd (omega arith)
+
+  step-whole : (n : ℕ) (base : Base) (m : Meaning) (s₁ s₂ : List Action) (K : Type 0) → Sayable m → Low base → (is-end m ≡ true → K)
+      → ((t : Tally) → Accept (decision inside t s₁) → Accept (decision inside t s₂) → K)
+      → (tally : Tally) → Accept (decision inside tally (step-at n (flat base) m ++ s₁)) → Accept (decision inside tally (step-at n base m ++ s₂)) → In-segment base m × K
+  unfolding step-at flat decision or-later verdict Low is-end
+  step-whole n (from-linear base) (data-at offset bytes) s₁ s₂ K s h k f tally = λ x y.
+      let p = passed n (outside inside (placed (from-linear base) offset 0 bytes)) _ x in
+      let q = passed n (outside inside (placed (from-linear base) offset 0 bytes)) _ y in
+      (tt, f (one-more tally) (p .1) (q .1))
+  step-whole n (from-segment base) (data-at offset bytes) s₁ s₂ K s h k f tally = λ x y.
+      let p = passed n (outside inside (placed (from-linear base) offset 0 bytes)) _ x in
+      let q = passed n (outside inside (placed (from-segment base) offset 0 bytes)) _ y in
+      let in-it : ¬ (65536 < offset + length bytes) = λ c. not-both base offset bytes h (s .0) c (p .0) (q .0) in
+      (omega arith, f (one-more tally) (p .1) (q .1))
+  step-whole n base end-of-file s₁ s₂ K s h k f tally = λ x y. (tt, k refl)
+  step-whole n base (extended-segment x) s₁ s₂ K s h k f tally = λ p q. (tt, f tally p q)
+  step-whole n base (start-segment cs ip) s₁ s₂ K s h k f tally = λ p q. (tt, f tally p q)
+  step-whole n base (extended-linear x) s₁ s₂ K s h k f tally = λ p q. (tt, f tally p q)
+  step-whole n base (start-linear x) s₁ s₂ K s h k f tally = λ p q. (tt, f tally p q)
+
+  record-whole : (n : ℕ) (base : Base) (kind address : ℕ) (payload : List ℕ) (row : List Numbered) → let m = meaning kind address payload in
+      Sayable m → Low base → (is-end m ≡ true → row ≡ []) → Whole (base-behind base m) row → Whole base (on n (says kind address payload) ∷ row)
+  unfolding flat-steps steps
+  record-whole n base kind address payload row s h ends f =
+      let m = meaning kind address payload in
+      step-whole n base m _ _ (In-segments (base-behind base m) row) s h (λ e. rw (ends e) tt) f
+
+  whole : (text : List ℕ) → Whole from-start (row default-options text)
+  unfolding row
+  whole text = by-rows Whole (λ base tally x y. tt) (λ n base r tally x y. tt) record-whole 1 (lines text) from-start low-start
+
+pub never-both : Never-both
+unfolding load flat-load placements stopping
+never-both text first page marks t t′ x y =
+    let s₁ = flat-steps from-start (row default-options text) in
+    let bad = unfit first (length page) (length marks) in
+    let x′ = sym (stored-answer first (stated s₁) page marks (verdict (stopping-at s₁ first page marks))) ∙ x in
+    let y′ = sym (stored-answer first (stated (steps-of text)) page marks (verdict (stopping-at (steps-of text) first page marks))) ∙ y in
+    let good : bad ≡ false = accepted-window bad (decision (within first (length page)) no-records s₁) t x′ in
+    whole first (length page) (good-window first page marks good .small) text no-records (t, rw good at x′) (t′, rw good at y′)
 
 pub same-or-outside : Same-or-outside
 unfolding load flat-load placements stopping

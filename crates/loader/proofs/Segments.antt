@@ -1,5 +1,5 @@
--- The claims of `specs/Segments.antt`, proved: the base in force is the latest one, each byte lies by its index, and an offset that stays
--- under 65,536 is added to a segment's base with nothing lost.
+-- Where bytes lie, and which texts are placed as without segments, proved: the base in force is the latest one, each byte lies by its index,
+-- and an offset that stays under 65,536 is added to a segment's base with nothing lost.
 -- Assumes nothing.
 use mathlib.Core.Path.{_≡_, refl, sym, ap, _∙_, subst}
 use mathlib.Core.Logic.{_↔_, _⊎_, inl, inr}
@@ -23,7 +23,7 @@ use Rattle.reader.specs.Text.{default-options}
 use Rattle.loader.specs.Placing.{Placement, Base, from-segment, from-linear, segment, linear, from-start, byte-address, placed, stated-by, base-behind, Action, step-at, steps, stated}
 use Rattle.loader.specs.Load.{verdict, store, stopping-at, steps-of, load}
 use Rattle.loader.specs.Claims.{record-on, sets, latest, in-force, states}
-use Rattle.loader.specs.Segments.{No-extension, Latest, At, in-segment, along-line, from-zero, Intel-rule, One-address, flat, flat-steps, flat-load, In-segment, In-segments, Record-unchanged, Text-unchanged, Load-unchanged, Examples}
+use Rattle.loader.specs.Segments.{No-extension, Latest, At, in-segment, linearly, from-zero, Intel-rule, One-address, flat, flat-steps, flat-load, In-segment, In-segments, Record-unchanged, Text-unchanged, Load-unchanged, Examples}
 
 -- ---- each byte by its index
 
@@ -108,7 +108,7 @@ one-holds (l ∷ ls) = go (one-holds ls)
 pub at-only : (ahead : List (List ℕ)) (drlo dri a : ℕ) → At ahead drlo dri a → a ≡ byte-address (in-force ahead) drlo dri
 unfolding sets in-force byte-address
 at-only ahead drlo dri a (in-segment usba x) = rw (in-force-is ahead (extended-segment usba) (segment usba) x refl) (omega arith)
-at-only ahead drlo dri a (along-line ulba x) = rw (in-force-is ahead (extended-linear ulba) (linear ulba) x refl) (omega arith)
+at-only ahead drlo dri a (linearly ulba x) = rw (in-force-is ahead (extended-linear ulba) (linear ulba) x refl) (omega arith)
 at-only ahead drlo dri a (from-zero x) = rw (none-latest ahead x) (omega arith)
 
 pub at-there : (ahead : List (List ℕ)) (drlo dri : ℕ) → At ahead drlo dri (byte-address (in-force ahead) drlo dri)
@@ -119,7 +119,7 @@ at-there ahead drlo dri = go (one-holds ahead)
 
     go : One-holds ahead → At ahead drlo dri (byte-address (in-force ahead) drlo dri)
     go (inl (usba, x)) = so _ (in-segment usba x)
-    go (inr (inl (ulba, x))) = so _ (along-line ulba x)
+    go (inr (inl (ulba, x))) = so _ (linearly ulba x)
     go (inr (inr x)) = so _ (from-zero x)
 
 pub intel-rule : Intel-rule
@@ -158,7 +158,7 @@ pub record-unchanged : Record-unchanged
 unfolding stated-by flat
 record-unchanged number offset bytes n o = (wrapped (16 * number) offset bytes o, λ h. unwrapped (16 * number) offset 0 bytes (omega arith) (omega arith))
 
--- a base that a record of a line can set
+-- a segment at this base ends by 2^32
 unfoldable pub Low : Base → Type 0
 Low (from-segment base) = base + 65536 ≤ 2 ^ 32
 Low (from-linear base) = Unit
@@ -176,10 +176,11 @@ pub low-start : Low from-start
 unfolding Low
 low-start = omega arith
 
--- what holds of the rows of lines, if it holds of nothing and of a refused line, and goes on from behind a record to it
+-- what holds of the rows of lines, if it holds of nothing and of a refused line, and goes on from behind a record to it; behind an end record
+-- there is nothing
 pub by-rows : (P : Base → List Numbered → Type 0) → ((base : Base) → P base []) → ((n : ℕ) (base : Base) (r : Refusal) → P base (on n (wrong r) ∷ []))
     → ((n : ℕ) (base : Base) (kind address : ℕ) (payload : List ℕ) (row : List Numbered) → let m = meaning kind address payload in
-    Sayable m → Low base → P (base-behind base m) row → P base (on n (says kind address payload) ∷ row))
+    Sayable m → Low base → (is-end m ≡ true → row ≡ []) → P (base-behind base m) row → P base (on n (says kind address payload) ∷ row))
     → (n : ℕ) (ls : List (List ℕ)) (base : Base) → Low base → P base (through-stop default-options (sayings n ls))
 unfolding sayings through-stop
 by-rows P nothing fails goes n [] base h = nothing base
@@ -198,19 +199,19 @@ by-rows P nothing fails goes n ((c ∷ l) ∷ ls) base h = go (judge (c ∷ l)) 
     go (says kind address payload) q ih =
         let m = meaning kind address payload in
         let s = said-is-sayable (c ∷ l) kind address payload q in
-        goes n base kind address payload (if is-end m && true then [] else row) s h
+        goes n base kind address payload (if is-end m && true then [] else row) s h (λ e. rw e)
         (cut (is-end m && true) (base-behind base m) (ih (base-behind base m) (low-behind base m s h)))
 
 -- a record's step is the same exactly if the record stays in its segment
 step-same : (n : ℕ) (base : Base) (m : Meaning) → Sayable m → Low base → (step-at n (flat base) m ≡ step-at n base m) ↔ In-segment base m
 unfolding Low flat step-at
-step-same n (from-linear base) m s h = ((λ e. tt), (λ k. refl))
+step-same n (from-linear base) (data-at offset bytes) s h = ((λ e. tt), (λ k. refl))
 step-same n (from-segment base) (data-at offset bytes) s h = ((λ e. wrapped base offset bytes (s .0) cc), (λ k. rw (unwrapped base offset 0 bytes h (omega arith))))
-step-same n (from-segment base) end-of-file s h = ((λ e. tt), (λ k. refl))
-step-same n (from-segment base) (extended-segment x) s h = ((λ e. tt), (λ k. refl))
-step-same n (from-segment base) (start-segment cs ip) s h = ((λ e. tt), (λ k. refl))
-step-same n (from-segment base) (extended-linear x) s h = ((λ e. tt), (λ k. refl))
-step-same n (from-segment base) (start-linear x) s h = ((λ e. tt), (λ k. refl))
+step-same n base end-of-file s h = ((λ e. tt), (λ k. refl))
+step-same n base (extended-segment x) s h = ((λ e. tt), (λ k. refl))
+step-same n base (start-segment cs ip) s h = ((λ e. tt), (λ k. refl))
+step-same n base (extended-linear x) s h = ((λ e. tt), (λ k. refl))
+step-same n base (start-linear x) s h = ((λ e. tt), (λ k. refl))
 
 step-length : (n : ℕ) (base b : Base) (m : Meaning) → length (step-at n b m) ≡ length (step-at n base m)
 unfolding step-at
@@ -231,9 +232,9 @@ abbrev Unchanged : Base → List Numbered → Type 0
 Unchanged base row = (flat-steps base row ≡ steps base row) ↔ In-segments base row
 
 unchanged-record : (n : ℕ) (base : Base) (kind address : ℕ) (payload : List ℕ) (row : List Numbered) → let m = meaning kind address payload in
-    Sayable m → Low base → Unchanged (base-behind base m) row → Unchanged base (on n (says kind address payload) ∷ row)
+    Sayable m → Low base → (is-end m ≡ true → row ≡ []) → Unchanged (base-behind base m) row → Unchanged base (on n (says kind address payload) ∷ row)
 unfolding flat-steps steps
-unchanged-record n base kind address payload row s h (there, back) =
+unchanged-record n base kind address payload row s h ends (there, back) =
     let m = meaning kind address payload in
     let (out, in-it) = step-same n base m s h in (
       (λ e. let (p, q) = parts _ _ _ _ (step-length n base (flat base) m) e in (out p, there q)),

@@ -1,4 +1,4 @@
--- Demand 3 and refusal 17 in Intel's words, proved from what the lines of a load put.
+-- Demand 3 and refusal 17 by Intel's sums, proved from what the lines of a load put.
 -- Assumes nothing.
 use mathlib.Core.Path.{_≡_, refl, sym, ap, ap₂, _∙_, subst}
 use mathlib.Core.Logic.{_≢_, _⊎_, inl, inr}

@@ -14,7 +14,7 @@ pub record Placement : Type 0 where
 
 -- ---- bases
 
--- the base in force, and whether bytes wrap in a segment or lie along one line
+-- the base in force: a segment's, in which bytes wrap, or a linear one
 pub data Base : Type 0 where
   from-segment : (base : ℕ) → Base
   from-linear : (base : ℕ) → Base
@@ -30,7 +30,7 @@ linear number = from-linear (65536 * number)
 abbrev pub from-start : Base
 from-start = from-segment 0
 
--- byte i of a data record: in a segment the offset wraps at 65,536, along a line the sum wraps at 2^32
+-- byte i of a data record: in a segment the offset wraps at 65,536, under a linear base the sum wraps at 2^32
 unfoldable pub byte-address : Base → (offset i : ℕ) → ℕ
 byte-address (from-segment base) offset i = base + (offset + i) % 65536
 byte-address (from-linear base) offset i = (base + offset + i) % 2 ^ 32

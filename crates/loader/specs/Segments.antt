@@ -1,5 +1,5 @@
--- What is claimed of the placing: Intel's rule in Intel's words, for each of the three cases, and what a load stores by it; and which texts
--- are loaded as they would be without segments. Each claim is proved in `proofs/Segments.antt`, `proofs/Stored.antt` or `proofs/Apart.antt`.
+-- What is claimed of the placing: Intel's sums under Intel's names, for each of document 02's three cases, and what a load stores by them;
+-- and which texts are loaded as they would be without segments. Each claim is proved in `proofs/Segments.antt`, `proofs/Stored.antt` or `proofs/Apart.antt`.
 -- Assumes nothing.
 use mathlib.Core.Path.{_≡_}
 use mathlib.Core.Logic.{_≢_, _↔_, _⊎_}
@@ -19,7 +19,7 @@ use Rattle.loader.specs.Placing.{Base, from-segment, from-linear, segmen
 use Rattle.loader.specs.Load.{Tally, Verdict, accepted, refused, verdict, within, Loaded, store, stopping-at, steps-of, load}
 use Rattle.loader.specs.Claims.{record-on, states, beyond}
 
--- ---- Intel's rule
+-- ---- Intel's sums
 
 -- neither a type 02 nor a type 04 record
 abbrev pub No-extension : (line : List ℕ) → Type 0
@@ -46,7 +46,7 @@ LBA ulba = ulba * 2 ^ 16
 -- document 02's.
 pub data At (ahead : List (List ℕ)) (drlo dri : ℕ) : (address : ℕ) → Type 0 where
   in-segment : (usba : ℕ) → Latest ahead (extended-segment usba) → At ahead drlo dri (SBA usba + (drlo + dri) % 2 ^ 16)
-  along-line : (ulba : ℕ) → Latest ahead (extended-linear ulba) → At ahead drlo dri ((LBA ulba + drlo + dri) % 2 ^ 32)
+  linearly : (ulba : ℕ) → Latest ahead (extended-linear ulba) → At ahead drlo dri ((LBA ulba + drlo + dri) % 2 ^ 32)
   from-zero : Every No-extension ahead → At ahead drlo dri ((drlo + dri) % 2 ^ 16)
 
 -- every byte that a data record states lies there
@@ -61,9 +61,9 @@ Intel-rule =
 abbrev pub One-address : Type 0
 One-address = (ahead : List (List ℕ)) (drlo dri a a′ : ℕ) → At ahead drlo dri a → At ahead drlo dri a′ → a ≡ a′
 
--- ---- demand 3 in Intel's words
+-- ---- demand 3 by Intel's sums
 
--- on line n (the first is 0) stands a data record, and Intel's rule puts its byte DRI at the address
+-- on line n (the first is 0) stands a data record, and its byte DRI lies at the address
 pub record Puts (ls : List (List ℕ)) (n dri address byte : ℕ) : Type 0 where
   pub drlo : ℕ
   pub bytes : List ℕ
@@ -92,7 +92,7 @@ Owed-unique =
     (ahead : List (List ℕ)) (address old mark mark′ byte byte′ : ℕ)
     → Owed ahead address old mark byte → Owed ahead address old mark′ byte′ → (mark ≡ mark′) × (byte ≡ byte′)
 
--- the lines ahead of the first end record put every byte inside this window, and a load owes each place what they put
+-- the lines ahead of the first end record put every byte inside this window, and the load leaves each place the mark and the byte that it owes
 pub record Stored (text : List ℕ) (first : ℕ) (page : List ℕ) (l : Loaded) : Type 0 where
   pub ahead : List (List ℕ)
   pub end : List ℕ
@@ -147,15 +147,19 @@ flat-load text first page marks =
     let steps = flat-steps from-start (row default-options text) in
     store first (stated steps) page marks (verdict (stopping-at steps first page marks))
 
--- the record does not pass its segment's end: only a data record in a segment could
+-- offsets up to this end lie in the base's segment, if it has one
+abbrev pub Fits : Base → (end : ℕ) → Type 0
+Fits (from-segment base) end = end ≤ 65536
+Fits (from-linear base) end = Unit
+
+-- the record does not pass its segment's end: only a data record could
 abbrev pub In-segment : Base → Meaning → Type 0
-In-segment (from-segment base) (data-at offset bytes) = offset + length bytes ≤ 65536
-In-segment (from-segment base) end-of-file = Unit
-In-segment (from-segment base) (extended-segment number) = Unit
-In-segment (from-segment base) (start-segment cs ip) = Unit
-In-segment (from-segment base) (extended-linear number) = Unit
-In-segment (from-segment base) (start-linear number) = Unit
-In-segment (from-linear base) m = Unit
+In-segment base (data-at offset bytes) = Fits base (offset + length bytes)
+In-segment base end-of-file = Unit
+In-segment base (extended-segment number) = Unit
+In-segment base (start-segment cs ip) = Unit
+In-segment base (extended-linear number) = Unit
+In-segment base (start-linear number) = Unit
 
 -- no record of the row does
 abbrev pub In-segments : Base → List Numbered → Type 0
@@ -164,7 +168,8 @@ In-segments base (on n (says kind address payload) ∷ row) =
     In-segment base (meaning kind address payload) × In-segments (base-behind base (meaning kind address payload)) row
 In-segments base (on n (wrong r) ∷ row) = In-segments base row
 
--- one data record of a line, in a segment
+-- a data record in a segment, with numbers of 16 bits as a line has them, lies where it would without segments exactly if it does not pass the
+-- segment's end
 abbrev pub Record-unchanged : Type 0
 Record-unchanged =
     (number offset : ℕ) (bytes : List ℕ) → number < 65536 → offset < 65536
@@ -186,7 +191,13 @@ Load-unchanged =
 abbrev pub Outside : Verdict → Type 0
 Outside v = (address : ℕ) × (line : ℕ) × (v ≡ refused (outside-window address) line)
 
--- where the two loads are not the same, one of them is refused with 17: what both accept, they store alike
+-- what both loads accept has no record that passes its segment's end
+abbrev pub Never-both : Type 0
+Never-both =
+    (text : List ℕ) (first : ℕ) (page marks : List ℕ) (t t′ : Tally)
+    → (flat-load text first page marks) .answer ≡ accepted t → (load text first page marks) .answer ≡ accepted t′ → In-segments from-start (row default-options text)
+
+-- where the two loads are not the same, one of them is refused with 17
 abbrev pub Same-or-outside : Type 0
 Same-or-outside =
     (text : List ℕ) (first : ℕ) (page marks : List ℕ)

@@ -53,7 +53,7 @@ enum Turn {
     Stop(Loading),
 }
 
-// The address of byte i of a data record: in a segment the offset wraps at 65,536, along a line the sum wraps at 2^32.
+// The address of byte i of a data record: in a segment the offset wraps at 65,536, under a linear base the sum wraps at 2^32.
 fn byte_address(base: Base, offset: u16, i: usize) -> u32
     requires { ⌜ i < 65536 ⌝ }
     ensures { λ r. ⌜ r ≡ byte-address (based base) offset i ⌝ }

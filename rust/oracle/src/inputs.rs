@@ -592,8 +592,8 @@ fn segment(window: &Window, chance: &mut Chance) -> u16 {
     (begin / 16) as u16
 }
 
-/// Puts the line of a base near the window, and says which base that is and whether it wraps. Ahead
-/// of all others there may be none.
+/// Puts the line of a base near the window, and says which base that is and whether it wraps. Into an
+/// empty text it may put none: that is base 0, which wraps.
 fn put_base(text: &mut Vec<u8>, window: &Window, chance: &mut Chance) -> (u32, bool) {
     let first = window.first;
     if text.is_empty() && first < 1 << 16 && chance.once_in(2) {

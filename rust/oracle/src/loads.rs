@@ -119,8 +119,8 @@ pub fn first_outside(addresses: &[u64], window: &Range<u64>) -> Option<u64> {
     outside.next().copied()
 }
 
-/// Placings that leave out one wrap each: before any extension record, behind a type 02, and behind a
-/// type 02 that stands behind a type 04.
+/// Placings that leave out one wrap each: before any extension record, behind a type 02 with no type 04
+/// ahead of it, and behind a type 02 with one.
 pub const UNWRAPPED: [(&str, Placing); 3] = [
     (
         "takes the sum before any extension record",

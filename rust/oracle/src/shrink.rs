@@ -123,7 +123,7 @@ pub fn smaller_text(text: &[u8]) -> Vec<Vec<u8>> {
     found
 }
 
-/// Smaller numbers: with all of it taken off first, then half of it, then a quarter, down to 1.
+/// Numbers smaller than n: with all of n taken off first, then half of it, then a quarter, down to 1.
 pub fn smaller_number(n: usize) -> Vec<usize> {
     let mut found = Vec::new();
     let mut off = n;

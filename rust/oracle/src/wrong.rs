@@ -378,7 +378,7 @@ fn placings() -> Vec<Wrong> {
     let placed = |(name, placing)| ruled(name, Rules { placing, ..RIGHT });
     let others: [(_, Placing); 2] = [
         (
-            "wraps at 64K along a line too",
+            "wraps at 64K under a linear base too",
             |latest, offset, i| match latest {
                 Latest::Linear(base) => base + ((offset + i) & 0xFFFF),
                 _ => intel(latest, offset, i),
@@ -395,7 +395,8 @@ fn placings() -> Vec<Wrong> {
     UNWRAPPED.into_iter().chain(others).map(placed).collect()
 }
 
-/// Loaders that take another base, or another byte for the one outside.
+/// Loaders in which a start record or a second type 02 changes the base or its rule, and one that looks
+/// at a record's two ends only.
 fn bases() -> Vec<Wrong> {
     let start = |name, start| ruled(name, Rules { start, ..RIGHT });
     vec![
@@ -416,7 +417,7 @@ fn bases() -> Vec<Wrong> {
         start("takes the base back to 0 at a start record", |_| {
             Latest::None
         }),
-        start("wraps along a line behind a start record", |latest| {
+        start("wraps a linear base behind a start record", |latest| {
             Latest::Segment(latest.base())
         }),
         ruled(

@@ -1,4 +1,4 @@
--- `loader::byte_address` meets its contract: offset and index are added first; their sum wraps in a segment, the whole sum along a line.
+-- `loader::byte_address` meets its contract: offset and index are added first; their sum wraps in a segment, the whole sum under a linear base.
 -- Assumes nothing.
 use Rattle.loader.specs.Placing.{byte-address}
 use native.Mathlib.Omega.{arith}
