@@ -1,15 +1,15 @@
 -- Where a load and the load without segments part, one of them is refused with 17: a record that passes its segment's end states the
 -- segment's base by one placing and lies 65,536 further by the other, and no window holds both.
 -- Assumes nothing.
-use mathlib.Core.Path.{_≡_, refl, sym, ap, ap₂, _∙_}
+use mathlib.Core.Path.{_≡_, refl, sym, ap, ap₂, _∙_, subst}
 use mathlib.Core.Logic.{_⊎_, inl, inr}
-use Prim.Native.Nat.{ℕ, zero, suc, _+_, _-_, _^_, _≤_, _<_}
+use Prim.Native.Nat.{ℕ, _+_, _-_, _^_, _≤_, _<_}
 use native.Mathlib.Omega.{arith}
 use mathlib.Core.Bool.{Bool, true, false}
 use mathlib.Core.Option.{Option, none, some}
-use mathlib.Core.List.{List, [], _∷_, _++_}
+use mathlib.Core.List.{List, [], _∷_, _++_, append-nil}
 use lib.Dec.{ltb}
-use lib.ListN.{length, getD}
+use lib.ListN.{length}
 use borrow.Author.Tests.{ltb-true, ltb-false}
 use Rattle.record.specs.Common.{if_then_else_}
 use Rattle.record.specs.Refusals.{bad-window}
@@ -22,9 +22,11 @@ use Rattle.reader.specs.Text.{default-options}
 use Rattle.loader.specs.Placing.{Placement, Base, from-segment, from-linear, from-start, byte-address, placed, base-behind, Action, places, step-at, steps, stated}
 use Rattle.loader.specs.Load.{Tally, no-records, one-more, Decision, by, accepted, refused, verdict, within, outside, or-later, decision, unfit, Loaded, store, stopping-at, steps-of, placements, stopping, load}
 use Rattle.loader.specs.Segments.{flat, flat-steps, flat-load, In-segment, In-segments, Outside, Never-both, Same-or-outside}
-use Rattle.loader.proofs.Stores.{within-true, outside-none}
+use Rattle.loader.proofs.Stores.{within-true}
 use Rattle.loader.proofs.Demand3.{good-window, stored-answer, accepted-window}
-use Rattle.loader.proofs.Segments.{Low, low-start, placed-at, length-placed, unwrapped, by-rows}
+use Rattle.loader.proofs.Reasons.{Seen, seen}
+use Rattle.loader.proofs.Puts.{first-inside}
+use Rattle.loader.proofs.Segments.{Low, low-start, length-placed, unwrapped, by-rows}
 
 module _ (first size : ℕ) (small : size ≤ 65536) where
   abbrev inside : ℕ → Bool
@@ -38,16 +40,12 @@ module _ (first size : ℕ) (small : size ≤ 65536) where
   abbrev Sides : Tally → (s₁ s₂ : List Action) → Type 0
   Sides tally s₁ s₂ = Alike tally s₁ s₂ ⊎ (Outside (verdict (decision inside tally s₁)) ⊎ Outside (verdict (decision inside tally s₂)))
 
-  inside-at : (ps : List Placement) (j : ℕ) → j < length ps → outside inside ps ≡ none → inside ((getD ps j (record { address = 0; byte = 0 })) .address) ≡ true
-  inside-at [] j h e = absurd (omega arith)
-  inside-at (p ∷ ps) zero h e = outside-none inside p ps e .0
-  inside-at (p ∷ ps) (suc j) h e = inside-at ps j (omega arith) (outside-none inside p ps e .1)
-
   byte-inside : (base : Base) (offset : ℕ) (bytes : List ℕ) (j : ℕ) → j < length bytes → outside inside (placed base offset 0 bytes) ≡ none
       → (first ≤ byte-address base offset (0 + j)) × (byte-address base offset (0 + j) < first + size)
   byte-inside base offset bytes j h e =
-      let i = inside-at (placed base offset 0 bytes) j (rw (length-placed base offset 0 bytes) h) e in
-      within-true first size (byte-address base offset (0 + j)) (ap (λ (p : Placement). inside (p .address)) (sym (placed-at base offset 0 bytes j h)) ∙ i)
+      let ps = placed base offset 0 bytes in
+      within-true first size (byte-address base offset (0 + j))
+      (first-inside inside base offset 0 bytes ps [] (sym (append-nil ps)) (subst (Seen inside ps) e (seen inside ps)) j (rw (length-placed base offset 0 bytes) h))
 
   -- a record that passes its segment's end does not lie inside by both placings
   not-both : (base offset : ℕ) (bytes : List ℕ) → base + 65536 ≤ 2 ^ 32 → offset < 65536 → 65536 < offset + length bytes

@@ -32,9 +32,9 @@ module _ (base : Base) (offset a : ℕ) where
       (j : ℕ) × (j < length bytes) × (byte-address base offset (i + j) ≡ a) × (getD bytes j 0 ≡ b)
       × ((k : ℕ) → k < length bytes → byte-address base offset (i + k) ≡ a → k ≤ j)
 
-  one-more : (i b : ℕ) (bytes : List ℕ) (o : Option ℕ) (t : Bool) → eqb (byte-address base offset i) a ≡ t → In-record (suc i) bytes o
+  one-byte : (i b : ℕ) (bytes : List ℕ) (o : Option ℕ) (t : Bool) → eqb (byte-address base offset i) a ≡ t → In-record (suc i) bytes o
       → In-record i (b ∷ bytes) (or-else o (if t then some b else none))
-  one-more i b bytes (some c) t e (j, h, q, g, later) = (suc j, omega arith, rw (step j) q, g, at-most)
+  one-byte i b bytes (some c) t e (j, h, q, g, later) = (suc j, omega arith, rw (step j) q, g, at-most)
     where
       step : (k : ℕ) → i + suc k ≡ suc i + k
       step k = omega arith
@@ -42,12 +42,12 @@ module _ (base : Base) (offset a : ℕ) where
       at-most : (k : ℕ) → k < suc (length bytes) → byte-address base offset (i + k) ≡ a → k ≤ suc j
       at-most zero l p = omega arith
       at-most (suc k) l p = let r = later k (omega arith) (rw (← (step k)) p) in omega arith
-  one-more i b bytes none true e f = (zero, omega arith, rw (add-zero i) (eqb-true (byte-address base offset i) a e), refl, at-most)
+  one-byte i b bytes none true e f = (zero, omega arith, rw (add-zero i) (eqb-true (byte-address base offset i) a e), refl, at-most)
     where
       at-most : (k : ℕ) → k < suc (length bytes) → byte-address base offset (i + k) ≡ a → k ≤ 0
       at-most zero l p = omega arith
       at-most (suc k) l p = let s : i + suc k ≡ suc i + k = omega arith in absurd (f k (omega arith) (rw (← s) p))
-  one-more i b bytes none false e f = nowhere
+  one-byte i b bytes none false e f = nowhere
     where
       nowhere : (k : ℕ) → k < suc (length bytes) → byte-address base offset (i + k) ≢ a
       nowhere zero l p = eqb-false (byte-address base offset i) a e (rw (← (add-zero i)) p)
@@ -56,7 +56,7 @@ module _ (base : Base) (offset a : ℕ) where
   in-record : (i : ℕ) (bytes : List ℕ) → In-record i bytes (last-at a (placed base offset i bytes))
   unfolding last-at placed
   in-record i [] = λ j h. absurd (omega arith)
-  in-record i (b ∷ bytes) = one-more i b bytes (last-at a (placed base offset (suc i) bytes)) (eqb (byte-address base offset i) a) refl (in-record (suc i) bytes)
+  in-record i (b ∷ bytes) = one-byte i b bytes (last-at a (placed base offset (suc i) bytes)) (eqb (byte-address base offset i) a) refl (in-record (suc i) bytes)
 
 -- ---- lines behind others
 

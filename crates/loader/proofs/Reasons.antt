@@ -51,7 +51,7 @@ records-snoc (x ∷ ahead) l o e = let h = records-snoc ahead l o e in omega ari
 -- ---- the first placement outside
 
 module _ (inside : ℕ → Bool) where
-  abbrev All-inside : List Placement → Type 0
+  abbrev pub All-inside : List Placement → Type 0
   All-inside ps = Every (λ (p : Placement). inside (p .address) ≡ true) ps
 
   pub record First (ps : List Placement) (address : ℕ) : Type 0 where
@@ -63,11 +63,11 @@ module _ (inside : ℕ → Bool) where
     pub out : inside (p .address) ≡ false
     pub there : p .address ≡ address
 
-  abbrev Seen : List Placement → Option ℕ → Type 0
+  abbrev pub Seen : List Placement → Option ℕ → Type 0
   Seen ps none = All-inside ps
   Seen ps (some address) = First ps address
 
-  seen : (ps : List Placement) → Seen ps (outside inside ps)
+  pub seen : (ps : List Placement) → Seen ps (outside inside ps)
   unfolding outside
   seen [] = tt
   seen (p ∷ ps) = go (inside (p .address)) refl (outside inside ps) (seen ps)

@@ -222,11 +222,11 @@ step-length n base b (start-segment cs ip) = refl
 step-length n base b (extended-linear x) = refl
 step-length n base b (start-linear x) = refl
 
-parts : (s₁ s₂ a b : List Action) → length s₁ ≡ length s₂ → s₁ ++ a ≡ s₂ ++ b → (s₁ ≡ s₂) × (a ≡ b)
-parts [] [] a b l e = (refl, e)
-parts [] (y ∷ s₂) a b l e = absurd (omega arith)
-parts (x ∷ s₁) [] a b l e = absurd (omega arith)
-parts (x ∷ s₁) (y ∷ s₂) a b l e = let (p, q) = parts s₁ s₂ a b (omega arith) cc in (cc, q)
+append-parts : (s₁ s₂ a b : List Action) → length s₁ ≡ length s₂ → s₁ ++ a ≡ s₂ ++ b → (s₁ ≡ s₂) × (a ≡ b)
+append-parts [] [] a b l e = (refl, e)
+append-parts [] (y ∷ s₂) a b l e = absurd (omega arith)
+append-parts (x ∷ s₁) [] a b l e = absurd (omega arith)
+append-parts (x ∷ s₁) (y ∷ s₂) a b l e = let (p, q) = append-parts s₁ s₂ a b (omega arith) cc in (cc, q)
 
 abbrev Unchanged : Base → List Numbered → Type 0
 Unchanged base row = (flat-steps base row ≡ steps base row) ↔ In-segments base row
@@ -237,7 +237,7 @@ unfolding flat-steps steps
 unchanged-record n base kind address payload row s h ends (there, back) =
     let m = meaning kind address payload in
     let (out, in-it) = step-same n base m s h in (
-      (λ e. let (p, q) = parts _ _ _ _ (step-length n base (flat base) m) e in (out p, there q)),
+      (λ e. let (p, q) = append-parts _ _ _ _ (step-length n base (flat base) m) e in (out p, there q)),
       (λ k. rw (in-it (k .0), back (k .1))),
     )
 
