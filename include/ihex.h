@@ -34,7 +34,7 @@ extern "C" {
 
 /* The refusals: their numbers, and their values (0 where there is none). */
 #define IHEX_MISSING_START_CODE 1           /* the line's first byte is no colon, or there is none */
-#define IHEX_CONTAINS_INVALID_CHARACTERS 2  /* a byte behind the colon is no digit */
+#define IHEX_CONTAINS_INVALID_CHARACTERS 2  /* a byte behind the colon is no digit; a: the place of the first such, up to IHEX_MAX_PLACE */
 #define IHEX_RECORD_TOO_SHORT 3             /* under 10 digits */
 #define IHEX_RECORD_TOO_LONG 4              /* over 520 digits */
 #define IHEX_RECORD_NOT_EVEN_LENGTH 5       /* an odd number of digits */
@@ -61,6 +61,9 @@ extern "C" {
 /* A payload has at most so many bytes, and a line at most so many characters, without its line end. */
 #define IHEX_MAX_PAYLOAD 255
 #define IHEX_MAX_LINE 521
+
+/* The greatest place in a line that is named; it stands for any place beyond it too. The colon's place is 0. */
+#define IHEX_MAX_PLACE 65535
 
 /* A carry has at least so many bytes. */
 #define IHEX_CARRY 522
@@ -105,15 +108,17 @@ uint32_t ihex_next(const uint8_t *text, size_t text_len,
 
 /* Reads a text that comes in chunks to the answers that ihex_next gives of the whole text: the chunk's next answer, or IHEX_USED_UP,
  * and then it wants the next chunk. Until then it is called with the same chunk. The state is position (in the chunk), line, empties,
- * used and flags; it begins with 0 but for the stops. The carry's first `used` bytes belong to it: a line that is begun. Nobody else
- * writes to them between calls. The other bytes of the carry may change in any call but 18, and "done" behind the end.
- * After IHEX_POOL_FULL position, line, empties, used, the four flags and the used bytes are as they were: the same call with room gives
- * the record. 18 goes before all else and changes no byte either. A state made up by hand is answered too.
+ * used, skipped and flags; it begins with 0 but for the stops. The carry's first `used` bytes belong to it: a line that is begun. Nobody
+ * else writes to them between calls. The other bytes of the carry may change in any call but 18, and "done" behind the end. `skipped`
+ * counts, up to 65,535, the digits of a line over IHEX_CARRY bytes that were left out ahead of the last byte that the carry holds. It is 0
+ * behind each line that was answered, and not read while fewer than IHEX_CARRY bytes are used.
+ * After IHEX_POOL_FULL position, line, empties, used, skipped, the four flags and the used bytes are as they were: the same call with
+ * room gives the record. 18 goes before all else and changes no byte either. A state made up by hand is answered too.
  * lies, from, len: where the line lies that gave a record, until the next call. */
 uint32_t ihex_next_chunk(const uint8_t *chunk, size_t chunk_len,
                          uint8_t *carry, size_t carry_len,
                          uint8_t *pool, size_t pool_len, size_t at,
-                         size_t *position, size_t *line, size_t *empties, size_t *used, uint8_t *flags,
+                         size_t *position, size_t *line, size_t *empties, size_t *used, uint16_t *skipped, uint8_t *flags,
                          uint8_t *lies, size_t *from, size_t *len,
                          uint64_t *a, uint64_t *b, uint64_t *c);
 
@@ -122,7 +127,7 @@ uint32_t ihex_next_chunk(const uint8_t *chunk, size_t chunk_len,
  * is not ended: call again with room. */
 uint32_t ihex_finish(uint8_t *carry, size_t carry_len,
                      uint8_t *pool, size_t pool_len, size_t at,
-                     size_t *position, size_t *line, size_t *empties, size_t *used, uint8_t *flags,
+                     size_t *position, size_t *line, size_t *empties, size_t *used, uint16_t *skipped, uint8_t *flags,
                      uint8_t *lies, size_t *from, size_t *len,
                      uint64_t *a, uint64_t *b, uint64_t *c);
 
@@ -136,6 +141,7 @@ size_t ihex_shown(uint8_t lies, size_t from, size_t len,
 /* The state of a reader of chunks, and where the line lies that gave a record. It begins with 0 in all but the flags: the stops. */
 struct ihex_chunks {
     size_t position, line, empties, used;
+    uint16_t skipped;
     uint8_t flags;
     uint8_t lies;
     size_t from, len;
@@ -148,7 +154,7 @@ static inline uint32_t ihex_chunks_next(struct ihex_chunks *s, const uint8_t *ch
                                         uint64_t *a, uint64_t *b, uint64_t *c)
 {
     return ihex_next_chunk(chunk, chunk_len, carry, carry_len, pool, pool_len, at, &s->position, &s->line, &s->empties,
-                           &s->used, &s->flags, &s->lies, &s->from, &s->len, a, b, c);
+                           &s->used, &s->skipped, &s->flags, &s->lies, &s->from, &s->len, a, b, c);
 }
 
 /* ihex_finish on that state. */
@@ -156,8 +162,8 @@ static inline uint32_t ihex_chunks_finish(struct ihex_chunks *s, uint8_t *carry,
                                           uint8_t *pool, size_t pool_len, size_t at,
                                           uint64_t *a, uint64_t *b, uint64_t *c)
 {
-    return ihex_finish(carry, carry_len, pool, pool_len, at, &s->position, &s->line, &s->empties, &s->used, &s->flags,
-                       &s->lies, &s->from, &s->len, a, b, c);
+    return ihex_finish(carry, carry_len, pool, pool_len, at, &s->position, &s->line, &s->empties, &s->used, &s->skipped,
+                       &s->flags, &s->lies, &s->from, &s->len, a, b, c);
 }
 
 /* Writes a record's line, without a line end, from the output's start on: returns 0 and its length as the value,
@@ -175,7 +181,8 @@ uint32_t ihex_create_object_file_representation(const void *list, size_t list_le
                                                 uint64_t *value);
 
 /* Loads a text, both stops on, into a page from the address `first` on; marks become 1 where it states a byte, else 0. Returns 0
- * and counts data records in a; or IHEX_REFUSED and 16, the first line's 1 to 9 or 17, with its number in line (else 0), or 13.
+ * and counts data records in a; or IHEX_REFUSED and 16, the first line's 1 to 9 or 17, with its number in line (else 0), or 13; the
+ * refusal's values are in a and b.
  * While a type 02 is the latest extension record, with base 16 times its number, and before any, with base 0, byte i of a data
  * record lies at base + ((offset + i) modulo 65,536). While a type 04 is, with base 65,536 times its number, it lies at
  * (base + offset + i) modulo 2^32. */

@@ -170,7 +170,8 @@ for size in (511, 521, 4095, 4096, 4097, 8192):
 for ahead in range(4093, 4099):
     followed('CR LF behind %d bytes' % ahead, [b'x\n' * (ahead % 2) + b'\n' * (ahead - 2 * (ahead % 2) - len(DATA)) + DATA + b'\r\n' + END])
 chance = random.Random(19)
-lines = [DATA, END[:-1], b':00000001FE', FULL, FULL + b'0', FULL + b'00', b'', b'\r', b'x', b'\0\xff', record(4, 0, b'\x08\x00'), record(5, 0, b'\0\0\0\xcd')]
+lines = [DATA, END[:-1], b':00000001FE', FULL, FULL + b'0', FULL + b'00', b'', b'\r', b'x', b'\0\xff', record(4, 0, b'\x08\x00'), record(5, 0, b'\0\0\0\xcd'),
+         b':0G', FULL + b'G', FULL * 3]
 for n in range(40):
     text = b''.join(chance.choice(lines) + chance.choice([b'\n', b'\r\n', b'\n\n', b'']) for _ in range(30))
     cuts = sorted(chance.sample(range(len(text)), 12))
@@ -186,6 +187,45 @@ for size in (519, 520, 521, 522, 523, 524, 1000, 4095, 4096, 4097, 70000):
         followed('a line of %d bytes, %s, in pieces of 1,000' % (size, what), cut(text, 1000))
     followed('a line of %d bytes, no LF' % size, [line], b'records\n! %d\n1 answers\n' % (4 if size > 521 else 5 if size % 2 == 0 else 7))
 
+# ---- places: of the first byte behind the colon that is no digit, however the line is cut
+
+PLACES = [(1, b'0001'), (2, b'0002'), (520, b'0208'), (521, b'0209'), (522, b'020A'), (523, b'020B'), (4096, b'1000'), (65534, b'FFFE'), (65535, b'FFFF'),
+          (65536, b'FFFF'), (70000, b'FFFF')]
+
+
+def spoilt(place, behind=b''):
+    """A line with its first byte that is no digit at a place."""
+    return b':' + b'0' * (place - 1) + b'G' + behind
+
+
+for place, spelt in PLACES:
+    answer = b'! 2 ' + spelt + b'\n'
+    expected = b'records\n' + answer + b'E\n2 answers\n'
+    followed('place %d, a digit behind it' % place, [spoilt(place, b'0\n') + END], expected)
+    followed('place %d, more such bytes behind it' % place, [spoilt(place, b'G:\n') + END], expected)
+    for behind in (b'', b'0' * 600):
+        text = spoilt(place, behind) + b'\r\n' + END
+        name = 'place %d, %d digits behind it' % (place, len(behind))
+        followed(name, [text], expected)
+        for i in sorted({1, place, place + 1, 521, 522, 523}):
+            if i < len(text):
+                followed('%s, cut at %d' % (name, i), [text[:i], text[i:]], expected)
+        near = max(place - 2, 0)
+        followed('%s, byte by byte there' % name, [text[:near]] + cut(text[near:place + 3], 1) + [text[place + 3:]], expected)
+        if place < 4096:
+            followed('%s, a byte at a time' % name, cut(text, 1), expected)
+    followed('place %d, in pieces of 4,095 bytes' % place, cut(spoilt(place), 4095), b'records\n' + answer + b'1 answers\n')
+    followed('place %d, an empty line and a long one ahead' % place, [b'\n', b':' + b'0' * 600, b'00\n' + spoilt(place)], b'records\n! 4\n' + answer + b'2 answers\n')
+    bare = spoilt(place)[:-1]
+    other = model.entry(bare) + b'\n'
+    followed('place %d, a CR at the end of the text' % place, [bare, b'\r'], b'records\n' + answer + b'1 answers\n')
+    followed('place %d, CR LF' % place, [bare, b'\r', b'\n'], b'records\n' + other + b'1 answers\n')
+    followed('place %d, CR CR LF' % place, [bare, b'\r', b'\r', b'\n'], b'records\n' + answer + b'1 answers\n')
+    followed('place %d, a CR that a digit follows' % place, [bare + b'\r', b'0', b'\r\n'], b'records\n' + answer + b'1 answers\n')
+followed('the first of several', [b':0G0G\n:GG', b'GG\n::\n'], b'records\n! 2 0002\n! 2 0001\n! 2 0001\n3 answers\n')
+followed('the first byte of a character', cut(':é\n:00€0\n:0000𝟘G\n:00000001FFé'.encode(), 1), b'records\n! 2 0001\n! 2 0003\n! 2 0005\n! 2 000B\n4 answers\n')
+followed('no place where the colon is missing', [b'0' * 522, b'G\nG\n \n\r', b':G\n'], b'records\n! 1\n! 1\n! 1\n! 1\n4 answers\n')
+
 # ---- inputs of any length
 
 followed('65,536 bytes', [b'\n' * 65535 + b'x'], b'records\n! 1\n1 answers\n')
@@ -193,6 +233,7 @@ followed('65,537 bytes', [b'\n' * 65536 + b'x'], b'records\n! 1\n1 answers\n')
 followed('3 MB of records', [(FULL + b'\n') * (3000000 // len(FULL))])
 followed('3 MB of LF', [b'\n' * 3000000], b'records\n0 answers\n')
 followed('3 MB in one line', [b':' + b'0' * 3000000], b'records\n! 4\n1 answers\n')
+followed('3 MB in one line, and a byte that is no digit', [spoilt(3000000, b'0'), b'\n' + END], b'records\n! 2 FFFF\nE\n2 answers\n')
 followed('100,000 answers', [b'x\n' * 100000], b'records\n' + b'! 1\n' * 100000 + b'100000 answers\n')
 
 # ---- each answer before the next piece
@@ -203,7 +244,7 @@ def at_once(run):
     so_far = b'records\n'
     if not run.shows(so_far):
         return 'before the input: %r' % run.printed
-    for line in [b':04012000102030403B', b'', b'\r', b':00000001FE', b'x\r', b':' + b'0' * 70000, FULL]:
+    for line in [b':04012000102030403B', b'', b'\r', b':00000001FE', b'x\r', b':' + b'0' * 70000, FULL, b':0G\r', spoilt(70000)]:
         run.send(line)
         if not run.shows(so_far):
             return 'ahead of the LF of %r: %r' % (line[:20], run.printed[-60:])
@@ -212,7 +253,7 @@ def at_once(run):
         so_far += model.entry(bare) + b'\n' if bare else b''
         if not run.shows(so_far):
             return 'behind %r: %r' % (line[:20], run.printed[-60:])
-    return differ(run.finish(), so_far + b'5 answers\n')
+    return differ(run.finish(), so_far + b'7 answers\n')
 
 
 def two_lines_and_a_half(run):

@@ -60,10 +60,10 @@ listed('empty lines only', b'\n\r\n\n\r\n', b'records\n0 answers\n')
 listed('one answer', END + b'\n', b'records\nE\n1 answers\n')
 listed('no LF at the end', b':0100000041BE\n' + END, of(b'D 0000 41', b'E'))
 listed('CR LF', b':0100000041BE\r\n\r\n' + END + b'\r\n', of(b'D 0000 41', b'E'))
-listed('CR CR LF', b'\r\r\n' + END + b'\r\r\n' + END + b'\n', of(b'! 1', b'! 2', b'E'))
-listed('CR at the end of the text', END + b'\r', of(b'! 2'))
-listed('CR inside a line', b':00000\r001FF\n', of(b'! 2'))
-listed('space before a colon, and behind a line', b' ' + END + b'\n' + END + b' \n', of(b'! 1', b'! 2'))
+listed('CR CR LF', b'\r\r\n' + END + b'\r\r\n' + END + b'\n', of(b'! 1', b'! 2 000B', b'E'))
+listed('CR at the end of the text', END + b'\r', of(b'! 2 000B'))
+listed('CR inside a line', b':00000\r001FF\n', of(b'! 2 0006'))
+listed('space before a colon, and behind a line', b' ' + END + b'\n' + END + b' \n', of(b'! 1', b'! 2 000B'))
 
 full = record(0, 0x1234, bytes(range(256))[:255])
 many = (full + b'\n') * (LIMIT // (len(full) + 1))
@@ -75,14 +75,21 @@ listed('200,000 bytes', b'\n' * 200000, b'input too long\n')
 listed('65,536 bytes in one line without LF', b':' + b'0' * (LIMIT - 1), of(b'! 4'))
 listed('65,536 LF', b'\n' * LIMIT, b'records\n0 answers\n')
 
-# the lines that expand most: one byte and an LF, four characters
-listed('the longest listing', b'x\n' * (LIMIT // 2), b'records\n' + b'! 1\n' * (LIMIT // 2) + b'32768 answers\n')
-listed('the longest listing without the last LF', b'x\n' * (LIMIT // 2 - 1) + b'x', b'records\n' + b'! 1\n' * (LIMIT // 2) + b'32768 answers\n')
+# the most lines: one byte and an LF, four characters
+listed('the most answers', b'x\n' * (LIMIT // 2), b'records\n' + b'! 1\n' * (LIMIT // 2) + b'32768 answers\n')
+listed('the most answers without the last LF', b'x\n' * (LIMIT // 2 - 1) + b'x', b'records\n' + b'! 1\n' * (LIMIT // 2) + b'32768 answers\n')
+
+# the lines that expand most: a colon, a byte that is no digit and an LF, nine characters
+THIRD = LIMIT // 3
+LONGEST = b'records\n' + b'! 2 0001\n' * THIRD
+listed('the longest listing', b':G\n' * THIRD + b'x', LONGEST + b'! 1\n21846 answers\n')
+listed('the longest listing, with an empty line', b'\n' + b':G\n' * THIRD, LONGEST + b'21845 answers\n')
+listed('the longest listing without the last LF', b'\n\n' + b':G\n' * (THIRD - 1) + b':G', LONGEST + b'21845 answers\n')
 
 # ---- bytes
 
-listed('NUL', b':0000000\x001FF\n\x00\n' + END + b'\n', of(b'! 2', b'! 1', b'E'))
-listed('FF and bytes that are no UTF-8', b'\xff\n:\xff\xfe\n:\xc3\x28000001FF\n:\xf0\x9f\x98\x80\n', of(b'! 1', b'! 2', b'! 2', b'! 2'))
+listed('NUL', b':0000000\x001FF\n\x00\n' + END + b'\n', of(b'! 2 0008', b'! 1', b'E'))
+listed('FF and bytes that are no UTF-8', b'\xff\n:\xff\xfe\n:\xc3\x28000001FF\n:\xf0\x9f\x98\x80\n', of(b'! 1', b'! 2 0001', b'! 2 0001', b'! 2 0001'))
 each = b''.join(b':' + bytes([c]) * 10 + b'\n' for c in range(256) if c != 10)
 listed('each byte as a digit', each, listing(each))
 listed('lower-case digits', b':04012000aabbccddcd\n:020000041aBc24\n:00000001fe\n', of(b'D 0120 AABBCCDD', b'X4 1ABC', b'! 6 FF FE'))
@@ -100,12 +107,37 @@ listed('a payload of 255 bytes', full + b'\n', of(b'D 1234 ' + bytes(range(255))
 # ---- refusals 1 to 9, each alone
 
 for number, line, values in [
-        (1, b'00000001FF', b''), (2, b':0000000GFF', b''), (3, b':00000001F', b''), (3, b':', b''), (3, b':0100000', b''),
+        (1, b'00000001FF', b''), (2, b':0000000GFF', b' 0008'), (3, b':00000001F', b''), (3, b':', b''), (3, b':0100000', b''),
         (4, b':' + b'0' * 521, b''), (4, b':' + b'0' * 522, b''), (5, b':00000001FF0', b''), (6, b':00000001FE', b' FF FE'),
         (7, b':01000000FF', b''), (7, b':01000006F9', b''), (8, b':00000006FA', b' 06'), (9, b':0100000100FE', b'')]:
     listed('refusal %d of %r' % (number, line[:14]), line + b'\n', of(b'! %d' % number + values))
     listed('refusal %d of %r, no LF' % (number, line[:14]), line, of(b'! %d' % number + values))
 listed('a refused line does not stop', b'x\n:\n' + END + b'\n', of(b'! 1', b'! 3', b'E'))
+
+# ---- places: of the first byte behind the colon that is no digit
+
+
+def spoilt(place, behind=b''):
+    """A line with its first byte that is no digit at a place."""
+    return b':' + b'0' * (place - 1) + b'G' + behind
+
+
+for place, spelt in [(1, b'0001'), (2, b'0002'), (9, b'0009'), (10, b'000A'), (11, b'000B'), (256, b'0100'), (519, b'0207'), (520, b'0208'),
+                     (521, b'0209'), (522, b'020A'), (523, b'020B'), (4096, b'1000'), (43981, b'ABCD'), (65534, b'FFFE')]:
+    listed('place %d' % place, spoilt(place) + b'\n', of(b'! 2 ' + spelt))
+    listed('place %d, no LF' % place, spoilt(place), of(b'! 2 ' + spelt))
+listed('place 65,535, the last of an input', spoilt(65535), of(b'! 2 FFFF'))
+listed('place 65,534 and one more', spoilt(65534, b'G'), of(b'! 2 FFFE'))
+listed('place 65,535 in an input that is too long', spoilt(65535) + b'\n', b'input too long\n')
+for length in (1, 2, 5, 6, 7, 519, 520, 521, 522, 60000):
+    listed('place 4 ahead of %d digits' % length, spoilt(4, b'0' * length) + b'\n' + END + b'\n', of(b'! 2 0004', b'E'))
+listed('the first of several', b':0G0G\n:GGGGGGGGGG\n::\n:00000001F \t\n', of(b'! 2 0002', b'! 2 0001', b'! 2 0001', b'! 2 000A'))
+listed('each line\'s own place', b''.join(spoilt(place, b'000') + b'\n' for place in range(1, 340)), of(*(b'! 2 %04X' % place for place in range(1, 340))))
+listed('the first byte of a character', ':é\n:00€0\n:0000𝟘G\n:00000001FFé'.encode(), of(b'! 2 0001', b'! 2 0003', b'! 2 0005', b'! 2 000B'))
+listed('CR and the end of the text', b':\r', of(b'! 2 0001'))
+listed('CR LF is no part of a line', b':\r\n:G\r\n', of(b'! 3', b'! 2 0001'))
+listed('CR CR LF, the first of them', b':\r\r\n:0\r\r\r\n', of(b'! 2 0001', b'! 2 0002'))
+listed('no place where the colon is missing', b'G\n0G\n \n\r:G\n\xc3\xa9:\n', of(b'! 1', b'! 1', b'! 1', b'! 1', b'! 1'))
 
 # ---- the incident: a new dump, and behind its end record the tail of an old one
 

@@ -277,7 +277,7 @@ def of_document_01():
     heading("document 01: the lines marked P")
     line_case("", "! 1")
     line_case(":", "! 3")
-    line_case(":G", "! 2")
+    line_case(":G", "! 2 0001")
     line_case(":0100000", "! 3")
     line_case(":00000001FF0", "! 5")
     line_case(":00000001FE", "! 6 FF FE")
@@ -293,7 +293,7 @@ def of_document_01():
     assert len(LONGEST) == 521 and LONGEST.startswith(":FF")
     line_case(LONGEST, "D 0000 0 FF", pool=255)
     line_case(LONGEST + "0", "! 4", pool=255)
-    line_case(":00000001FF\r", "! 2")
+    line_case(":00000001FF\r", "! 2 000B")
     line_case("\r", "! 1")
     line_case(":02FFFF00AABB9B", "D FFFF 0 2")
     line_case(":010005007783", "D 0005 0 1")
@@ -302,10 +302,10 @@ def of_document_01():
     heading("document 01: errors that look right")
     line_case(":000000010", "! 3")
     line_case(" :00000001FF", "! 1")
-    line_case(":00000001FF ", "! 2")
-    line_case(": 00000001FF", "! 2")
-    line_case(":00000001FF\r\r", "! 2")
-    line_case(":00000001FF\n", "! 2")
+    line_case(":00000001FF ", "! 2 000B")
+    line_case(": 00000001FF", "! 2 0001")
+    line_case(":00000001FF\r\r", "! 2 000B")
+    line_case(":00000001FF\n", "! 2 000B")
     line_case("\n", "! 1")
     heading("the crate's own examples")
     line_case(":00000001FF", "E")
@@ -355,11 +355,11 @@ def of_the_digits():
         heading(f"every byte as the {name} digit of {good.decode()}")
         for b in range(256):
             line = good[:place] + bytes([b]) + good[place + 1:]
-            line_case(line, None if chr(b) in "0123456789ABCDEFabcdef" else "! 2")
+            line_case(line, None if chr(b) in "0123456789ABCDEFabcdef" else f"! 2 {place:04X}")
     heading("the neighbours of the digits, and bytes with the top bit, at every place")
     for b in b"/:@G`g \x00\x7f\x80\xb0\xc1\xe1\xff":
         for place in range(1, len(good)):
-            line_case(good[:place] + bytes([b]) + good[place + 1:], "! 2")
+            line_case(good[:place] + bytes([b]) + good[place + 1:], f"! 2 {place:04X}")
     heading("both letter cases")
     for kind, address, payload in ((0, 0xABCD, "ABCDEFFEDCBA0A"), (0, 0xFACE, ""), (3, 0, "ABCDEFAB"), (4, 0xBEEF, "CAFE"), (6, 0, "AB")):
         line = record(kind, address, bytes.fromhex(payload))
@@ -379,17 +379,18 @@ def of_other_bytes():
         raw = text.encode("utf-8")
         line_case(raw, "! 1")
         line_case(raw + b":00000001FF", "! 1")
-        line_case(b":" + raw, "! 2")
-        line_case(b":" + raw + b"00000001FF", "! 2")
-        line_case(b":00000001FF" + raw, "! 2")
-        line_case(b":" + raw * 200, "! 2")
+        line_case(b":" + raw, "! 2 0001")
+        line_case(b":" + raw + b"00000001FF", "! 2 0001")
+        line_case(b":0000" + raw + b"0001FF", "! 2 0005")
+        line_case(b":00000001FF" + raw, "! 2 000B")
+        line_case(b":" + raw * 200, "! 2 0001")
     for raw in (b"\x80", b"\xff", b"\xc3", b"\xc3\x28", b"\xe2\x82", b"\xc0\xaf", b"\xed\xa0\x80", b"\xf5\x80\x80\x80", b"\xff\xfe"):
         line_case(raw, "! 1")
         line_case(raw + b":00000001FF", "! 1")
-        line_case(b":" + raw, "! 2")
-        line_case(b":" + raw + b"0000000001FF", "! 2")
-        line_case(b":00000001FF" + raw, "! 2")
-    line_case(b":" + bytes(range(128, 256)) * 5, "! 2")
+        line_case(b":" + raw, "! 2 0001")
+        line_case(b":" + raw + b"0000000001FF", "! 2 0001")
+        line_case(b":00000001FF" + raw, "! 2 000B")
+    line_case(b":" + bytes(range(128, 256)) * 5, "! 2 0001")
 
 
 def of_the_order():
@@ -397,11 +398,11 @@ def of_the_order():
     line_case("00000001FG", "! 1")
     line_case("G", "! 1")
     line_case("x" * 521, "! 1")
-    line_case(":0G", "! 2")
-    line_case(":0000000G", "! 2")
-    line_case(":" + "0" * 520 + "G", "! 2")
-    line_case(":" + "0" * 521 + "g", "! 2")
-    line_case(":00000001FG", "! 2")
+    line_case(":0G", "! 2 0002")
+    line_case(":0000000G", "! 2 0008")
+    line_case(":" + "0" * 520 + "G", "! 2 0209")
+    line_case(":" + "0" * 521 + "g", "! 2 020A")
+    line_case(":00000001FG", "! 2 000A")
     line_case(":00000001F", "! 3")
     line_case(":" + "0" * 523, "! 4")
     line_case(":00000001FE0", "! 5")
@@ -417,6 +418,46 @@ def of_the_order():
     line_case(record(0, 0, b"\x01"), "! 10", pool=0)
     line_case(record(1, 0, b""), "E", pool=0, position=TOP)
     line_case(record(2, 0, b"\x12\x34"), "X2 1234", pool=0, position=TOP)
+
+
+def spoilt(digits, *places):
+    """A line of so many digits, but for a G at each of these places."""
+    line = ":" + "0" * digits
+    for place in places:
+        line = line[:place] + "G" + line[place + 1:]
+    return line
+
+
+def of_places():
+    heading("the place of a byte that is no digit: in short lines, of an odd and a good length, and in long ones")
+    for n in (1, 2, 8, 9, 10, 11, 12):
+        for place in sorted({1, min(2, n), (n + 1) // 2, n}):
+            line_case(spoilt(n, place), f"! 2 {place:04X}")
+    for n in (519, 520, 521, 522):
+        for place in (p for p in (1, 2, 519, 520, 521, 522) if p <= n):
+            line_case(spoilt(n, place), f"! 2 {place:04X}")
+    for place in (1, 522, 523, 1024, 2000):
+        line_case(spoilt(2000, place), f"! 2 {place:04X}")
+    heading("the first place of several")
+    for places in ((1, 2), (1, 10), (2, 3, 4), (5, 9), (9, 10)):
+        line_case(spoilt(10, *places), f"! 2 {places[0]:04X}")
+        line_case(spoilt(11, *places, 11), f"! 2 {places[0]:04X}")
+    line_case(":GGGGGGGGGG", "! 2 0001")
+    line_case("::", "! 2 0001")
+    line_case(":0:0:", "! 2 0002")
+    line_case(":00\x00\xff", "! 2 0003")
+    line_case(":00000001FE\r\r", "! 2 000B")
+    line_case(spoilt(520, 520, 519), "! 2 0207")
+    line_case(spoilt(521, 520, 521), "! 2 0208")
+    line_case(spoilt(522, 521, 522), "! 2 0209")
+    line_case(spoilt(1000, 522, 600, 1000), "! 2 020A")
+    heading("every line of a colon and up to three of 0, G and CR")
+    for n in range(1, 4):
+        for i in range(3**n):
+            line_case(":" + "".join("0G\r"[i // 3**k % 3] for k in range(n)))
+    heading("no place where the colon is missing")
+    for line in ("G", "GG", "0G", "0:", "G:", "\r:G", " :G", "\xe9:G", "0" * 520 + "G", "G" * 600):
+        line_case(line, "! 1")
 
 
 def of_the_fields():
@@ -502,7 +543,7 @@ GOOD = [":010005007783", ":020000021200EA", ":0400000312345678E5", ":02000004FFF
 GOOD_SAID = ["D 0005 0 1", "X2 1200", "X3 12345678", "X4 FFFF", "X5 000000CD", "E"]
 # A line for each refusal from 1 to 9, and what is told of it.
 BAD = ["00000001FF", ":0000000G", ":0100000", ":" + "0" * 521, ":00000001FF0", ":00000001FE", ":01000000FF", ":00000006FA", ":0100000100FE"]
-BAD_SAID = ["! 1", "! 2", "! 3", "! 4", "! 5", "! 6 FF FE", "! 7", "! 8 06", "! 9"]
+BAD_SAID = ["! 1", "! 2 0008", "! 3", "! 4", "! 5", "! 6 FF FE", "! 7", "! 8 06", "! 9"]
 
 
 def data(offset, at, length):
@@ -524,7 +565,7 @@ def of_the_stops():
     text_case(listed, ["D 0120 0 4 @1", "! 6 FF FE @3", "E @4", "done @4", "done @4"], flags=2)
     text_case(listed, ["D 0120 0 4 @1", "! 6 FF FE @3", "done @3", "done @3"], flags=3)
     twice = ended(BAD[0], END, BAD[1], ":010005007783", END)
-    text_case(twice, ["! 1 @1", "E @2", "! 2 @3", "D 0005 0 1 @4", "E @5", "done @5", "done @5"], flags=0)
+    text_case(twice, ["! 1 @1", "E @2", "! 2 0008 @3", "D 0005 0 1 @4", "E @5", "done @5", "done @5"], flags=0)
     text_case(twice, ["! 1 @1", "done @1", "done @1"], flags=1)
     text_case(twice, ["! 1 @1", "E @2", "done @2", "done @2"], flags=2)
     text_case(twice, ["! 1 @1", "done @1", "done @1"], flags=3)
@@ -546,8 +587,8 @@ def of_line_ends():
     text_case(END, ["E @1", "done @1", "done @1"])
     text_case(END + "\n", ["E @1", "done @1", "done @1"])
     text_case(END + "\r\n", ["E @1", "done @1", "done @1"])
-    text_case(END + "\r", ["! 2 @1", "done @1", "done @1"])
-    text_case(END + "\r\r\n", ["! 2 @1", "done @1", "done @1"])
+    text_case(END + "\r", ["! 2 000B @1", "done @1", "done @1"])
+    text_case(END + "\r\r\n", ["! 2 000B @1", "done @1", "done @1"])
     text_case("\r", ["! 1 @1", "done @1", "done @1"])
     text_case("\r\r\n", ["! 1 @1", "done @1", "done @1"])
     text_case("\r\r\n" + END, ["! 1 @1", "E @2", "done @2", "done @2"], flags=2)
@@ -555,19 +596,49 @@ def of_line_ends():
     text_case("\n\r", ["! 1 @2", "done @2", "done @2"])
     text_case("\n\n\r\n" + END, ["E @4", "done @4", "done @4"])
     text_case("\r" + END + "\n", ["! 1 @1", "done @1", "done @1"])
-    text_case(":0000\r0001FF\n", ["! 2 @1", "done @1", "done @1"])
-    text_case(END + "\r" + END + "\n", ["! 2 @1", "done @1", "done @1"])
+    text_case(":0000\r0001FF\n", ["! 2 0005 @1", "done @1", "done @1"])
+    text_case(END + "\r" + END + "\n", ["! 2 000B @1", "done @1", "done @1"])
     text_case("\n" * 300 + END, ["E @12D", "done @12D", "done @12D"])
     text_case("\r\n" * 300 + BAD[0] + "\r\n" * 300 + END, ["! 1 @12D", "E @259", "done @259", "done @259"], flags=0)
     text_case(END + "\n\n\r\n\n", ["E @1", "done @1", "done @1"], flags=0)
     text_case(" \n\t\n" + END, ["! 1 @1", "! 1 @2", "E @3", "done @3", "done @3"], flags=2)
     text_case("\x00\n\xff\xfe\n\xe9\n:\x80\n\x0b\n\x0c\n\x85\n" + END,
-              ["! 1 @1", "! 1 @2", "! 1 @3", "! 2 @4", "! 1 @5", "! 1 @6", "! 1 @7", "E @8", "done @8", "done @8"], flags=2)
+              ["! 1 @1", "! 1 @2", "! 1 @3", "! 2 0001 @4", "! 1 @5", "! 1 @6", "! 1 @7", "E @8", "done @8", "done @8"], flags=2)
     heading("texts: lines of 13 to 19 and 29 to 35 bytes, with each line end")
     for n in [*range(13, 20), *range(29, 36)]:
         for end in ("\n", "\r\n", "\r\r\n", ""):
             text_case(":" + "0" * (n - 1) + end, flags=0)
             text_case(":" + "0" * (n - 1) + end + END, flags=0)
+
+
+def of_places_in_texts():
+    heading("texts: the place is counted from its line's first byte, whatever stands ahead of the line")
+    rows = [(":G", 1), (":0G", 2), (":00000001FG", 10), (":00000001FFG", 11), (":0\xc3\xa90", 2), (spoilt(30, 17), 17)]
+    lines, said = [line for line, _ in rows], [f"! 2 {place:04X}" for _, place in rows]
+    text_case(ended(*lines), [*numbered(said), "done @6", "done @6"], flags=0)
+    text_case(ended(*lines, end="\r\n"), [*numbered(said), "done @6", "done @6"], flags=0)
+    text_case(ended(*lines), [f"{said[0]} @1", "done @1", "done @1"])
+    for line, one in zip(lines, said):
+        text_case(line, [f"{one} @1", "done @1", "done @1"])
+        text_case("\n\r\n" + line, [f"{one} @3", "done @3", "done @3"])
+        text_case(ended(":010005007783") + line, ["D 0005 0 1 @1", f"{one} @2", "done @2", "done @2"])
+        text_case(ended(line, END), [f"{one} @1", "E @2", "done @2", "done @2"], flags=2)
+        first_case(ended("", line, END), one)
+    for place in (1, 2, 520, 521):
+        text_case(ended(END, spoilt(max(place, 520), place), END), ["E @1", f"! 2 {place:04X} @2", "E @3", "done @3", "done @3"], flags=0)
+    text_case(ended(spoilt(1500, 1500)), ["! 2 05DC @1", "done @1", "done @1"])
+    heading("texts: a CR that belongs to its line, and its place")
+    for line, place in ((":", 1), (":0", 2), (END, 11), (":" + "0" * 520, 521), (":" + "0" * 521, 522)):
+        one = f"! 2 {place:04X}"
+        said = read(line.encode())[0] or "E"
+        text_case(line + "\r", [f"{one} @1", "done @1", "done @1"], flags=0)
+        text_case(line + "\r\n", [f"{said} @1", "done @1", "done @1"], flags=0)
+        text_case(line + "\r\r\n", [f"{one} @1", "done @1", "done @1"], flags=0)
+        text_case(line + "\r\r", [f"{one} @1", "done @1", "done @1"], flags=0)
+        text_case(line + "\r0\r\n" + END, [f"{one} @1", "E @2", "done @2", "done @2"], flags=2)
+    text_case(":0G\r", ["! 2 0002 @1", "done @1", "done @1"])
+    text_case(":0G\r\n", ["! 2 0002 @1", "done @1", "done @1"])
+    text_case(":0\rG\r\n", ["! 2 0002 @1", "done @1", "done @1"])
 
 
 def of_rows_of_answers():
@@ -931,11 +1002,31 @@ def of_refused_loads():
     load_case(ONE, "! 13 @0")
     load_case(ended(ONE, SEGMENT, LINEAR), "! 13 @0")
     load_case(ended(ONE) + ":00000001FE", "! 6 FF FE @2")
-    load_case(ended(ONE) + END + "\r", "! 2 @2")
+    load_case(ended(ONE) + END + "\r", "! 2 000B @2")
     load_case(ended(ONE) + "\r\r\n" + END, "! 1 @2")
     load_case(ended(ONE) + END, "A 1", places={2: 0x77})
     load_case(ended(ONE, END, end="\r\n"), "A 1", places={2: 0x77})
     load_case("\n\n" + ONE + "\n\r\n" + END + "\r\n", "A 1", places={2: 0x77})
+
+
+def of_places_in_loads():
+    heading("loads: the place of a byte that is no digit, with its line")
+    for line, place in ((":G", 1), (":0G", 2), (":0000000G", 8), (":00000001FG", 10), (":00000001FFG", 11), (":0\xe2\x82\xac0", 2), (spoilt(30, 17, 29), 17)):
+        load_case(line, f"! 2 {place:04X} @1")
+        load_case(ended("", ONE, "", line, END, end="\r\n"), f"! 2 {place:04X} @4")
+        load_case(ended(END, line), "A 0", places={})
+    for place in (1, 2, 520, 521):
+        load_case(ended(ONE, spoilt(max(place, 520), place), END), f"! 2 {place:04X} @2")
+    load_case(ended(ONE, spoilt(1500, 1500), END), "! 2 05DC @2")
+    load_case(ended(ONE, ":00000001F\rF\r\r", END), "! 2 000A @2")
+    load_case(ended(ONE) + END + "\r\r\n", "! 2 000B @2")
+    load_case(ended(ONE) + ":\r", "! 2 0001 @2")
+    load_case(ended(ONE) + ":\r\n", "! 3 @2")
+    load_case(ended(ONE, "0G", ":G", END), "! 1 @2")
+    load_case(ended(ONE, ":G", "0G", END), "! 2 0001 @2")
+    load_case(ended(record(0, 8, b"\x77"), ":G", END), "! 17 00000008 @1")
+    load_case(ended(":G", record(0, 8, b"\x77"), END), "! 2 0001 @1")
+    load_case(ended(":G"), "! 16 @0", 0, 8, 7)
 
 
 def of_the_incident():
@@ -948,7 +1039,7 @@ def of_the_incident():
         text_case(dump + tail, ["D 0000 0 10 @1", "D 0020 0 10 @2", "E @3", "done @3", "done @3"], pool=16)
     load_case(dump.replace("\n", "\r\n") + old[3:], "A 2", 0, 48, places=stored)
     for tail in ("0", ":", "\r", " ", END, old[:-1]):
-        load_case(dump[:-1] + tail, f"! {5 if tail == '0' else 2} @3", 0, 48)
+        load_case(dump[:-1] + tail, "! 5 @3" if tail == "0" else "! 2 000B @3", 0, 48)
 
 
 def of_chance_again():
@@ -993,11 +1084,13 @@ def make_all():
     of_the_digits()
     of_other_bytes()
     of_the_order()
+    of_places()
     of_the_fields()
     of_the_pool()
     of_chance()
     of_the_stops()
     of_line_ends()
+    of_places_in_texts()
     of_rows_of_answers()
     of_first_answers()
     of_short_texts()
@@ -1014,6 +1107,7 @@ def make_all():
     of_bases()
     of_records_over_one_another()
     of_refused_loads()
+    of_places_in_loads()
     of_the_incident()
     of_chance_again()
 

@@ -1,4 +1,4 @@
-"""A model of document 01's record reader, which shares nothing with the port."""
+"""A model of the record reader of documents 01 and 02, which shares nothing with the port."""
 import re
 
 
@@ -17,8 +17,9 @@ def read(line):
     if line[:1] != b":":
         return "! 1", None
     digits = line[1:]
-    if not re.fullmatch(rb"[0-9A-Fa-f]*", digits):
-        return "! 2", None
+    place = 1 + len(re.match(rb"[0-9A-Fa-f]*", digits).group())
+    if place < len(line):
+        return f"! 2 {min(place, 65535):04X}", None
     if len(digits) < 10:
         return "! 3", None
     if len(digits) > 520:

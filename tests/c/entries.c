@@ -1,6 +1,7 @@
 /* Calls each function of ihex.h on telling inputs, with guard bytes around every buffer and number that is lent.
  * The last line is 'N passed, M failed'. */
 #include <ihex.h>
+#include <ctype.h>
 #include <stdio.h>
 #include <string.h>
 
@@ -40,7 +41,7 @@ static void end_case(void)
 
 /* ---- what is lent, between guards */
 
-#define MOST 70100
+#define MOST 71000
 #define EDGE 64
 #define GUARD 0xA5
 #define OLD 0x5C
@@ -119,12 +120,18 @@ struct byte {
     uint8_t before, value, after;
 };
 
+struct word {
+    uint16_t before, value, after;
+};
+
 #define EDGES 0xA5A5A5A5A5A5A5A5u
+#define WORD_EDGE 0xA5A5u
 #define WITHIN(n, edge) ((n).before == (edge) && (n).after == (edge))
 
 static struct number a, b, c;
 static struct size position, line, empties, used, from, len, start;
 static struct byte flags, lies;
+static struct word skipped;
 
 static void fresh(void)
 {
@@ -135,13 +142,15 @@ static void fresh(void)
     for (i = 0; i < sizeof sizes / sizeof sizes[0]; i++)
         sizes[i]->before = sizes[i]->after = EDGES;
     flags.before = flags.after = lies.before = lies.after = GUARD;
+    skipped.before = skipped.after = WORD_EDGE;
 }
 
 static int fenced(void)
 {
     return WITHIN(a, EDGES) && WITHIN(b, EDGES) && WITHIN(c, EDGES) && WITHIN(position, EDGES) &&
            WITHIN(line, EDGES) && WITHIN(empties, EDGES) && WITHIN(used, EDGES) && WITHIN(from, EDGES) &&
-           WITHIN(len, EDGES) && WITHIN(start, EDGES) && WITHIN(flags, GUARD) && WITHIN(lies, GUARD);
+           WITHIN(len, EDGES) && WITHIN(start, EDGES) && WITHIN(flags, GUARD) && WITHIN(lies, GUARD) &&
+           WITHIN(skipped, WORD_EDGE);
 }
 
 static int values(uint64_t x, uint64_t y, uint64_t z)
@@ -184,7 +193,7 @@ static const struct {
     {"", IHEX_REFUSED + IHEX_MISSING_START_CODE, 0, 0, 0},
     {"00000001FF", IHEX_REFUSED + IHEX_MISSING_START_CODE, 0, 0, 0},
     {":", IHEX_REFUSED + IHEX_RECORD_TOO_SHORT, 0, 0, 0},
-    {":G", IHEX_REFUSED + IHEX_CONTAINS_INVALID_CHARACTERS, 0, 0, 0},
+    {":G", IHEX_REFUSED + IHEX_CONTAINS_INVALID_CHARACTERS, 1, 0, 0},
     {":0100000", IHEX_REFUSED + IHEX_RECORD_TOO_SHORT, 0, 0, 0},
     {":00000001FF0", IHEX_REFUSED + IHEX_RECORD_NOT_EVEN_LENGTH, 0, 0, 0},
     {":00000001FE", IHEX_REFUSED + IHEX_CHECKSUM_MISMATCH, 0xFF, 0xFE, 0},
@@ -192,7 +201,21 @@ static const struct {
     {":01000006F9", IHEX_REFUSED + IHEX_PAYLOAD_LENGTH_MISMATCH, 0, 0, 0},
     {":00000006FA", IHEX_REFUSED + IHEX_UNSUPPORTED_RECORD_TYPE, 6, 0, 0},
     {":0100000100FE", IHEX_REFUSED + IHEX_INVALID_LENGTH_FOR_TYPE, 0, 0, 0},
-    {":00000001FF\r", IHEX_REFUSED + IHEX_CONTAINS_INVALID_CHARACTERS, 0, 0, 0},
+    {":00000001FF\r", IHEX_REFUSED + IHEX_CONTAINS_INVALID_CHARACTERS, 11, 0, 0},
+    {":00000001FF\r\r", IHEX_REFUSED + IHEX_CONTAINS_INVALID_CHARACTERS, 11, 0, 0},
+    {":00000001FF\n", IHEX_REFUSED + IHEX_CONTAINS_INVALID_CHARACTERS, 11, 0, 0},
+    {"::", IHEX_REFUSED + IHEX_CONTAINS_INVALID_CHARACTERS, 1, 0, 0},
+    {":0G0G", IHEX_REFUSED + IHEX_CONTAINS_INVALID_CHARACTERS, 2, 0, 0},
+    {":GGGGGGGGGG", IHEX_REFUSED + IHEX_CONTAINS_INVALID_CHARACTERS, 1, 0, 0},
+    {":0000000 1", IHEX_REFUSED + IHEX_CONTAINS_INVALID_CHARACTERS, 8, 0, 0},
+    {":00000001FG", IHEX_REFUSED + IHEX_CONTAINS_INVALID_CHARACTERS, 10, 0, 0},
+    {":00000001F/F", IHEX_REFUSED + IHEX_CONTAINS_INVALID_CHARACTERS, 10, 0, 0},
+    {":\xC3\xA9", IHEX_REFUSED + IHEX_CONTAINS_INVALID_CHARACTERS, 1, 0, 0},
+    {":00\xE2\x82\xAC" "00000001FF", IHEX_REFUSED + IHEX_CONTAINS_INVALID_CHARACTERS, 3, 0, 0},
+    {":00000001FF\xF0\x9D\x9F\x98", IHEX_REFUSED + IHEX_CONTAINS_INVALID_CHARACTERS, 11, 0, 0},
+    {"G", IHEX_REFUSED + IHEX_MISSING_START_CODE, 0, 0, 0},
+    {"0:G", IHEX_REFUSED + IHEX_MISSING_START_CODE, 0, 0, 0},
+    {"\r:G", IHEX_REFUSED + IHEX_MISSING_START_CODE, 0, 0, 0},
     {":00123401B9", IHEX_END_OF_FILE, 0, 0, 0},
     {":020000021200EA", IHEX_EXTENDED_SEGMENT_ADDRESS, 0x1200, 0, 0},
     {":0400000312345678E5", IHEX_START_SEGMENT_ADDRESS, 0x1234, 0x5678, 0},
@@ -255,6 +278,54 @@ static void longest_line(void)
     CHECK(untouched(&pool_));
 }
 
+/* places of a line's first byte that is no digit, and what is named */
+static const struct {
+    size_t at;
+    uint64_t named;
+} offenders[] = {
+    {1, 1}, {2, 2}, {9, 9}, {10, 10}, {11, 11}, {520, 520}, {521, 521}, {522, 522}, {523, 523},
+    {65534, 65534}, {65535, 65535}, {65536, 65535}, {70000, 65535},
+};
+
+#define OFFENDERS (sizeof offenders / sizeof offenders[0])
+
+/* what may stand there, and behind it; the last with 600 digits */
+static char long_rest[602];
+static const char *const rests[] = {"G", "g0", "GG:", "\r0", "\xC3\xA9", "\x80" "0", long_rest};
+
+#define RESTS (sizeof rests / sizeof rests[0])
+
+static char spoilt[MOST];
+
+/* a text with such a line in it: a colon, digits up to the place, and the rest; returns the text's length */
+static size_t spoil(const char *ahead, size_t at, const char *rest, const char *behind)
+{
+    size_t n = strlen(ahead);
+    memset(long_rest, '0', sizeof long_rest - 1);
+    long_rest[0] = 'G';
+    memcpy(spoilt, ahead, n);
+    spoilt[n] = ':';
+    memset(spoilt + n + 1, '0', at - 1);
+    spoilt[n + at] = '\0';
+    strcat(strcat(spoilt + n + at, rest), behind);
+    return n + at + strlen(spoilt + n + at);
+}
+
+static void places_in_lines(void)
+{
+    size_t i, k;
+    for (i = 0; i < OFFENDERS; i++)
+        for (k = 0; k < RESTS; k++) {
+            begin_case();
+            spoil("", offenders[i].at, rests[k], "");
+            CHECK(read_line(spoilt, 8, 0) == IHEX_REFUSED + IHEX_CONTAINS_INVALID_CHARACTERS);
+            CHECK(values(offenders[i].named, 0, 0) && untouched(&pool_));
+            spoilt[0] = '0';
+            CHECK(read_line(spoilt, 0, 0) == IHEX_REFUSED + IHEX_MISSING_START_CODE && values(0, 0, 0));
+            end_case();
+        }
+}
+
 /* ---- a text */
 
 static uint32_t next(const char *text, size_t pool_len, size_t at)
@@ -313,6 +384,7 @@ static void stops(void)
     CHECK(next(":00000001FF\n:00000001FF\n:G\n:", 0, 0) == IHEX_END_OF_FILE);
     CHECK(next(":00000001FF\n:00000001FF\n:G\n:", 0, 0) == IHEX_END_OF_FILE);
     CHECK(next(":00000001FF\n:00000001FF\n:G\n:", 0, 0) == IHEX_REFUSED + IHEX_CONTAINS_INVALID_CHARACTERS);
+    CHECK(values(1, 0, 0) && stands(27, 3, IHEX_STOP_AFTER_FIRST_ERROR | IHEX_FINISHED));
     CHECK(next(":00000001FF\n:00000001FF\n:G\n:", 0, 0) == IHEX_DONE);
 }
 
@@ -335,8 +407,31 @@ static void line_ends(void)
     CHECK(next("\r\n:00000001FF\r\n\r\r\n:00000001FF\r", 0, 0) == IHEX_REFUSED + IHEX_MISSING_START_CODE);
     CHECK(stands(18, 3, 0));
     CHECK(next("\r\n:00000001FF\r\n\r\r\n:00000001FF\r", 0, 0) == IHEX_REFUSED + IHEX_CONTAINS_INVALID_CHARACTERS);
-    CHECK(stands(30, 4, 0));
+    CHECK(values(11, 0, 0) && stands(30, 4, 0));
     CHECK(next("\r\n:00000001FF\r\n\r\r\n:00000001FF\r", 0, 0) == IHEX_DONE);
+}
+
+/* what stands ahead of a spoilt line: an empty line, and an odd one */
+static const char two_ahead[] = "\n:00000001FF0\r\n";
+
+/* a place is counted in its line, and no line end counts */
+static void places_in_texts(void)
+{
+    static const char *const behinds[] = {"", "\n:00000001FF", "\r\n:00000001FF"};
+    size_t i, k, m, n;
+    for (i = 0; i < OFFENDERS; i++)
+        for (k = 0; k < RESTS; k++)
+            for (m = 0; m < 3; m++) {
+                begin_case();
+                n = spoil(two_ahead, offenders[i].at, rests[k], behinds[m]);
+                begin(0);
+                CHECK(next(spoilt, 8, 0) == IHEX_REFUSED + IHEX_RECORD_NOT_EVEN_LENGTH && stands(15, 2, 0));
+                CHECK(next(spoilt, 8, 0) == IHEX_REFUSED + IHEX_CONTAINS_INVALID_CHARACTERS);
+                CHECK(values(offenders[i].named, 0, 0) && line.value == 3 && untouched(&pool_));
+                CHECK(m == 0 || next(spoilt, 8, 0) == IHEX_END_OF_FILE);
+                CHECK(next(spoilt, 8, 0) == IHEX_DONE && position.value == n);
+                end_case();
+            }
 }
 
 /* no text; a position behind it; bits that mean nothing */
@@ -361,6 +456,7 @@ static void begin_chunks(uint8_t stops, size_t carry_len)
     lend(&carry_, carry_len);
     begin(stops);
     empties.value = used.value = 0;
+    skipped.value = 0;
 }
 
 static uint8_t *carry(void)
@@ -380,10 +476,10 @@ static uint32_t feed(const void *chunk, size_t n, size_t pool_len, size_t at)
     lies.value = 77;
     if (chunk)
         r = ihex_next_chunk(bytes, n, carry(), carry_.len, pool, pool_len, at, &position.value, &line.value, &empties.value,
-                            &used.value, &flags.value, &lies.value, &from.value, &len.value, &a.value, &b.value, &c.value);
+                            &used.value, &skipped.value, &flags.value, &lies.value, &from.value, &len.value, &a.value, &b.value, &c.value);
     else
         r = ihex_finish(carry(), carry_.len, pool, pool_len, at, &position.value, &line.value, &empties.value, &used.value,
-                        &flags.value, &lies.value, &from.value, &len.value, &a.value, &b.value, &c.value);
+                        &skipped.value, &flags.value, &lies.value, &from.value, &len.value, &a.value, &b.value, &c.value);
     CHECK(same(&text_, chunk) && guarded(&carry_) && guarded(&pool_) && fenced());
     return r;
 }
@@ -457,11 +553,47 @@ static int answers(uint32_t r, const struct answer *e, const char *text)
     return r < IHEX_REFUSED ? shows(text + e->at, e->len) : nowhere();
 }
 
+/* how much of a line has come, the place of its first byte from 521 on that is no digit, or 0, and whether a CR waits */
+static struct {
+    size_t len, other;
+    int cr;
+} begun;
+
+static void grow(char c)
+{
+    if (begun.len >= IHEX_CARRY - 1 && !begun.other && !isxdigit((unsigned char)c))
+        begun.other = begun.len;
+    begun.len++;
+}
+
+static void come(const char *bytes, size_t n)
+{
+    size_t i;
+    for (i = 0; i < n; i++)
+        if (bytes[i] == '\n')
+            memset(&begun, 0, sizeof begun);
+        else {
+            if (begun.cr)
+                grow('\r');
+            begun.cr = bytes[i] == '\r';
+            if (!begun.cr)
+                grow(bytes[i]);
+        }
+}
+
+/* how many digits of it are left out ahead of the last byte that a carry holds */
+static uint16_t left_out(void)
+{
+    size_t n = begun.len <= IHEX_CARRY ? 0 : (begun.other ? begun.other : begun.len - 1) - (IHEX_CARRY - 1);
+    return (uint16_t)(n < UINT16_MAX ? n : UINT16_MAX);
+}
+
 /* a text whose first chunk has `first` bytes and each other one `step`, to the answers of the whole */
 static void in_chunks(const char *text, size_t n, size_t first, size_t step, uint8_t stops)
 {
     size_t at = 0, k = first, i = 0;
     int over = 0;
+    memset(&begun, 0, sizeof begun);
     begin_case();
     read_whole(text, n, stops);
     begin_chunks(stops, IHEX_CARRY);
@@ -469,17 +601,52 @@ static void in_chunks(const char *text, size_t n, size_t first, size_t step, uin
         uint32_t r = over ? finish(IHEX_MAX_PAYLOAD, 0) : feed(text + at, k, IHEX_MAX_PAYLOAD, 0);
         if (r == IHEX_USED_UP) {
             CHECK(!over && values(0, 0, 0) && nowhere() && position.value == 0 && used.value <= IHEX_CARRY);
+            come(text + at, k);
+            CHECK(skipped.value == left_out());
             at += k;
             over = at == n;
             k = step < n - at ? step : n - at;
             continue;
         }
-        CHECK(answers(r, &expected[i], text));
+        CHECK(answers(r, &expected[i], text) && skipped.value == 0);
         if (expected[i++].code == IHEX_DONE)
             break;
     }
     CHECK((flags.value & IHEX_FINISHED) && feed_text(":00000001FF\n", 0, 0) == IHEX_DONE && values(0, 0, 0) && nowhere());
     CHECK(line.value == expected[i - 1].line && finish(0, 0) == IHEX_DONE && line.value == expected[i - 1].line);
+    end_case();
+}
+
+/* a text to the answers of the whole through the struct's functions, so many bytes at a time */
+static void stepwise(const char *whole, size_t n, size_t step, uint8_t stops)
+{
+    struct ihex_chunks s = {0, 0, 0, 0, 0, 0, 0, 0, 0};
+    static uint8_t kept[IHEX_CARRY], pool[IHEX_MAX_PAYLOAD];
+    const uint8_t *text = (const uint8_t *)whole;
+    size_t at = 0, i = 0, first;
+    uint64_t x, y, z;
+    uint32_t r;
+    s.flags = stops;
+    memset(&begun, 0, sizeof begun);
+    begin_case();
+    read_whole(whole, n, stops);
+    do {
+        size_t k = n - at < step ? n - at : step;
+        r = k ? ihex_chunks_next(&s, text + at, k, kept, sizeof kept, pool, sizeof pool, 0, &x, &y, &z)
+              : ihex_chunks_finish(&s, kept, sizeof kept, pool, sizeof pool, 0, &x, &y, &z);
+        if (r == IHEX_USED_UP) {
+            come(whole + at, k);
+            CHECK(s.skipped == left_out());
+            at += k;
+            continue;
+        }
+        CHECK(r == expected[i].code && x == expected[i].a && y == expected[i].b && z == expected[i].c && s.line == expected[i].line);
+        CHECK(s.skipped == 0);
+        if (r < IHEX_REFUSED)
+            CHECK(ihex_shown(s.lies, s.from, s.len, text + at, k, kept, sizeof kept, &first) == expected[i].len &&
+                  memcmp((s.lies == IHEX_IN_CHUNK ? text + at : kept) + first, whole + expected[i].at, expected[i].len) == 0);
+        i++;
+    } while (r != IHEX_DONE);
     end_case();
 }
 
@@ -539,20 +706,210 @@ static void long_lines(void)
     }
 }
 
+/* a text with a spoilt line behind so many bytes: cut ahead of its place, behind it, where the carry is full, and in equal parts */
+static void in_all_cuts(size_t n, size_t ahead, size_t at)
+{
+    static const size_t full[] = {521, 522, 523}, steps[] = {1, 17, 4096};
+    size_t i;
+    for (i = 0; i < 3; i++) {
+        if (ahead + at + i <= n)
+            in_chunks(spoilt, n, ahead + at + i, n, 0);
+        if (ahead + full[i] <= n && (full[i] < at || full[i] > at + 2))
+            in_chunks(spoilt, n, ahead + full[i], n, 0);
+        stepwise(spoilt, n, steps[i], 0);
+    }
+}
+
+static void places_in_chunks(void)
+{
+    size_t i, k, n;
+    for (i = 0; i < OFFENDERS; i++)
+        for (k = 0; k < RESTS; k++) {
+            n = spoil(two_ahead, offenders[i].at, rests[k], "\r\n:00000001FF");
+            in_all_cuts(n, strlen(two_ahead), offenders[i].at);
+            CHECK(expected[1].code == IHEX_REFUSED + IHEX_CONTAINS_INVALID_CHARACTERS && expected[1].a == offenders[i].named);
+            if (k % 3)
+                continue;
+            /* alone, up to the text's end */
+            n = spoil("", offenders[i].at, rests[k], "");
+            in_all_cuts(n, 0, offenders[i].at);
+            CHECK(expected[0].code == IHEX_REFUSED + IHEX_CONTAINS_INVALID_CHARACTERS && expected[0].a == offenders[i].named);
+        }
+}
+
+/* a CR is the line's at the text's end and ahead of another CR, and the line end's ahead of LF */
+static void places_of_CR(void)
+{
+    static const char *const ends[] = {"\r", "\r\r", "\r\r\n", "\r\n"};
+    size_t i, k;
+    for (i = 0; i < OFFENDERS; i++)
+        for (k = 0; k < 4; k++) {
+            size_t at = offenders[i].at, n = spoil("", at, "", ends[k]);
+            in_all_cuts(n, 0, at);
+            if (k < 3)
+                CHECK(expected[0].code == IHEX_REFUSED + IHEX_CONTAINS_INVALID_CHARACTERS && expected[0].a == offenders[i].named);
+            else
+                CHECK(expected[0].code != IHEX_REFUSED + IHEX_CONTAINS_INVALID_CHARACTERS && expected[0].line == 1);
+        }
+}
+
+/* a state made up by hand: so many bytes of a line of digits but for the last, and so many left out */
+static void make_up(size_t n, char last, uint16_t out)
+{
+    begin_chunks(0, IHEX_CARRY);
+    memset(carry(), '0', n);
+    carry()[n - 1] = (uint8_t)last;
+    carry()[0] = ':';
+    used.value = n;
+    skipped.value = out;
+}
+
+/* a refusal of the line, with its value; nothing is left of it in the state */
+static int refuses(uint32_t r, uint32_t number, uint64_t value)
+{
+    return r == IHEX_REFUSED + number && values(value, 0, 0) && line.value == 1 && used.value == 0 && skipped.value == 0 && nowhere();
+}
+
+/* a line that is begun: so many bytes, and so many left out */
+static int begins(uint32_t r, size_t n, uint16_t out)
+{
+    return r == IHEX_USED_UP && used.value == n && skipped.value == out && line.value == 0;
+}
+
+/* a full carry, and counts up to the greatest */
+static void counts_of_skipped(void)
+{
+    /* the count, one more, and 600 more; the place of the carry's last byte, and of the one behind it */
+    static const struct {
+        uint16_t out, one, many;
+        uint64_t last, next;
+    } counts[] = {
+        {0, 1, 600, 521, 522}, {1, 2, 601, 522, 523}, {64934, 64935, 65534, 65455, 65456}, {64935, 64936, 65535, 65456, 65457},
+        {65012, 65013, 65535, 65533, 65534}, {65013, 65014, 65535, 65534, 65535}, {65014, 65015, 65535, 65535, 65535},
+        {65015, 65016, 65535, 65535, 65535}, {65534, 65535, 65535, 65535, 65535}, {65535, 65535, 65535, 65535, 65535},
+    };
+    static char many[601];
+    size_t i;
+    memset(many, '0', 600);
+    for (i = 0; i < sizeof counts / sizeof counts[0]; i++) {
+        uint16_t out = counts[i].out, one = counts[i].one;
+        begin_case();
+        /* the carry's last byte is no digit: it stays, and so does its place */
+        make_up(522, 'G', out);
+        CHECK(refuses(finish(0, 0), IHEX_CONTAINS_INVALID_CHARACTERS, counts[i].last));
+        make_up(522, 'G', out);
+        CHECK(refuses(feed_text("\n", 0, 0), IHEX_CONTAINS_INVALID_CHARACTERS, counts[i].last));
+        make_up(522, 'G', out);
+        CHECK(begins(feed_text("0G\r", 0, 0), 522, out));
+        CHECK(refuses(feed_text("0\n", 0, 0), IHEX_CONTAINS_INVALID_CHARACTERS, counts[i].last));
+        make_up(522, 'G', out);
+        CHECK(begins(feed_text(many, 0, 0), 522, out) && carry()[521] == 'G');
+        /* it is a digit: the next byte takes its place */
+        make_up(522, '7', out);
+        CHECK(begins(feed_text("G", 0, 0), 522, one) && carry()[521] == 'G');
+        CHECK(refuses(finish(0, 0), IHEX_CONTAINS_INVALID_CHARACTERS, counts[i].next));
+        make_up(522, '7', out);
+        CHECK(refuses(feed_text("GG\n", 0, 0), IHEX_CONTAINS_INVALID_CHARACTERS, counts[i].next));
+        make_up(522, '7', out);
+        CHECK(begins(feed_text("8", 0, 0), 522, one) && carry()[521] == '8');
+        CHECK(refuses(finish(0, 0), IHEX_RECORD_TOO_LONG, 0));
+        make_up(522, '7', out);
+        CHECK(begins(feed_text(many, 0, 0), 522, counts[i].many) && carry()[521] == '0');
+        make_up(522, '7', out);
+        CHECK(refuses(feed_text("\n", 0, 0), IHEX_RECORD_TOO_LONG, 0));
+        /* a CR that waits is not counted yet */
+        make_up(522, '7', out);
+        CHECK(begins(feed_text("\r", 0, 0), 522, out) && carry()[521] == '7');
+        CHECK(refuses(finish(0, 0), IHEX_CONTAINS_INVALID_CHARACTERS, counts[i].next));
+        make_up(522, '7', out);
+        CHECK(begins(feed_text("\r", 0, 0), 522, out) && begins(feed_text("\r", 0, 0), 522, one));
+        CHECK(refuses(feed_text("\n", 0, 0), IHEX_CONTAINS_INVALID_CHARACTERS, counts[i].next));
+        make_up(522, '7', out);
+        CHECK(begins(feed_text("\r", 0, 0), 522, out) && refuses(feed_text("\n", 0, 0), IHEX_RECORD_TOO_LONG, 0));
+        /* a place ahead of the carry's last byte is the line's own; without a colon there is none */
+        make_up(522, 'G', out);
+        carry()[520] = 'G';
+        CHECK(refuses(finish(0, 0), IHEX_CONTAINS_INVALID_CHARACTERS, 520));
+        make_up(522, '7', out);
+        carry()[1] = 'G';
+        CHECK(refuses(feed_text("GG\r\n", 0, 0), IHEX_CONTAINS_INVALID_CHARACTERS, 1));
+        make_up(522, 'G', out);
+        carry()[0] = '0';
+        CHECK(refuses(finish(0, 0), IHEX_MISSING_START_CODE, 0));
+        end_case();
+    }
+}
+
+/* a carry that is not full, with a count that no call leaves: it is not read, and 0 is left */
+static void counts_that_are_made_up(void)
+{
+    static const size_t lens[] = {1, 2, 5, 505, 519, 520, 521};
+    size_t i;
+    for (i = 0; i < sizeof lens / sizeof lens[0]; i++) {
+        size_t n = lens[i];
+        begin_case();
+        make_up(n, '0', 7);
+        CHECK(begins(feed_text("0", 0, 0), n + 1, 0));
+        make_up(n, '0', 7);
+        CHECK(refuses(feed_text("G0\n", 0, 0), IHEX_CONTAINS_INVALID_CHARACTERS, n));
+        CHECK(feed_text("G0\n:0G\n", 0, 0) == IHEX_REFUSED + IHEX_CONTAINS_INVALID_CHARACTERS && values(2, 0, 0) && skipped.value == 0);
+        make_up(n, '0', 7);
+        CHECK(begins(feed_text("\r", 0, 0), n, 0) && refuses(finish(0, 0), IHEX_CONTAINS_INVALID_CHARACTERS, n));
+        make_up(n, '0', 65535);
+        flags.value = IHEX_CR_WAITS;
+        CHECK(refuses(finish(0, 0), IHEX_CONTAINS_INVALID_CHARACTERS, n));
+        make_up(n, '0', 65535);
+        CHECK((finish(0, 0) & IHEX_REFUSED) && values(0, 0, 0) && skipped.value == 0);
+        /* the line grows over the carry */
+        make_up(n, '0', 65535);
+        spoil("", 601, "G\n", "");
+        CHECK(begins(feed(spoilt + 1, 600, 0, 0), 522, (uint16_t)(n + 600 - 522)));
+        CHECK(refuses(feed_text("G\n", 0, 0), IHEX_CONTAINS_INVALID_CHARACTERS, n + 600));
+        make_up(n, '0', 65535);
+        CHECK(refuses(feed_text(spoilt + 1, 0, 0), IHEX_CONTAINS_INVALID_CHARACTERS, n + 600));
+        end_case();
+    }
+    /* bytes enough that they are taken in one go */
+    make_up(505, '0', 7);
+    CHECK(refuses(feed_text("0123456789ABCDEFG\n", 0, 0), IHEX_CONTAINS_INVALID_CHARACTERS, 521));
+    make_up(505, '0', 7);
+    CHECK(begins(feed_text("0123456789ABCDEFG", 0, 0), 522, 0));
+    CHECK(refuses(feed_text("0123456789ABCDEFG\n", 0, 0), IHEX_CONTAINS_INVALID_CHARACTERS, 521));
+    make_up(505, '0', 7);
+    CHECK(begins(feed_text("0123456789ABCDEF\r", 0, 0), 521, 0));
+    CHECK(refuses(finish(0, 0), IHEX_CONTAINS_INVALID_CHARACTERS, 521));
+    /* nothing is begun */
+    make_up(1, ':', 7);
+    used.value = 0;
+    CHECK(refuses(feed_text(":0G\n", 0, 0), IHEX_CONTAINS_INVALID_CHARACTERS, 2));
+    make_up(1, ':', 7);
+    used.value = 0;
+    CHECK(begins(feed_text("\n:0", 0, 0), 2, 0));
+    make_up(1, ':', 7);
+    used.value = 0;
+    flags.value = IHEX_CR_WAITS;
+    CHECK(begins(feed_text("\n\r", 0, 0), 0, 0) && empties.value == 1 && flags.value == IHEX_CR_WAITS);
+    /* "done" leaves it as it was */
+    make_up(1, ':', 7);
+    used.value = 0;
+    CHECK(finish(0, 0) == IHEX_DONE && stands(0, 0, IHEX_FINISHED) && used.value == 0 && skipped.value == 7);
+    CHECK(feed_text(":0G\n", 0, 0) == IHEX_DONE && skipped.value == 7);
+}
+
 /* ---- refusals 10 and 18, and what they keep */
 
 /* the state and the carry, whole, as they were */
-static int all_kept(size_t p, size_t l, size_t e, size_t u, uint8_t f)
+static int all_kept(size_t p, size_t l, size_t e, size_t u, uint16_t k, uint8_t f)
 {
-    return stands(p, l, f) && empties.value == e && used.value == u && memcmp(before, carry_.all + EDGE, carry_.len) == 0 &&
-           values(0, 0, 0) && nowhere() && untouched(&pool_);
+    return stands(p, l, f) && empties.value == e && used.value == u && skipped.value == k &&
+           memcmp(before, carry_.all + EDGE, carry_.len) == 0 && values(0, 0, 0) && nowhere() && untouched(&pool_);
 }
 
 static void chunks_with_full_pool(void)
 {
     static const char data[] = ":04012000102030403B\n";
     begin_chunks(IHEX_STOP_AFTER_FIRST_ERROR, IHEX_CARRY);
-    CHECK(feed_text(data, 8, 5) == IHEX_REFUSED + IHEX_POOL_FULL && all_kept(0, 0, 0, 0, IHEX_STOP_AFTER_FIRST_ERROR));
+    CHECK(feed_text(data, 8, 5) == IHEX_REFUSED + IHEX_POOL_FULL && all_kept(0, 0, 0, 0, 0, IHEX_STOP_AFTER_FIRST_ERROR));
     CHECK(feed_text(data, 8, 4) == IHEX_DATA && values(0x0120, 4, 4) && holds(&pool_, 4, payload, 4));
     CHECK(feed_text(data, 8, 5) == IHEX_USED_UP && feed_text("\n\n:0401", 0, 0) == IHEX_USED_UP && empties.value == 2);
     CHECK(feed_text(data + 5, 8, 5) == IHEX_REFUSED + IHEX_POOL_FULL);
@@ -563,9 +920,21 @@ static void chunks_with_full_pool(void)
 
     begin_chunks(0, IHEX_CARRY);
     CHECK(feed(data, 19, 0, 0) == IHEX_USED_UP && used.value == 19);
-    CHECK(finish(3, 0) == IHEX_REFUSED + IHEX_POOL_FULL && all_kept(0, 0, 0, 19, 0));
+    CHECK(finish(3, 0) == IHEX_REFUSED + IHEX_POOL_FULL && all_kept(0, 0, 0, 19, 0, 0));
     CHECK(finish(4, 0) == IHEX_DATA && stands(0, 1, IHEX_FINISHED) && used.value == 0 && shows(data, 19));
-    CHECK(finish(4, 0) == IHEX_DONE && feed_text(data, 4, 0) == IHEX_DONE && all_kept(0, 1, 0, 0, IHEX_FINISHED));
+    CHECK(skipped.value == 0 && finish(4, 0) == IHEX_DONE && feed_text(data, 4, 0) == IHEX_DONE && all_kept(0, 1, 0, 0, 0, IHEX_FINISHED));
+
+    /* a count that no call leaves is kept too */
+    begin_chunks(0, IHEX_CARRY);
+    CHECK(feed(data, 5, 0, 0) == IHEX_USED_UP && used.value == 5 && skipped.value == 0);
+    skipped.value = 9;
+    CHECK(feed_text(data + 5, 3, 0) == IHEX_REFUSED + IHEX_POOL_FULL && stands(0, 0, 0) && used.value == 5 && skipped.value == 9);
+    CHECK(feed_text(data + 5, 4, 0) == IHEX_DATA && used.value == 0 && skipped.value == 0 && shows(data, 19));
+    begin_chunks(0, IHEX_CARRY);
+    CHECK(feed(data, 19, 0, 0) == IHEX_USED_UP);
+    skipped.value = 65535;
+    CHECK(finish(3, 0) == IHEX_REFUSED + IHEX_POOL_FULL && all_kept(0, 0, 0, 19, 65535, 0));
+    CHECK(finish(4, 0) == IHEX_DATA && stands(0, 1, IHEX_FINISHED) && skipped.value == 0);
 }
 
 static void small_carry(void)
@@ -582,16 +951,17 @@ static void small_carry(void)
             position.value = SIZE_MAX;
             empties.value = 7;
             used.value = counts[k];
+            skipped.value = 4321;
             CHECK(feed_text(mixed, 8, 0) == (small ? code : IHEX_DONE));
-            CHECK(all_kept(SIZE_MAX, 0, 7, counts[k], IHEX_FINISHED | IHEX_CR_WAITS));
+            CHECK(all_kept(SIZE_MAX, 0, 7, counts[k], 4321, IHEX_FINISHED | IHEX_CR_WAITS));
             flags.value = IHEX_CR_WAITS;
             CHECK((finish(8, 0) == code) == small);
-            CHECK(!small || all_kept(SIZE_MAX, 0, 7, counts[k], IHEX_CR_WAITS));
+            CHECK(small ? all_kept(SIZE_MAX, 0, 7, counts[k], 4321, IHEX_CR_WAITS) : skipped.value == 0);
             end_case();
         }
 }
 
-/* every setting of the flags, positions behind the end, and counts of used bytes that no call leaves */
+/* every setting of the flags, positions behind the end, and counts of used bytes and of digits left out that no call leaves */
 static void made_up_states(void)
 {
     static const size_t places[] = {0, 21, SIZE_MAX}, counts[] = {0, 1, 522};
@@ -605,10 +975,12 @@ static void made_up_states(void)
                 position.value = places[i];
                 line.value = empties.value = SIZE_MAX;
                 used.value = counts[k];
+                skipped.value = (uint16_t)(257 * f);
                 r = feed_text(mixed, 8, 0);
                 CHECK(r <= IHEX_START_LINEAR_ADDRESS || (r > IHEX_REFUSED && r <= IHEX_REFUSED + IHEX_POOL_FULL) ||
                       r == ((f & IHEX_FINISHED) ? IHEX_DONE : IHEX_USED_UP));
                 CHECK(flags.value < 16 && (flags.value & 3) == (f & 3) && (flags.value & IHEX_FINISHED) >= (f & IHEX_FINISHED));
+                CHECK(skipped.value == 0 || r >= IHEX_DONE || r == IHEX_REFUSED + IHEX_POOL_FULL);
             }
     end_case();
 }
@@ -647,30 +1019,12 @@ static void shown_places(void)
     end_case();
 }
 
-/* the struct's functions, seven bytes at a time */
 static void struct_of_chunks(void)
 {
-    struct ihex_chunks s = {0, 0, 0, 0, IHEX_STOP_AFTER_EOF, 0, 0, 0};
-    static uint8_t kept[IHEX_CARRY], pool[IHEX_MAX_PAYLOAD];
-    const uint8_t *text = (const uint8_t *)cut_text;
-    size_t n = strlen(cut_text), at = 0, i = 0, first;
-    uint64_t x, y, z;
-    uint32_t r;
-    read_whole(cut_text, n, IHEX_STOP_AFTER_EOF);
-    do {
-        size_t k = n - at < 7 ? n - at : 7;
-        r = k ? ihex_chunks_next(&s, text + at, k, kept, sizeof kept, pool, sizeof pool, 0, &x, &y, &z)
-              : ihex_chunks_finish(&s, kept, sizeof kept, pool, sizeof pool, 0, &x, &y, &z);
-        if (r == IHEX_USED_UP) {
-            at += k;
-            continue;
-        }
-        CHECK(r == expected[i].code && x == expected[i].a && y == expected[i].b && z == expected[i].c && s.line == expected[i].line);
-        if (r < IHEX_REFUSED)
-            CHECK(ihex_shown(s.lies, s.from, s.len, text + at, k, kept, sizeof kept, &first) == expected[i].len &&
-                  memcmp((s.lies == IHEX_IN_CHUNK ? text + at : kept) + first, cut_text + expected[i].at, expected[i].len) == 0);
-        i++;
-    } while (r != IHEX_DONE);
+    size_t k, n = strlen(cut_text);
+    CHECK(sizeof(struct ihex_chunks) == 7 * sizeof(size_t) && offsetof(struct ihex_chunks, from) == 5 * sizeof(size_t));
+    for (k = 1; k < 8; k++)
+        stepwise(cut_text, n, k, IHEX_STOP_AFTER_EOF);
 }
 
 /* ---- one record written */
@@ -1005,6 +1359,32 @@ static void refused_loads(void)
     CHECK(not_loaded(0, 0, 0));
 }
 
+/* the place of a byte that is no digit, with its line; what stands behind that line is not read */
+static void places_in_loads(void)
+{
+    static const char *const behinds[] = {"", "\n:00000001FF\n", "\r\n0\n"};
+    size_t i, k, m;
+    for (i = 0; i < OFFENDERS; i++)
+        for (k = 0; k < RESTS; k++)
+            for (m = 0; m < 3; m++) {
+                begin_case();
+                spoil(":0100000011EE\n\n\r\n", offenders[i].at, rests[k], behinds[m]);
+                CHECK(load(spoilt, 0, 2, 2) == IHEX_REFUSED + IHEX_CONTAINS_INVALID_CHARACTERS);
+                CHECK(not_loaded(offenders[i].named, 0, 4));
+                end_case();
+            }
+    CHECK(load(":00000001FF\r", 0, 2, 2) == IHEX_REFUSED + IHEX_CONTAINS_INVALID_CHARACTERS);
+    CHECK(not_loaded(11, 0, 1));
+    CHECK(load(":00000001FF\r\r\n", 0, 2, 2) == IHEX_REFUSED + IHEX_CONTAINS_INVALID_CHARACTERS);
+    CHECK(not_loaded(11, 0, 1));
+    CHECK(load(":00000001FF\r\n:G", 0, 2, 2) == IHEX_OK);
+    CHECK(loaded(0, "00", 0, ""));
+    CHECK(load("\n0G\n:G\n", 0, 2, 2) == IHEX_REFUSED + IHEX_MISSING_START_CODE);
+    CHECK(not_loaded(0, 0, 2));
+    CHECK(load(":0100020011EC\n:G\n", 0, 2, 2) == IHEX_REFUSED + IHEX_OUTSIDE_WINDOW);
+    CHECK(not_loaded(2, 0, 1));
+}
+
 static void windows(void)
 {
     CHECK(load(end_line, 0, 2, 3) == IHEX_REFUSED + IHEX_BAD_WINDOW);
@@ -1065,13 +1445,19 @@ int main(void)
     lines_without_data();
     lines_with_data();
     longest_line();
+    places_in_lines();
     stops();
     text_with_full_pool();
     line_ends();
+    places_in_texts();
     states();
     cut_texts();
     waiting_CR();
     long_lines();
+    places_in_chunks();
+    places_of_CR();
+    counts_of_skipped();
+    counts_that_are_made_up();
     chunks_with_full_pool();
     small_carry();
     made_up_states();
@@ -1087,6 +1473,7 @@ int main(void)
     loads_in_windows();
     loads_across_segments();
     refused_loads();
+    places_in_loads();
     windows();
     full_page();
     printf("%d passed, %d failed\n", passed, failed);

@@ -1,108 +1,227 @@
--- A line is judged as what is kept of it. Beyond 521 bytes the judge asks only for the colon and whether all else are digits, and a
--- byte that takes the last place, or fails to, changes neither.
+-- A line is judged as what is kept of it stands for. Beyond 521 bytes the judge asks only for the colon, whether all else are digits, and
+-- how many of them lead; a zero in the place of a digit changes none of it, nor does any byte behind one that is no digit.
 -- Assumes nothing.
-use Prim.Native.Nat.{ℕ, _+_, _≤_, _<_}
-use mathlib.Core.Path.{_≡_, refl, sym, ap, _∙_}
+use Prim.Native.Nat.{ℕ, zero, suc, _+_, _-_, _≤_, _<_}
+use mathlib.Core.Path.{_≡_, refl, sym, ap, ap₂, _∙_}
 use mathlib.Core.Bool.{Bool, true, false, _&&_}
 use mathlib.Core.List.{List, [], _∷_, _++_, append-assoc, append-nil, foldl}
 use native.Mathlib.Omega.{arith}
 use lib.Dec.{eqb, ltb}
-use lib.ListN.{length, getD, take, drop, length-append, drop-of-length-le}
-use lib.Seq.{split-at, length-take-le}
+use lib.ListN.{length, getD, take, drop, replicate, length-append, length-replicate, take-append-drop, drop-of-length-le}
+use lib.Seq.{split-at, length-take-le, take-at, drop-at, getD-at}
 use borrow.Author.Tests.{ltb-true, ltb-false, lt-ltb, le-ltb}
 use Rattle.record.specs.Common.{if_then_else_}
 use Rattle.record.specs.Refusals.{missing-start-code, contains-invalid-characters, record-too-long}
-use Rattle.record.specs.Digits.{is-digit, all-digits}
-use Rattle.record.specs.Line.{Said, wrong, judge, judge-digits}
-use Rattle.record.proofs.Tests.{and-assoc}
-use Rattle.chunks.specs.Begun.{push, brief}
+use Rattle.record.specs.Digits.{is-digit, all-digits, leading}
+use Rattle.record.specs.Line.{Said, wrong, named, invalid, judge, judge-digits}
+use Rattle.record.proofs.Tests.{and-assoc, split}
+use Rattle.record.proofs.Offender.{leading-on, leading-in}
+use Rattle.chunks.specs.Begun.{Kept, none-kept, push, brief, behind-digits, stands-for}
 
 -- a line over 521 bytes: 1, 2 or 4
 abbrev pub too-long : ℕ → List ℕ → Said
-too-long c ds = if eqb c 58 then (if all-digits ds then wrong record-too-long else wrong contains-invalid-characters) else wrong missing-start-code
+too-long c ds = if eqb c 58 then (if all-digits ds then wrong record-too-long else invalid ds) else wrong missing-start-code
 
 pub judge-over : (c : ℕ) (ds : List ℕ) → 520 < length ds → judge (c ∷ ds) ≡ too-long c ds
 unfolding judge judge-digits
 judge-over c ds h = let short : 10 ≤ length ds = omega arith in rw (le-ltb (length ds) 10 short, lt-ltb 520 (length ds) h)
 
-digits-append : (a b : List ℕ) → all-digits (a ++ b) ≡ all-digits a && all-digits b
+pub digits-append : (a b : List ℕ) → all-digits (a ++ b) ≡ all-digits a && all-digits b
 unfolding all-digits
 digits-append [] b = refl
 digits-append (c ∷ a) b = ap (λ (t : Bool). is-digit c && t) (digits-append a b) ∙ sym (and-assoc (is-digit c) (all-digits a) (all-digits b))
 
--- 521 bytes behind the first are 520 and one more
-last-one : (ds : List ℕ) → length ds ≡ 521 → ds ≡ take 520 ds ++ (getD ds 520 0 ∷ [])
-last-one ds h =
-    let none : drop 521 ds ≡ [] = drop-of-length-le ds {i = 521} (omega arith) in
-    split-at ds 520 0 (omega arith) ∙ rw none
+-- ---- long rows that are judged alike
 
--- the last of them is a digit: whatever comes next may stand for it
-replaced : (front : List ℕ) (y c : ℕ) (l : List ℕ) → is-digit y ≡ true
-    → all-digits ((front ++ (c ∷ [])) ++ l) ≡ all-digits ((front ++ (y ∷ [])) ++ (c ∷ l))
+-- all or none are digits, and as many lead, as far as a refusal names places
+pub record Alike (ds es : List ℕ) : Type 0 where
+  pub all : all-digits ds ≡ all-digits es
+  pub place : named (suc (leading ds)) ≡ named (suc (leading es))
+
+judged-alike : (c : ℕ) (ds es : List ℕ) → 520 < length ds → 520 < length es → Alike ds es → judge (c ∷ ds) ≡ judge (c ∷ es)
+judged-alike c ds es h k a =
+    judge-over c ds h
+    ∙ ap₂ (λ (t : Bool) (p : ℕ). if eqb c 58 then (if t then wrong record-too-long else wrong (contains-invalid-characters p)) else wrong missing-start-code) (a .all) (a .place)
+    ∙ sym (judge-over c es k)
+
+-- the same front, and behind it what is alike there: n places further, which may be too far to be named
+alike-behind : (front ds es : List ℕ) → all-digits ds ≡ all-digits es
+    → (all-digits front ≡ true → named (suc (length front + leading ds)) ≡ named (suc (length front + leading es))) → Alike (front ++ ds) (front ++ es)
+alike-behind front ds es a p =
+    record {
+      all = digits-append front ds ∙ ap (λ (t : Bool). all-digits front && t) a ∙ sym (digits-append front es);
+      place = go (all-digits front) refl;
+    }
+  where
+    go : (t : Bool) → all-digits front ≡ t → named (suc (leading (front ++ ds))) ≡ named (suc (leading (front ++ es)))
+    go true e = ap (λ (n : ℕ). named (suc n)) (leading-on front ds e) ∙ p e ∙ sym (ap (λ (n : ℕ). named (suc n)) (leading-on front es e))
+    go false e = ap (λ (n : ℕ). named (suc n)) (leading-in front ds e ∙ sym (leading-in front es e))
+
+-- ---- zeros
+
+zeros-digits : (n : ℕ) → all-digits (replicate n 48) ≡ true
 unfolding all-digits
-replaced front y c l e = rw (append-assoc front (c ∷ []) l, append-assoc front (y ∷ []) (c ∷ l), digits-append front (c ∷ l), digits-append front (y ∷ c ∷ l), e)
+zeros-digits zero = refl
+zeros-digits (suc n) = zeros-digits n
+
+-- digits and then a row: what leads it
+module _ (n : ℕ) (ds : List ℕ) where
+  pub all-behind : all-digits (replicate n 48 ++ ds) ≡ all-digits ds
+  all-behind = digits-append (replicate n 48) ds ∙ ap (λ (t : Bool). t && all-digits ds) (zeros-digits n)
+
+  pub leading-behind : leading (replicate n 48 ++ ds) ≡ n + leading ds
+  leading-behind = leading-on (replicate n 48) ds (zeros-digits n) ∙ ap (λ (k : ℕ). k + leading ds) (length-replicate n 48)
+
+-- ---- one byte onto 522
+
+-- the last of them is a digit: whatever comes next takes its place, with one zero more ahead of it
+pub counted-in : (front : List ℕ) (n y c : ℕ) (l : List ℕ) → length front ≡ 520 → is-digit y ≡ true
+    → Alike (front ++ (replicate (named (suc n)) 48 ++ (c ∷ l))) (front ++ (replicate n 48 ++ (y ∷ c ∷ l)))
+unfolding all-digits leading
+counted-in front n y c l h e =
+    let all : all-digits (y ∷ c ∷ l) ≡ all-digits (c ∷ l) = rw e in
+    let one : leading (y ∷ c ∷ l) ≡ suc (leading (c ∷ l)) = rw e in
+    alike-behind front (replicate (named (suc n)) 48 ++ (c ∷ l)) (replicate n 48 ++ (y ∷ c ∷ l))
+    (all-behind (named (suc n)) (c ∷ l) ∙ sym (all-behind n (y ∷ c ∷ l) ∙ all))
+    (λ _. omega (arith, leading-behind (named (suc n)) (c ∷ l), leading-behind n (y ∷ c ∷ l), one))
 
 -- it is none: what comes next does not matter
-stays : (front : List ℕ) (y c : ℕ) (l : List ℕ) → is-digit y ≡ false
-    → all-digits ((front ++ (y ∷ [])) ++ l) ≡ all-digits ((front ++ (y ∷ [])) ++ (c ∷ l))
-unfolding all-digits
-stays front y c l e = rw (append-assoc front (y ∷ []) l, append-assoc front (y ∷ []) (c ∷ l), digits-append front (y ∷ l), digits-append front (y ∷ c ∷ l), e)
+pub passed-by : (front : List ℕ) (n y c : ℕ) (l : List ℕ) → is-digit y ≡ false
+    → Alike (front ++ (replicate n 48 ++ (y ∷ l))) (front ++ (replicate n 48 ++ (y ∷ c ∷ l)))
+unfolding all-digits leading
+passed-by front n y c l e =
+    let all : all-digits (y ∷ l) ≡ all-digits (y ∷ c ∷ l) = rw e in
+    let one : leading (y ∷ l) ≡ leading (y ∷ c ∷ l) = rw e in
+    alike-behind front (replicate n 48 ++ (y ∷ l)) (replicate n 48 ++ (y ∷ c ∷ l))
+    (all-behind n (y ∷ l) ∙ all ∙ sym (all-behind n (y ∷ c ∷ l)))
+    (λ _. omega (arith, leading-behind n (y ∷ l), leading-behind n (y ∷ c ∷ l), one))
 
--- one byte onto 522
-onto-full : (x : ℕ) (front : List ℕ) (y c : ℕ) (l : List ℕ) (t : Bool) → is-digit y ≡ t → length front ≡ 520
-    → judge ((if t then (x ∷ front) ++ (c ∷ []) else (x ∷ front) ++ (y ∷ [])) ++ l) ≡ judge (((x ∷ front) ++ (y ∷ [])) ++ (c ∷ l))
-onto-full x front y c l true e h =
-    judge-over x ((front ++ (c ∷ [])) ++ l) (simp length-append (omega arith))
-    ∙ rw (replaced front y c l e) (sym (judge-over x ((front ++ (y ∷ [])) ++ (c ∷ l)) (simp length-append (omega arith))))
-onto-full x front y c l false e h =
-    judge-over x ((front ++ (y ∷ [])) ++ l) (simp length-append (omega arith))
-    ∙ rw (stays front y c l e) (sym (judge-over x ((front ++ (y ∷ [])) ++ (c ∷ l)) (simp length-append (omega arith))))
+-- ---- what is kept of a line of 522 bytes and more: a first byte, 520 more, and a last
 
-pub push-more : (k : List ℕ) (c : ℕ) → length k < 522 → push k c ≡ k ++ (c ∷ [])
+module _ (x : ℕ) (front : List ℕ) (h : length front ≡ 520) where
+  abbrev pub full : (y n : ℕ) → Kept
+  full y n = record { bytes = (x ∷ front) ++ (y ∷ []); skipped = n }
+
+  pub full-stands : (y n : ℕ) → stands-for (full y n) ≡ x ∷ (front ++ (replicate n 48 ++ (y ∷ [])))
+  unfolding stands-for
+  full-stands y n = rw (take-at front (y ∷ []) 520 h, drop-at front (y ∷ []) 520 h)
+
+  full-push : (y n c : ℕ) → push (full y n) c ≡ (if is-digit y then full c (named (suc n)) else full y n)
+  unfolding push
+  full-push y n c =
+      let l : length ((x ∷ front) ++ (y ∷ [])) ≡ 522 = length-append (x ∷ front) (y ∷ []) ∙ omega arith in
+      rw (l, getD-at front y [] 0 520 h, take-at front (y ∷ []) 520 h)
+
+  onto-full : (y n c : ℕ) (l : List ℕ) → judge (stands-for (push (full y n) c) ++ l) ≡ judge (stands-for (full y n) ++ (c ∷ l))
+  onto-full y n c l = ap (λ (k : Kept). judge (stands-for k ++ l)) (full-push y n c) ∙ go (is-digit y) refl
+    where
+      shape : (y n : ℕ) (l : List ℕ) → stands-for (full y n) ++ l ≡ x ∷ (front ++ (replicate n 48 ++ (y ∷ l)))
+      shape y n l =
+          ap (λ (s : List ℕ). s ++ l) (full-stands y n)
+          ∙ ap (λ (s : List ℕ). x ∷ s) (append-assoc front (replicate n 48 ++ (y ∷ [])) l ∙ ap (λ (s : List ℕ). front ++ s) (append-assoc (replicate n 48) (y ∷ []) l))
+
+      over : (y n : ℕ) (l : List ℕ) → 520 < length (front ++ (replicate n 48 ++ (y ∷ l)))
+      over y n l = omega (arith, length-append front (replicate n 48 ++ (y ∷ l)), length-append (replicate n 48) (y ∷ l))
+
+      go : (t : Bool) → is-digit y ≡ t → judge (stands-for (if t then full c (named (suc n)) else full y n) ++ l) ≡ judge (stands-for (full y n) ++ (c ∷ l))
+      go true e =
+          ap judge (shape c (named (suc n)) l)
+          ∙ judged-alike x _ _ (over c (named (suc n)) l) (over y n (c ∷ l)) (counted-in front n y c l h e)
+          ∙ sym (ap judge (shape y n (c ∷ l)))
+      go false e =
+          ap judge (shape y n l)
+          ∙ judged-alike x _ _ (over y n l) (over y n (c ∷ l)) (passed-by front n y c l e)
+          ∙ sym (ap judge (shape y n (c ∷ l)))
+
+-- 522 bytes, taken apart
+pub record Full (bytes : List ℕ) : Type 0 where
+  pub first : ℕ
+  pub front : List ℕ
+  pub last : ℕ
+  pub whole : bytes ≡ (first ∷ front) ++ (last ∷ [])
+  pub long : length front ≡ 520
+
+pub taken-apart : (bytes : List ℕ) → length bytes ≡ 522 → Full bytes
+taken-apart [] h = absurd (omega arith)
+taken-apart (x ∷ ds) h =
+    let none : drop 521 ds ≡ [] = drop-of-length-le ds {i = 521} (omega arith) in
+    record {
+      first = x;
+      front = take 520 ds;
+      last = getD ds 520 0;
+      whole = ap (λ (l : List ℕ). x ∷ l) (split-at ds 520 0 (omega arith) ∙ rw none);
+      long = length-take-le 520 ds (omega arith);
+    }
+
+step-judged : (k : Kept) (c : ℕ) (l : List ℕ) → length (k .bytes) ≡ 522 → judge (stands-for (push k c) ++ l) ≡ judge (stands-for k ++ (c ∷ l))
+step-judged k c l h =
+    let f = taken-apart (k .bytes) h in
+    let e : k ≡ full (f .first) (f .front) (f .long) (f .last) (k .skipped) = ap (λ (b : List ℕ). record { bytes = b; skipped = k .skipped }) (f .whole) in
+    ap (λ (k : Kept). judge (stands-for (push k c) ++ l)) e
+    ∙ onto-full (f .first) (f .front) (f .long) (f .last) (k .skipped) c l
+    ∙ sym (ap (λ (k : Kept). judge (stands-for k ++ (c ∷ l))) e)
+
+-- ---- how much is kept
+
+pub push-more : (k : Kept) (c : ℕ) → length (k .bytes) < 522 → push k c ≡ record { bytes = k .bytes ++ (c ∷ []); skipped = k .skipped }
 unfolding push
-push-more k c h = rw (lt-ltb (length k) 522 h)
+push-more k c h = rw (lt-ltb (length (k .bytes)) 522 h)
 
-push-full : (x : ℕ) (ds : List ℕ) (c : ℕ) → length ds ≡ 521
-    → push (x ∷ ds) c ≡ (if is-digit (getD ds 520 0) then (x ∷ take 520 ds) ++ (c ∷ []) else x ∷ ds)
+pub length-push : (k : Kept) (c : ℕ) → length (k .bytes) ≤ 522 → length (push k c .bytes) ≤ 522
 unfolding push
-push-full x ds c h = rw h
-
-full-judged : (x : ℕ) (ds : List ℕ) (c : ℕ) (l : List ℕ) → length ds ≡ 521 → judge (push (x ∷ ds) c ++ l) ≡ judge ((x ∷ ds) ++ (c ∷ l))
-full-judged x ds c l h =
-    rw (push-full x ds c h)
-    (ap (λ (ds′ : List ℕ). judge ((if is-digit (getD ds 520 0) then (x ∷ take 520 ds) ++ (c ∷ []) else x ∷ ds′) ++ l)) (last-one ds h)
-    ∙ onto-full x (take 520 ds) (getD ds 520 0) c l (is-digit (getD ds 520 0)) refl (length-take-le 520 ds (omega arith))
-    ∙ ap (λ (ds′ : List ℕ). judge ((x ∷ ds′) ++ (c ∷ l))) (sym (last-one ds h)))
-
-pub length-push : (k : List ℕ) (c : ℕ) → length k ≤ 522 → length (push k c) ≤ 522
-unfolding push
-length-push k c h = go (ltb (length k) 522) refl (is-digit (getD k 521 0))
+length-push k c h = go (ltb (length (k .bytes)) 522) refl (is-digit (getD (k .bytes) 521 0))
   where
-    go : (t : Bool) → ltb (length k) 522 ≡ t → (u : Bool) → length (if t then k ++ (c ∷ []) else if u then take 521 k ++ (c ∷ []) else k) ≤ 522
-    go true e u = simp length-append (omega (arith, ltb-true (length k) 522 e))
-    go false e true =
-        let full : 522 ≤ length k = ltb-false (length k) 522 e in
-        simp (length-append, length-take-le 521 k (omega arith)) (omega arith)
+    go : (t : Bool) → ltb (length (k .bytes)) 522 ≡ t → (u : Bool)
+        → let k′ : Kept = if t then record { bytes = k .bytes ++ (c ∷ []); skipped = k .skipped } else if u then record { bytes = take 521 (k .bytes) ++ (c ∷ []); skipped = named (suc (k .skipped)) } else k in
+        length (k′ .bytes) ≤ 522
+    go true e u = simp length-append (omega (arith, ltb-true (length (k .bytes)) 522 e))
+    go false e true = simp (length-append, length-take-le 521 (k .bytes) (omega (arith, ltb-false (length (k .bytes)) 522 e))) (omega arith)
     go false e false = h
 
-step-judged : (k : List ℕ) (c : ℕ) (l : List ℕ) → length k ≤ 522 → (t : Bool) → ltb (length k) 522 ≡ t → judge (push k c ++ l) ≡ judge (k ++ (c ∷ l))
-step-judged k c l h true e = rw (push-more k c (ltb-true (length k) 522 e), append-assoc k (c ∷ []) l)
-step-judged [] c l h false e = absurd (omega (arith, ltb-false 0 522 e))
-step-judged (x ∷ ds) c l h false e = full-judged x ds c l (omega (arith, ltb-false (length (x ∷ ds)) 522 e))
+pub still-full : (k : Kept) (c : ℕ) → length (k .bytes) ≡ 522 → length (push k c .bytes) ≡ 522
+unfolding push
+still-full k c h = rw h (go (is-digit (getD (k .bytes) 521 0)))
+  where
+    go : (u : Bool) → let k′ : Kept = if u then record { bytes = take 521 (k .bytes) ++ (c ∷ []); skipped = named (suc (k .skipped)) } else k in length (k′ .bytes) ≡ 522
+    go true = length-append (take 521 (k .bytes)) (c ∷ []) ∙ omega (arith, length-take-le 521 (k .bytes) (omega arith))
+    go false = h
 
-judged : (l k : List ℕ) → length k ≤ 522 → judge (foldl push k l) ≡ judge (k ++ l)
-judged [] k h = rw append-nil
-judged (c ∷ l) k h = judged l (push k c) (length-push k c h) ∙ step-judged k c l h (ltb (length k) 522) refl
-
-pub judge-brief : (l : List ℕ) → judge (brief l) ≡ judge l
-judge-brief l = judged l [] (omega arith)
+judged-full : (l : List ℕ) (k : Kept) → length (k .bytes) ≡ 522 → judge (stands-for (foldl push k l)) ≡ judge (stands-for k ++ l)
+judged-full [] k h = rw append-nil
+judged-full (c ∷ l) k h = judged-full l (push k c) (still-full k c h) ∙ step-judged k c l h
 
 -- a line of at most 522 bytes is kept as it is
-pub short-kept : (k l : List ℕ) → length k + length l < 523 → foldl push k l ≡ k ++ l
-short-kept k [] h = sym (append-nil k)
-short-kept k (c ∷ l) h =
-    ap (λ (k′ : List ℕ). foldl push k′ l) (push-more k c (omega arith))
-    ∙ short-kept (k ++ (c ∷ [])) l (simp length-append (omega arith)) ∙ append-assoc k (c ∷ []) l
+pub short-kept : (l : List ℕ) (k : Kept) → length (k .bytes) + length l < 523 → foldl push k l ≡ record { bytes = k .bytes ++ l; skipped = k .skipped }
+short-kept [] k h = ap (λ (b : List ℕ). record { bytes = b; skipped = k .skipped }) (sym (append-nil (k .bytes)))
+short-kept (c ∷ l) k h =
+    ap (λ (k′ : Kept). foldl push k′ l) (push-more k c (omega arith))
+    ∙ short-kept l (record { bytes = k .bytes ++ (c ∷ []); skipped = k .skipped }) (simp length-append (omega arith))
+    ∙ ap (λ (b : List ℕ). record { bytes = b; skipped = k .skipped }) (append-assoc (k .bytes) (c ∷ []) l)
 
-pub brief-short : (l : List ℕ) → length l < 523 → brief l ≡ l
-brief-short l h = short-kept [] l (omega arith)
+pub brief-short : (l : List ℕ) → length l < 523 → brief l ≡ record { bytes = l; skipped = 0 }
+brief-short l h = short-kept l none-kept (omega arith)
+
+-- and where nothing was left out, it stands for itself
+pub all-kept : (bytes : List ℕ) → stands-for (record { bytes = bytes; skipped = 0 }) ≡ bytes
+unfolding stands-for behind-digits
+all-kept bytes = ap (λ (l : List ℕ). take 521 bytes ++ l) (none-ahead (drop 521 bytes)) ∙ take-append-drop 521 bytes
+  where
+    none-ahead : (l : List ℕ) → behind-digits 0 l ≡ l
+    none-ahead [] = refl
+    none-ahead (c ∷ l) = refl
+
+foldl-on : (a b : List ℕ) (k : Kept) → foldl push k (a ++ b) ≡ foldl push (foldl push k a) b
+foldl-on [] b k = refl
+foldl-on (c ∷ a) b k = foldl-on a b (push k c)
+
+pub judge-brief : (l : List ℕ) → judge (stands-for (brief l)) ≡ judge l
+judge-brief l =
+    split (length l) 522
+    (λ h. ap (λ (k : Kept). judge (stands-for k)) (brief-short l (omega arith)) ∙ ap judge (all-kept l))
+    (λ h.
+    let n : length (take 522 l) ≡ 522 = length-take-le 522 l (omega arith) in
+    ap (λ (t : List ℕ). judge (stands-for (brief t))) (sym (take-append-drop 522 l))
+    ∙ ap (λ (k : Kept). judge (stands-for k)) (foldl-on (take 522 l) (drop 522 l) none-kept ∙ ap (λ (k : Kept). foldl push k (drop 522 l)) (brief-short (take 522 l) (omega arith)))
+    ∙ judged-full (drop 522 l) (record { bytes = take 522 l; skipped = 0 }) n
+    ∙ ap (λ (t : List ℕ). judge (t ++ drop 522 l)) (all-kept (take 522 l))
+    ∙ ap judge (take-append-drop 522 l))

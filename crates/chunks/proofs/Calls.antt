@@ -27,11 +27,11 @@ use Rattle.reader.proofs.Room.{never-full}
 use Rattle.reader.proofs.Stays.{never-done}
 use Rattle.chunks.specs.declared.Chunks.{Chunks}
 use Rattle.chunks.specs.declared.Place.the-variants.{Nowhere}
-use Rattle.chunks.specs.Begun.{Begun, is-empty, with-CR, Sought, ended, unended, look}
+use Rattle.chunks.specs.Begun.{Kept, Begun, is-empty, stands-for, with-CR, Sought, ended, unended, look}
 use Rattle.chunks.specs.Next.{Word, tells, used-up, is-record, begun, past-line, over, number-behind, place, in-carry, Outcome, unchanged, answered-line, of-sought, too-small, next-outcome, finish-outcome, Meets}
 use Rattle.chunks.specs.Claims.{Same-heard, Same-but-carry, Same-but-pool, Carry-blind, Pool-blind, Too-small, Carry-first, Eighteen-changes-nothing, Full-keeps, Gives-then, Full-then-room, Only-done, Finish-ends, Done-stays, Moves}
 use Rattle.chunks.proofs.FirstTests.{small-carry, much-used, big-enough, next-18, next-over, next-on, nothing-left, finish-18, finish-over, finish-on}
-use Rattle.chunks.proofs.Rows.{Fine, fine, same-begun}
+use Rattle.chunks.proofs.Rows.{Fine, fine, same-begun, sound-begun}
 
 -- ---- answers to a line
 
@@ -128,12 +128,12 @@ small : (s : Chunks) (carry : List ℕ) → Too-small s carry → too-small s ca
 small s carry (inl h) = small-carry s carry h
 small s carry (inr h) = much-used s carry h
 
-module _ (s : Chunks) (used chunk pool : List ℕ) (at : ℕ) (start : Option (List ℕ)) (n : ℕ) (line : List ℕ) (position : ℕ) (last : Bool) where
+module _ (s : Chunks) (used chunk pool : List ℕ) (at : ℕ) (start : Option (List ℕ)) (n : ℕ) (k : Kept) (position : ℕ) (last : Bool) where
   abbrev t : Told
-  t = answered (judge line) (length pool) at
+  t = answered (judge (stands-for k)) (length pool) at
 
   abbrev of-line : Outcome
-  of-line = answered-line s used chunk pool at start n line position last
+  of-line = answered-line s used chunk pool at start n k position last
 
   -- PoolFull, or the line is used up
   line-full : is-full t ≡ true → of-line ≡ record { word = tells t; state = s; lies = Nowhere; shows = []; carried = used; pool = pool }
@@ -143,10 +143,10 @@ module _ (s : Chunks) (used chunk pool : List ℕ) (at : ℕ) (start : Option (L
   line-used : is-full t ≡ false → of-line ≡ record {
     word = tells t;
     state = past-line s position (number-behind s n) (last || ends-row (s .options) t);
-    lies = if is-record t then place chunk start line else Nowhere;
-    shows = if is-record t then line else [];
-    carried = in-carry start line;
-    pool = poured (judge line) pool at;
+    lies = if is-record t then place chunk start (stands-for k) else Nowhere;
+    shows = if is-record t then stands-for k else [];
+    carried = in-carry start k;
+    pool = poured (judge (stands-for k)) pool at;
   }
   unfolding answered-line
   line-used f = if-false (is-full t) _ _ f
@@ -158,11 +158,11 @@ module _ (s : Chunks) (used chunk pool : List ℕ) (at : ℕ) (start : Option (L
       go true f = ap (λ (o : Outcome). o .word) (line-full f)
       go false f = ap (λ (o : Outcome). o .word) (line-used f)
 
-  line-pool : of-line .pool ≡ poured (judge line) pool at
+  line-pool : of-line .pool ≡ poured (judge (stands-for k)) pool at
   line-pool = go (is-full t) refl
     where
-      go : (f : Bool) → is-full t ≡ f → of-line .pool ≡ poured (judge line) pool at
-      go true f = ap (λ (o : Outcome). o .pool) (line-full f) ∙ sym (full-keeps (judge line) pool at f)
+      go : (f : Bool) → is-full t ≡ f → of-line .pool ≡ poured (judge (stands-for k)) pool at
+      go true f = ap (λ (o : Outcome). o .pool) (line-full f) ∙ sym (full-keeps (judge (stands-for k)) pool at f)
       go false f = ap (λ (o : Outcome). o .pool) (line-used f)
 
 module _ (s : Chunks) (chunk carry pool : List ℕ) (at : ℕ) where
@@ -185,7 +185,7 @@ module _ (s : Chunks) (chunk carry pool : List ℕ) (at : ℕ) where
       by-small false e = by-done e (s .finished) refl
 
 module _ (s : Chunks) (carry pool : List ℕ) (at : ℕ) where
-  abbrev last-line : List ℕ
+  abbrev last-line : Kept
   last-line = with-CR (begun s carry)
 
   abbrev of-last : Outcome
@@ -194,18 +194,18 @@ module _ (s : Chunks) (carry pool : List ℕ) (at : ℕ) where
   finish-ways : (P : Outcome → Type 0)
       → (too-small s carry ≡ true → P (unchanged (tells (refuses carry-too-small)) s carry pool))
       → (too-small s carry ≡ false → s .finished ≡ true → P (unchanged (tells done) s carry pool))
-      → (too-small s carry ≡ false → s .finished ≡ false → is-empty last-line ≡ true → P (nothing-left s pool))
-      → (too-small s carry ≡ false → s .finished ≡ false → is-empty last-line ≡ false → P of-last)
+      → (too-small s carry ≡ false → s .finished ≡ false → is-empty (last-line .bytes) ≡ true → P (nothing-left s pool))
+      → (too-small s carry ≡ false → s .finished ≡ false → is-empty (last-line .bytes) ≡ false → P of-last)
       → P (finish-outcome s carry pool at)
   finish-ways P a b c d = by-small (too-small s carry) refl
     where
-      by-empty : too-small s carry ≡ false → s .finished ≡ false → (e : Bool) → is-empty last-line ≡ e → P (finish-outcome s carry pool at)
+      by-empty : too-small s carry ≡ false → s .finished ≡ false → (e : Bool) → is-empty (last-line .bytes) ≡ e → P (finish-outcome s carry pool at)
       by-empty x y true z = subst P (sym (finish-on s carry pool at x y true z)) (c x y z)
       by-empty x y false z = subst P (sym (finish-on s carry pool at x y false z)) (d x y z)
 
       by-done : too-small s carry ≡ false → (e : Bool) → s .finished ≡ e → P (finish-outcome s carry pool at)
       by-done x true y = subst P (sym (finish-over s carry pool at x y)) (b x y)
-      by-done x false y = by-empty x y (is-empty last-line) refl
+      by-done x false y = by-empty x y (is-empty (last-line .bytes)) refl
 
       by-small : (e : Bool) → too-small s carry ≡ e → P (finish-outcome s carry pool at)
       by-small true x = subst P (sym (finish-18 s carry pool at x)) (a x)
@@ -230,12 +230,12 @@ carry-first s chunk carry pool at = (
     only =
         finish-ways s carry pool at (λ o. o .word ≡ tells (refuses carry-too-small) → Too-small s carry)
         (λ e w. misfits s carry e) (λ e d w. apart w (done-not carry-too-small)) (λ e d z w. apart w (done-not carry-too-small))
-        (λ e d z w. apart (sym (line-word s (take (s .used) carry) [] pool at none (s .empties) (with-CR (begun s carry)) 0 true) ∙ w) (never-18 (with-CR (begun s carry)) (length pool) at));
+        (λ e d z w. apart (sym (line-word s (take (s .used) carry) [] pool at none (s .empties) (with-CR (begun s carry)) 0 true) ∙ w) (never-18 (stands-for (with-CR (begun s carry))) (length pool) at));
   },
 )
   where
     found : (f : Sought) → of-sought s (take (s .used) carry) chunk pool at f .word ≡ tells (refuses carry-too-small) → Too-small s carry
-    found (ended start n line rest) w = apart (sym (line-word s (take (s .used) carry) chunk pool at start n line (length chunk - length rest) false) ∙ w) (never-18 line (length pool) at)
+    found (ended start n line rest) w = apart (sym (line-word s (take (s .used) carry) chunk pool at start n line (length chunk - length rest) false) ∙ w) (never-18 (stands-for line) (length pool) at)
     found (unended n b) w = not-used-up w
 
 pub eighteen-changes-nothing : Eighteen-changes-nothing
@@ -267,35 +267,35 @@ pub full-stays : Full-keeps
 unfolding unchanged of-sought
 full-stays s chunk carry pool at r carry′ pool′ w m = go m
   where
-    Kept : Type 0
-    Kept = (r .state ≡ s) × (take (s .used) carry′ ≡ take (s .used) carry) × (pool′ ≡ pool)
+    Stayed : Type 0
+    Stayed = (r .state ≡ s) × (take (s .used) carry′ ≡ take (s .used) carry) × (pool′ ≡ pool)
 
     -- of a line
-    line : too-small s carry ≡ false → (chunk₀ : List ℕ) (start : Option (List ℕ)) (n : ℕ) (l : List ℕ) (position : ℕ) (last : Bool)
-        → Meets (answered-line s (take (s .used) carry) chunk₀ pool at start n l position last) chunk₀ r carry′ pool′ → Kept
+    line : too-small s carry ≡ false → (chunk₀ : List ℕ) (start : Option (List ℕ)) (n : ℕ) (l : Kept) (position : ℕ) (last : Bool)
+        → Meets (answered-line s (take (s .used) carry) chunk₀ pool at start n l position last) chunk₀ r carry′ pool′ → Stayed
     line e chunk₀ start n l position last m =
-        let told : tells (answered (judge l) (length pool) at) ≡ tells (refuses pool-full) =
+        let told : tells (answered (judge (stands-for l)) (length pool) at) ≡ tells (refuses pool-full) =
         sym (line-word s (take (s .used) carry) chunk₀ pool at start n l position last) ∙ sym (m .answer) ∙ w in
-        let o = subst (λ (o : Outcome). Meets o chunk₀ r carry′ pool′) (line-full s (take (s .used) carry) chunk₀ pool at start n l position last (full-of (answered (judge l) (length pool) at) cc)) m in
+        let o = subst (λ (o : Outcome). Meets o chunk₀ r carry′ pool′) (line-full s (take (s .used) carry) chunk₀ pool at start n l position last (full-of (answered (judge (stands-for l)) (length pool) at) cc)) m in
         let (big, few) = fits s carry e in
         let size : length (take (s .used) carry) ≡ s .used = length-take-le (s .used) carry (omega arith) in
         (o .state, ap (λ (n : ℕ). take n carry′) (sym size) ∙ o .carry, o .left)
 
-    of-found : too-small s carry ≡ false → (f : Sought) → Meets (of-sought s (take (s .used) carry) chunk pool at f) chunk r carry′ pool′ → Kept
+    of-found : too-small s carry ≡ false → (f : Sought) → Meets (of-sought s (take (s .used) carry) chunk pool at f) chunk r carry′ pool′ → Stayed
     of-found e (ended start n l rest) m = line e chunk start n l (length chunk - length rest) false m
     of-found e (unended n b) m = not-used-up (sym (m .answer) ∙ w)
 
-    go : Meets (next-outcome s chunk carry pool at) chunk r carry′ pool′ ⊎ Meets (finish-outcome s carry pool at) [] r carry′ pool′ → Kept
+    go : Meets (next-outcome s chunk carry pool at) chunk r carry′ pool′ ⊎ Meets (finish-outcome s carry pool at) [] r carry′ pool′ → Stayed
     go (inl m) =
-        next-ways s chunk carry pool at (λ o. Meets o chunk r carry′ pool′ → Kept)
+        next-ways s chunk carry pool at (λ o. Meets o chunk r carry′ pool′ → Stayed)
         (λ e m. apart (sym (m .answer) ∙ w) eighteen-not) (λ e d m. apart (sym (m .answer) ∙ w) (done-not pool-full)) (λ e d f q m. of-found e f m) m
     go (inr m) =
-        finish-ways s carry pool at (λ o. Meets o [] r carry′ pool′ → Kept)
+        finish-ways s carry pool at (λ o. Meets o [] r carry′ pool′ → Stayed)
         (λ e m. apart (sym (m .answer) ∙ w) eighteen-not) (λ e d m. apart (sym (m .answer) ∙ w) (done-not pool-full)) (λ e d z m. apart (sym (m .answer) ∙ w) (done-not pool-full))
         (λ e d z m. line e [] none (s .empties) (with-CR (begun s carry)) 0 true m) m
 
 -- a line that was told PoolFull, where there is room
-room-for : (l : List ℕ) (n at : ℕ) (f : Full-line l n at) (s : Chunks) (used chunk pool : List ℕ) (at′ : ℕ) (start : Option (List ℕ)) (k position : ℕ) (last : Bool) → at′ + length (f .bytes) ≤ length pool
+room-for : (l : Kept) (n at : ℕ) (f : Full-line (stands-for l) n at) (s : Chunks) (used chunk pool : List ℕ) (at′ : ℕ) (start : Option (List ℕ)) (k position : ℕ) (last : Bool) → at′ + length (f .bytes) ≤ length pool
     → (answered-line s used chunk pool at′ start k l position last .word ≡ tells (gives 0 (f .offset ∷ at′ ∷ length (f .bytes) ∷ [])))
     × (answered-line s used chunk pool at′ start k l position last .pool ≡ pasted pool at′ (f .bytes))
 room-for l n at f s used chunk pool at′ start k position last r = (
@@ -312,11 +312,11 @@ full-then-room s chunk carry pool at = (
       (λ e w. apart w eighteen-not) (λ e d w. apart w (done-not pool-full)) (λ e d z w. apart w (done-not pool-full)) (λ e d z w. ended-so e d z w),
 )
   where
-    full : (used chunk₀ : List ℕ) (start : Option (List ℕ)) (n : ℕ) (l : List ℕ) (position : ℕ) (last : Bool)
-        → answered-line s used chunk₀ pool at start n l position last .word ≡ tells (refuses pool-full) → Full-line l (length pool) at
+    full : (used chunk₀ : List ℕ) (start : Option (List ℕ)) (n : ℕ) (l : Kept) (position : ℕ) (last : Bool)
+        → answered-line s used chunk₀ pool at start n l position last .word ≡ tells (refuses pool-full) → Full-line (stands-for l) (length pool) at
     full used chunk₀ start n l position last w =
-        let told : tells (answered (judge l) (length pool) at) ≡ tells (refuses pool-full) = sym (line-word s used chunk₀ pool at start n l position last) ∙ w in
-        full-line l (length pool) at (full-of (answered (judge l) (length pool) at) cc)
+        let told : tells (answered (judge (stands-for l)) (length pool) at) ≡ tells (refuses pool-full) = sym (line-word s used chunk₀ pool at start n l position last) ∙ w in
+        full-line (stands-for l) (length pool) at (full-of (answered (judge (stands-for l)) (length pool) at) cc)
 
     found : too-small s carry ≡ false → s .finished ≡ false → (f : Sought) → look (s .empties) (begun s carry) (drop (s .position) chunk) ≡ f
         → of-sought s (take (s .used) carry) chunk pool at f .word ≡ tells (refuses pool-full) → Gives-then s carry (next-outcome s chunk)
@@ -336,10 +336,10 @@ full-then-room s chunk carry pool at = (
               (ap (λ (o : Outcome). o .word) is ∙ x, ap (λ (o : Outcome). o .pool) is ∙ y);
         }
 
-    ended-so : too-small s carry ≡ false → s .finished ≡ false → is-empty (with-CR (begun s carry)) ≡ false
+    ended-so : too-small s carry ≡ false → s .finished ≡ false → is-empty (with-CR (begun s carry) .bytes) ≡ false
         → answered-line s (take (s .used) carry) [] pool at none (s .empties) (with-CR (begun s carry)) 0 true .word ≡ tells (refuses pool-full) → Gives-then s carry (finish-outcome s)
     ended-so e d z w =
-        let l : List ℕ = with-CR (begun s carry) in
+        let l : Kept = with-CR (begun s carry) in
         let f = full (take (s .used) carry) [] none (s .empties) l 0 true w in
         record {
           offset = f .offset;
@@ -348,8 +348,8 @@ full-then-room s chunk carry pool at = (
           with-room = λ carry′ pool′ at′ big k r.
               let same : with-CR (begun s carry′) ≡ l = ap with-CR (same-begun s carry carry′ k) in
               let is : finish-outcome s carry′ pool′ at′ ≡ answered-line s (take (s .used) carry′) [] pool′ at′ none (s .empties) l 0 true =
-              finish-on s carry′ pool′ at′ (big-enough s carry′ big (fits s carry e .1)) d false (ap is-empty same ∙ z)
-              ∙ ap (λ (x : List ℕ). answered-line s (take (s .used) carry′) [] pool′ at′ none (s .empties) x 0 true) same in
+              finish-on s carry′ pool′ at′ (big-enough s carry′ big (fits s carry e .1)) d false (ap (λ (x : Kept). is-empty (x .bytes)) same ∙ z)
+              ∙ ap (λ (x : Kept). answered-line s (take (s .used) carry′) [] pool′ at′ none (s .empties) x 0 true) same in
               let (x, y) = room-for l (length pool) at f s (take (s .used) carry′) [] pool′ at′ none (s .empties) 0 true r in
               (ap (λ (o : Outcome). o .word) is ∙ x, ap (λ (o : Outcome). o .pool) is ∙ y);
         }
@@ -366,15 +366,15 @@ finish-ends s carry pool at big few =
     (λ e n. let z : _≡_ {A = Bool} true false = sym e ∙ big-enough s carry big few in let y : _≡_ {A = ℕ} 0 1 = cc in absurd (omega arith))
     (λ e d n. only-done s d few) (λ e d z n. only-done (over s) refl few) (λ e d z n. line (with-CR (begun s carry)) n)
   where
-    line : (l : List ℕ) → answered-line s (take (s .used) carry) [] pool at none (s .empties) l 0 true .word ≢ tells (refuses pool-full)
+    line : (l : Kept) → answered-line s (take (s .used) carry) [] pool at none (s .empties) l 0 true .word ≢ tells (refuses pool-full)
         → Only-done (answered-line s (take (s .used) carry) [] pool at none (s .empties) l 0 true .state)
-    line l n = go (is-full (answered (judge l) (length pool) at)) refl
+    line l n = go (is-full (answered (judge (stands-for l)) (length pool) at)) refl
       where
-        go : (f : Bool) → is-full (answered (judge l) (length pool) at) ≡ f → Only-done (answered-line s (take (s .used) carry) [] pool at none (s .empties) l 0 true .state)
-        go true f = absurd (n (line-word s (take (s .used) carry) [] pool at none (s .empties) l 0 true ∙ ap tells (full-line l (length pool) at f .told-full)))
+        go : (f : Bool) → is-full (answered (judge (stands-for l)) (length pool) at) ≡ f → Only-done (answered-line s (take (s .used) carry) [] pool at none (s .empties) l 0 true .state)
+        go true f = absurd (n (line-word s (take (s .used) carry) [] pool at none (s .empties) l 0 true ∙ ap tells (full-line (stands-for l) (length pool) at f .told-full)))
         go false f =
             subst (λ (o : Outcome). Only-done (o .state)) (sym (line-used s (take (s .used) carry) [] pool at none (s .empties) l 0 true f))
-            (only-done (past-line s 0 (number-behind s (s .empties)) (true || ends-row (s .options) (answered (judge l) (length pool) at))) refl (omega arith))
+            (only-done (past-line s 0 (number-behind s (s .empties)) (true || ends-row (s .options) (answered (judge (stands-for l)) (length pool) at))) refl (omega arith))
 
 pub done-stays : Done-stays
 unfolding unchanged of-sought
@@ -383,7 +383,7 @@ done-stays s chunk carry pool at =
     (λ e w. apart w (λ q. done-not carry-too-small (sym q))) (λ e d w. only-done s d (fits s carry e .1)) (λ e d f q w. found f w)
   where
     found : (f : Sought) → of-sought s (take (s .used) carry) chunk pool at f .word ≡ tells done → Only-done (of-sought s (take (s .used) carry) chunk pool at f .state)
-    found (ended start n l rest) w = apart (sym (line-word s (take (s .used) carry) chunk pool at start n l (length chunk - length rest) false) ∙ w) (never-done (judge l) (length pool) at)
+    found (ended start n l rest) w = apart (sym (line-word s (take (s .used) carry) chunk pool at start n l (length chunk - length rest) false) ∙ w) (never-done (judge (stands-for l)) (length pool) at)
     found (unended n b) w = not-used-up w
 
 -- ---- on through the chunk
@@ -401,13 +401,13 @@ moves s chunk carry pool at t w nf nd n18 =
     look-fine : too-small s carry ≡ false → Fine (look (s .empties) (begun s carry) (drop (s .position) chunk)) (drop (s .position) chunk)
     look-fine e =
         let (big, few) = fits s carry e in
-        fine (drop (s .position) chunk) _ (s .empties) (begun s carry) (omega (arith, length-take-le (s .used) carry (omega arith)))
+        fine (drop (s .position) chunk) _ (s .empties) (begun s carry) (sound-begun s carry big few)
 
     found : (f : Sought) → Fine f (drop (s .position) chunk) → of-sought s (take (s .used) carry) chunk pool at f .word ≡ tells t
         → (s .position < of-sought s (take (s .used) carry) chunk pool at f .state .position) × (of-sought s (take (s .used) carry) chunk pool at f .state .position ≤ length chunk)
     found (unended n b) h w = not-used-up w
     found (ended start n l rest) (c, p, e) w =
-        let is : answered (judge l) (length pool) at ≡ t = told-is (sym (line-word s (take (s .used) carry) chunk pool at start n l (length chunk - length rest) false) ∙ w) in
+        let is : answered (judge (stands-for l)) (length pool) at ≡ t = told-is (sym (line-word s (take (s .used) carry) chunk pool at start n l (length chunk - length rest) false) ∙ w) in
         let size : length (drop (s .position) chunk) ≡ suc-of (length p + length rest) = ap length e ∙ ap suc-of (length-append p rest) in
         let d = length-drop (s .position) chunk in
         subst (λ (o : Outcome). (s .position < o .state .position) × (o .state .position ≤ length chunk))
@@ -468,9 +468,9 @@ module _ (s : Chunks) (chunk carry₁ carry₂ pool : List ℕ) (at : ℕ) (big�
                 ∙ ap₂ (λ (used : List ℕ) (b : Begun). of-sought s used chunk pool at (look (s .empties) b (drop (s .position) chunk))) same begun-is
                 ∙ sym (next-on s chunk carry₂ pool at (big-enough s carry₂ big₂ h) d)),
             same-of
-                (finish-on s carry₁ pool at (big-enough s carry₁ big₁ h) d (is-empty (with-CR (begun s carry₂))) (ap is-empty line-is)
-                ∙ ap₂ (λ (used line : List ℕ). if is-empty (with-CR (begun s carry₂)) then nothing-left s pool else answered-line s used [] pool at none (s .empties) line 0 true) same line-is
-                ∙ sym (finish-on s carry₂ pool at (big-enough s carry₂ big₂ h) d (is-empty (with-CR (begun s carry₂))) refl)),
+                (finish-on s carry₁ pool at (big-enough s carry₁ big₁ h) d (is-empty (with-CR (begun s carry₂) .bytes)) (ap (λ (k : Kept). is-empty (k .bytes)) line-is)
+                ∙ ap₂ (λ (used : List ℕ) (line : Kept). if is-empty (with-CR (begun s carry₂) .bytes) then nothing-left s pool else answered-line s used [] pool at none (s .empties) line 0 true) same line-is
+                ∙ sym (finish-on s carry₂ pool at (big-enough s carry₂ big₂ h) d (is-empty (with-CR (begun s carry₂) .bytes)) refl)),
           )
 
       few : s .used ≤ 522 → Blind
@@ -481,14 +481,14 @@ carry-blind s chunk carry₁ carry₂ pool at big₁ big₂ same = blind s chunk
 
 -- ---- the pool's bytes
 
-line-blind : (s : Chunks) (used chunk pool₁ pool₂ : List ℕ) (at : ℕ) (start : Option (List ℕ)) (n : ℕ) (l : List ℕ) (position : ℕ) (last : Bool) → length pool₁ ≡ length pool₂
+line-blind : (s : Chunks) (used chunk pool₁ pool₂ : List ℕ) (at : ℕ) (start : Option (List ℕ)) (n : ℕ) (l : Kept) (position : ℕ) (last : Bool) → length pool₁ ≡ length pool₂
     → Same-but-pool (answered-line s used chunk pool₁ at start n l position last) (answered-line s used chunk pool₂ at start n l position last)
-line-blind s used chunk pool₁ pool₂ at start n l position last e = go (is-full (answered (judge l) (length pool₁) at)) refl
+line-blind s used chunk pool₁ pool₂ at start n l position last e = go (is-full (answered (judge (stands-for l)) (length pool₁) at)) refl
   where
-    t-is : answered (judge l) (length pool₁) at ≡ answered (judge l) (length pool₂) at
-    t-is = ap (λ (k : ℕ). answered (judge l) k at) e
+    t-is : answered (judge (stands-for l)) (length pool₁) at ≡ answered (judge (stands-for l)) (length pool₂) at
+    t-is = ap (λ (k : ℕ). answered (judge (stands-for l)) k at) e
 
-    go : (f : Bool) → is-full (answered (judge l) (length pool₁) at) ≡ f
+    go : (f : Bool) → is-full (answered (judge (stands-for l)) (length pool₁) at) ≡ f
         → Same-but-pool (answered-line s used chunk pool₁ at start n l position last) (answered-line s used chunk pool₂ at start n l position last)
     go true f =
         by Same-but-pool (line-full s used chunk pool₁ at start n l position last f) (line-full s used chunk pool₂ at start n l position last (ap is-full (sym t-is) ∙ f))
@@ -499,8 +499,8 @@ line-blind s used chunk pool₁ pool₂ at start n l position last e = go (is-fu
           heard = record {
             same-word = ap tells t-is;
             same-state = ap (λ (t : Told). past-line s position (number-behind s n) (last || ends-row (s .options) t)) t-is;
-            same-place = ap (λ (t : Told). if is-record t then place chunk start l else Nowhere) t-is;
-            same-line = ap (λ (t : Told). if is-record t then l else []) t-is;
+            same-place = ap (λ (t : Told). if is-record t then place chunk start (stands-for l) else Nowhere) t-is;
+            same-line = ap (λ (t : Told). if is-record t then stands-for l else []) t-is;
           };
           same-carry = refl;
         })

@@ -16,7 +16,7 @@ use Rattle.record.specs.Line.{judge}
 use Rattle.record.proofs.Tests.{if-true, if-false, or-true}
 use Rattle.reader.specs.declared.Answer.{Answer}
 use Rattle.reader.specs.Told.{refuses, done, told}
-use Rattle.reader.specs.Answer.{Reads}
+use Rattle.reader.specs.Answer.{Reads, answered}
 use Rattle.reader.specs.Lines.{CR}
 use Rattle.chunks.specs.declared.Chunks.{Chunks}
 use Rattle.chunks.specs.declared.Place.{Place}
@@ -24,11 +24,11 @@ use Rattle.chunks.specs.declared.Place.the-variants.{Nowhere, InCarry}
 use Rattle.chunks.specs.declared.ChunkReply.{ChunkReply}
 use Rattle.chunks.specs.declared.ChunkReply.the-variants.{Done, CarryTooSmall}
 use Rattle.chunks.specs.declared.ChunkStep.{ChunkStep}
-use Rattle.chunks.specs.Begun.{nothing, is-empty, with-CR, Sought, seek, look}
-use Rattle.chunks.specs.Next.{tells, word-of, begun, over, number-behind, place, at-place, in-carry, Outcome, unchanged, answered-line, of-sought, too-small, next-outcome, finish-outcome, Meets}
+use Rattle.chunks.specs.Begun.{Kept, nothing, is-empty, stands-for, with-CR, Sought, seek, look}
+use Rattle.chunks.specs.Next.{tells, word-of, is-record, kept-in, left-out, begun, over, number-behind, place, at-place, in-carry, Outcome, unchanged, answered-line, of-sought, too-small, next-outcome, finish-outcome, Meets}
 use Rattle.chunks.specs.Helpers.{held, Grown, seek-at, Settles, Plain, Within}
 use Rattle.chunks.proofs.Waiting.{push-some}
-use Rattle.chunks.proofs.Outcomes.{met, full-short}
+use Rattle.chunks.proofs.Outcomes.{met, full-kept, record-kept}
 
 same-met : (s : Chunks) (reply : ChunkReply) (carry pool : List ℕ) (r : ChunkStep) → Plain reply s r → (chunk : List ℕ) → Meets (unchanged (word-of reply) s carry pool) chunk r carry pool
 unfolding unchanged
@@ -90,7 +90,7 @@ module _ (s : Chunks) (carry pool : List ℕ) (at : ℕ) where
   unfolding finish-outcome
   finish-over t d = if-false _ _ _ t ∙ if-true _ _ _ d
 
-  pub finish-on : too-small s carry ≡ false → s .finished ≡ false → (b : Bool) → is-empty (with-CR (begun s carry)) ≡ b
+  pub finish-on : too-small s carry ≡ false → s .finished ≡ false → (b : Bool) → is-empty (with-CR (begun s carry) .bytes) ≡ b
       → finish-outcome s carry pool at ≡ (if b then nothing-left s pool else answered-line s (take (s .used) carry) [] pool at none (s .empties) (with-CR (begun s carry)) 0 true)
   unfolding finish-outcome
   finish-on t d b e = if-false _ _ _ t ∙ if-false _ _ _ d ∙ rw e
@@ -113,20 +113,23 @@ within-drop chunk position r w = go (ltb (length chunk) position) refl
         drop-of-length-le chunk {i = r} (omega (arith, w .last l)) ∙ sym (drop-of-length-le chunk {i = position} (omega arith))
     go false e = ap (λ (n : ℕ). drop n chunk) (w .same (ltb-false (length chunk) position e))
 
-look-kept : (empties n : ℕ) (cr : Bool) (carry text : List ℕ) → 0 < n → 0 < length carry → look empties (held carry n cr) text ≡ seek none empties (held carry n cr) text
+look-kept : (empties n k : ℕ) (cr : Bool) (carry text : List ℕ) → 0 < n → 0 < length carry → look empties (held carry n k cr) text ≡ seek none empties (held carry n k cr) text
 unfolding look is-empty with-CR
-look-kept empties zero cr carry text p q = absurd (omega arith)
-look-kept empties (suc n) cr [] text p q = absurd (omega arith)
-look-kept empties (suc n) true (c ∷ carry) text p q = rw (push-some (c ∷ take n carry) CR)
-look-kept empties (suc n) false (c ∷ carry) text p q = refl
+look-kept empties zero k cr carry text p q = absurd (omega arith)
+look-kept empties (suc n) k cr [] text p q = absurd (omega arith)
+look-kept empties (suc n) k true (c ∷ carry) text p q = rw (push-some (record { bytes = c ∷ take n carry; skipped = k }) CR)
+look-kept empties (suc n) k false (c ∷ carry) text p q = refl
 
-look-cr : (empties n : ℕ) (cr : Bool) (carry text : List ℕ) → n ≡ 0 → cr ≡ true → look empties (held carry n cr) text ≡ seek none empties (held carry n cr) text
+look-cr : (empties n k : ℕ) (cr : Bool) (carry text : List ℕ) → n ≡ 0 → cr ≡ true → look empties (held carry n k cr) text ≡ seek none empties (held carry n k cr) text
 unfolding look is-empty with-CR
-look-cr empties n cr carry text z e = rw (z, e)
+look-cr empties n k cr carry text z e = rw (z, e)
 
-look-fresh : (empties n : ℕ) (cr : Bool) (carry text : List ℕ) → n ≡ 0 → cr ≡ false → look empties (held carry n cr) text ≡ seek (some text) empties nothing text
+look-fresh : (empties n k : ℕ) (cr : Bool) (carry text : List ℕ) → n ≡ 0 → k ≡ 0 → cr ≡ false → look empties (held carry n k cr) text ≡ seek (some text) empties nothing text
 unfolding look is-empty with-CR
-look-fresh empties n cr carry text z e = rw (z, e)
+look-fresh empties n k cr carry text z y e = rw (z, y, e)
+
+none-out : (s : Chunks) → s .used ≡ 0 → left-out s ≡ 0
+none-out s z = rw (lt-ltb (s .used) 522 (omega arith))
 
 module _ (s : Chunks) (chunk carry pool : List ℕ) (at position : ℕ) (r : ChunkStep) (carry′ pool′ : List ℕ)
     (big : 522 ≤ length carry) (small : s .used ≤ 522) (on : s .finished ≡ false) (w : Within (s .position) (length chunk) position) where
@@ -139,26 +142,26 @@ module _ (s : Chunks) (chunk carry pool : List ℕ) (at position : ℕ) (r : Chu
 
   pub next-kept : 0 < s .used
       → Meets (of-sought s (take (s .used) carry) chunk pool at (seek none (s .empties) (begun s carry) (drop position chunk))) chunk r carry′ pool′ → Meets (next-outcome s chunk carry pool at) chunk r carry′ pool′
-  next-kept h m = goes (seek none (s .empties) (begun s carry) (drop position chunk)) (look-kept (s .empties) (s .used) (s .cr) carry (drop position chunk) h (omega arith)) m
+  next-kept h m = goes (seek none (s .empties) (begun s carry) (drop position chunk)) (look-kept (s .empties) (s .used) (left-out s) (s .cr) carry (drop position chunk) h (omega arith)) m
 
   pub next-cr : s .used ≡ 0 → s .cr ≡ true
       → Meets (of-sought s (take (s .used) carry) chunk pool at (seek none (s .empties) (begun s carry) (drop position chunk))) chunk r carry′ pool′ → Meets (next-outcome s chunk carry pool at) chunk r carry′ pool′
-  next-cr z e m = goes (seek none (s .empties) (begun s carry) (drop position chunk)) (look-cr (s .empties) (s .used) (s .cr) carry (drop position chunk) z e) m
+  next-cr z e m = goes (seek none (s .empties) (begun s carry) (drop position chunk)) (look-cr (s .empties) (s .used) (left-out s) (s .cr) carry (drop position chunk) z e) m
 
   pub next-fresh : s .used ≡ 0 → s .cr ≡ false
       → Meets (of-sought s [] chunk pool at (seek-at chunk position (s .empties))) chunk r carry′ pool′ → Meets (next-outcome s chunk carry pool at) chunk r carry′ pool′
   next-fresh z e m =
-      goes (seek-at chunk position (s .empties)) (look-fresh (s .empties) (s .used) (s .cr) carry (drop position chunk) z e)
+      goes (seek-at chunk position (s .empties)) (look-fresh (s .empties) (s .used) (left-out s) (s .cr) carry (drop position chunk) z (none-out s z) e)
       (rw (ap (λ (n : ℕ). take n carry) z) m)
 
 -- ---- finish
 
-module _ (s : Chunks) (carry pool : List ℕ) (at n : ℕ) (carry′ : List ℕ) (big : 522 ≤ length carry) (small : s .used ≤ 522) (on : s .finished ≡ false)
-    (g : Grown carry (s .used) (with-CR (begun s carry)) n carry′) where
+module _ (s : Chunks) (carry pool : List ℕ) (at n m : ℕ) (carry′ : List ℕ) (big : 522 ≤ length carry) (small : s .used ≤ 522) (on : s .finished ≡ false)
+    (g : Grown carry (s .used) (with-CR (begun s carry)) n m carry′) where
   pub finish-none : (state : Chunks) (r : ChunkStep) → n ≡ 0 → state ≡ over s → Plain Done state r → Meets (finish-outcome s carry pool at) [] r carry′ pool
   unfolding is-empty
   finish-none state r z b e =
-      let k : with-CR (begun s carry) ≡ [] = sym (g .holds) ∙ ap (λ (m : ℕ). take m carry′) z in
+      let k : with-CR (begun s carry) .bytes ≡ [] = ap (λ (k : Kept). k .bytes) (sym (g .holds)) ∙ ap (λ (m : ℕ). take m carry′) z in
       rw (finish-on s carry pool at (big-enough s carry big small) on true (ap is-empty k))
       (record {
         answer = ap word-of (e .reply-is);
@@ -170,18 +173,22 @@ module _ (s : Chunks) (carry pool : List ℕ) (at n : ℕ) (carry′ : List ℕ)
       })
 
   pub finish-line : (a : Answer) (line : ℕ) (r : ChunkStep) (pool′ : List ℕ) → (n ≡ 0 → ⊥) → length carry′ ≡ length carry
-      → Reads (judge (take n carry′)) pool at a pool′ → line ≡ number-behind s (s .empties) → Settles s (told a) 0 line true (InCarry n) r → Meets (finish-outcome s carry pool at) [] r carry′ pool′
+      → Reads (judge (stands-for (kept-in carry′ n m))) pool at a pool′ → line ≡ number-behind s (s .empties) → Settles s (told a) 0 line true (InCarry n) r
+      → Meets (finish-outcome s carry pool at) [] r carry′ pool′
   unfolding place in-carry is-empty
   finish-line a line r pool′ z same reads number settles =
       let size : length (take n carry′) ≡ n = length-take-le n carry′ (omega (arith, g .within)) in
       let used : length (take (s .used) carry) ≡ s .used = length-take-le (s .used) carry (omega arith) in
-      rw (finish-on s carry pool at (big-enough s carry big small) on false (ap is-empty (sym (g .holds)) ∙ some-line n carry′ z (omega arith))
-      ∙ ap (λ (l : List ℕ). answered-line s (take (s .used) carry) [] pool at none (s .empties) l 0 true) (sym (g .holds)))
-      (met s (take (s .used) carry) [] pool at none (s .empties) (take n carry′) 0 true line (InCarry n) a r carry′ pool′ reads settles number
-      (λ _. ap InCarry (sym size)) (λ _. refl)
-      (λ f. rw used (g .earlier (omega (arith, full-short (take n carry′) (length pool) at f))))
+      rw (finish-on s carry pool at (big-enough s carry big small) on false (ap (λ (k : Kept). is-empty (k .bytes)) (sym (g .holds)) ∙ some-line n carry′ z (omega arith))
+      ∙ ap (λ (k : Kept). answered-line s (take (s .used) carry) [] pool at none (s .empties) k 0 true) (sym (g .holds)))
+      (met s (take (s .used) carry) [] pool at none (s .empties) (kept-in carry′ n m) 0 true line (InCarry n) a r carry′ pool′ reads settles number
+      (λ e. ap InCarry (sym size ∙ ap length (sym (stood e)))) (λ e. sym (stood e))
+      (λ f. rw used (g .earlier (omega (arith, full-kept (kept-in carry′ n m) (length pool) at f))))
       (rw size))
     where
+      stood : is-record (answered (judge (stands-for (kept-in carry′ n m))) (length pool) at) ≡ true → stands-for (kept-in carry′ n m) ≡ take n carry′
+      stood e = record-kept (kept-in carry′ n m) (length pool) at e
+
       some-line : (n : ℕ) (l : List ℕ) → (n ≡ 0 → ⊥) → 0 < length l → is-empty (take n l) ≡ false
       some-line zero l z h = absurd (z refl)
       some-line (suc n) [] z h = absurd (omega arith)

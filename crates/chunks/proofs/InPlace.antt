@@ -15,7 +15,7 @@ use Rattle.record.specs.Common.{if_then_else_}
 use Rattle.record.proofs.Tests.{or-true}
 use Rattle.reader.specs.Lines.{LF, CR, first-line, rest}
 use Rattle.reader.proofs.Searching.{tail-is, first-line-prefix, first-line-length, behind-inside, behind-moves, rest-behind, Cut-off}
-use Rattle.chunks.specs.Begun.{Begun, nothing, is-empty, brief, add, counted, Sought, ended, seek}
+use Rattle.chunks.specs.Begun.{Kept, Begun, nothing, is-empty, brief, add, counted, Sought, ended, seek}
 use Rattle.chunks.specs.Helpers.{seek-at, WholeLine, OpenLine}
 use Rattle.chunks.proofs.Waiting.{waiting, whole, settle-CR, whole-more, brief-empty}
 use Rattle.chunks.proofs.Pass.{step-over}
@@ -56,10 +56,10 @@ LF-before-rest (c ∷ text) h = go (eqb c LF) refl h (LF-before-rest text)
 -- ---- a line that ends
 
 -- at its LF
-unfoldable pub settled : Option (List ℕ) → (empties : ℕ) (kept rest : List ℕ) → Sought
-settled start empties kept rest = if is-empty kept then seek (some rest) (counted empties) nothing rest else ended start empties kept rest
+unfoldable pub settled : Option (List ℕ) → (empties : ℕ) (kept : Kept) (rest : List ℕ) → Sought
+settled start empties kept rest = if is-empty (kept .bytes) then seek (some rest) (counted empties) nothing rest else ended start empties kept rest
 
-at-feed : (start : Option (List ℕ)) (empties : ℕ) (kept : List ℕ) (cr : Bool) (text : List ℕ)
+at-feed : (start : Option (List ℕ)) (empties : ℕ) (kept : Kept) (cr : Bool) (text : List ℕ)
     → seek start empties (record { kept = kept; cr = cr }) (LF ∷ text) ≡ settled start empties (whole (record { kept = kept; cr = cr }) (LF ∷ text)) (rest (LF ∷ text))
 unfolding seek settled waiting first-line rest
 at-feed start empties kept true text = refl
@@ -87,7 +87,7 @@ feed-in (c ∷ text) start empties b h = go (eqb c LF) refl h (feed-in text star
         step-over start empties b c text (eqb-false c LF e)
         ∙ ih h
         ∙ ap (λ (r : List ℕ). settled start empties (whole (add b c) text) r) (sym (rest-on c text e))
-        ∙ ap (λ (k : List ℕ). settled start empties k (rest (c ∷ text))) (sym (settle-CR (b .kept) (b .cr) c text e ∙ whole-more b c text e (eqb c CR) refl))
+        ∙ ap (λ (k : Kept). settled start empties k (rest (c ∷ text))) (sym (settle-CR (b .kept) (b .cr) c text e ∙ whole-more b c text e (eqb c CR) refl))
 
 -- from its first byte on
 line-in : (text : List ℕ) (start : Option (List ℕ)) (empties : ℕ) → has-LF text ≡ true

@@ -17,7 +17,7 @@ use Rattle.reader.specs.Lines.{lines}
 use Rattle.reader.specs.Row.{Numbered, on, sayings}
 use Rattle.reader.specs.Text.{is-full, ends-row}
 use Rattle.reader.specs.Calls.{Call, Given, given-done, given-for, replies}
-use Rattle.chunks.specs.Begun.{brief}
+use Rattle.chunks.specs.Begun.{brief, stands-for}
 use Rattle.chunks.specs.Next.{is-record}
 use Rattle.chunks.specs.Rows.{Seen, Nth, nth, numbered, seen-for, showing}
 use Rattle.chunks.specs.Claims.{givens-of, nth-line}
@@ -35,12 +35,12 @@ said-of (nth n l ∷ ls) = on n (judge l) ∷ said-of ls
 -- ---- a line is answered and shown as what is kept of it
 
 module _ (options : ReaderOptions) where
-  seen-kept : (n : ℕ) (l : List ℕ) (call : Call) → seen-for (nth n (brief l)) call ≡ seen-for (nth n l) call
+  seen-kept : (n : ℕ) (l : List ℕ) (call : Call) → seen-for (nth n (stands-for (brief l))) call ≡ seen-for (nth n l) call
   seen-kept n l call =
       ap₂ (λ (s : Said) (x : List ℕ). record { given = given-for (on n s) call; shown = x }) (judge-brief l)
-      (shown (is-record (answer-to options (brief l) call)) refl ∙ ap (λ (s : Said). if is-record (answered s (length (call .pool)) (call .at)) then l else []) (judge-brief l))
+      (shown (is-record (answer-to options (stands-for (brief l)) call)) refl ∙ ap (λ (s : Said). if is-record (answered s (length (call .pool)) (call .at)) then l else []) (judge-brief l))
     where
-      shown : (b : Bool) → is-record (answer-to options (brief l) call) ≡ b → (if b then brief l else []) ≡ (if b then l else [])
+      shown : (b : Bool) → is-record (answer-to options (stands-for (brief l)) call) ≡ b → (if b then stands-for (brief l) else []) ≡ (if b then l else [])
       shown true e = as-it-is l (length (call .pool)) (call .at) e
       shown false e = refl
 
@@ -55,17 +55,17 @@ module _ (options : ReaderOptions) where
   kept-rows (call ∷ calls) last [] = ap (λ (r : List Seen). record { given = given-done last call; shown = [] } ∷ r) (kept-rows calls last [])
   kept-rows (call ∷ calls) last (nth n l ∷ ls) = go (is-full (answer-to options l call)) refl (kept-rows calls)
     where
-      same : answer-to options (brief l) call ≡ answer-to options l call
+      same : answer-to options (stands-for (brief l)) call ≡ answer-to options l call
       same = ap (λ (s : Said). answered s (length (call .pool)) (call .at)) (judge-brief l)
 
       go : (f : Bool) → is-full (answer-to options l call) ≡ f → ((last : ℕ) (ls : List Nth) → showing options last (briefs ls) calls ≡ showing options last ls calls)
-          → showing options last (nth n (brief l) ∷ briefs ls) (call ∷ calls) ≡ showing options last (nth n l ∷ ls) (call ∷ calls)
+          → showing options last (nth n (stands-for (brief l)) ∷ briefs ls) (call ∷ calls) ≡ showing options last (nth n l ∷ ls) (call ∷ calls)
       go true f ih =
-          show-full options last n (brief l) (briefs ls) call calls (ap is-full same ∙ f)
+          show-full options last n (stands-for (brief l)) (briefs ls) call calls (ap is-full same ∙ f)
           ∙ ap₂ (λ (t : Told) (r : List Seen). record { given = record { told = t; pool = call .pool; line = last }; shown = [] } ∷ r) same (ih last (nth n l ∷ ls))
           ∙ sym (show-full options last n l ls call calls f)
       go false f ih =
-          show-line options last n (brief l) (briefs ls) call calls (ap is-full same ∙ f)
+          show-line options last n (stands-for (brief l)) (briefs ls) call calls (ap is-full same ∙ f)
           ∙ ap₂ (λ (x : Seen) (r : List Seen). x ∷ r) (seen-kept n l call)
           (ap (λ (t : Told). showing options n (if ends-row options t then [] else briefs ls) calls) same
           ∙ ap (λ (x : List Nth). showing options n x calls) (briefs-cut (ends-row options (answer-to options l call)) ls)

@@ -1,4 +1,5 @@
 pub mod Brief
+pub mod Moved
 pub mod Carry
 pub mod Pass
 pub mod Waiting

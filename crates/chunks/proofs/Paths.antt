@@ -21,12 +21,12 @@ use Rattle.chunks.specs.declared.Place.{Place}
 use Rattle.chunks.specs.declared.Place.the-variants.{InChunk, InCarry}
 use Rattle.chunks.specs.declared.ChunkReply.the-variants.{UsedUp}
 use Rattle.chunks.specs.declared.ChunkStep.{ChunkStep}
-use Rattle.chunks.specs.Begun.{Begun, nothing, is-empty, brief, counted, Sought, ended, unended, seek}
-use Rattle.chunks.specs.Next.{word-of, is-record, number-behind, begun, place, at-place, in-carry, of-sought, Meets}
+use Rattle.chunks.specs.Begun.{Begun, nothing, is-empty, brief, stands-for, counted, Sought, ended, unended, seek}
+use Rattle.chunks.specs.Next.{word-of, is-record, number-behind, kept-in, begun, place, at-place, in-carry, of-sought, Meets}
 use Rattle.chunks.specs.Helpers.{held, Grown, Passed, seek-at, WholeLine, OpenLine, Settles, Plain}
-use Rattle.chunks.proofs.Brief.{judge-brief, brief-short}
+use Rattle.chunks.proofs.Brief.{judge-brief, brief-short, all-kept}
 use Rattle.chunks.proofs.InPlace.{settled, at-LF}
-use Rattle.chunks.proofs.Outcomes.{met, full-short, record-short}
+use Rattle.chunks.proofs.Outcomes.{met, record-short, full-kept, record-kept}
 
 -- ---- what was found
 
@@ -48,13 +48,14 @@ module _ (chunk : List ℕ) (position : ℕ) (b : Begun) (position′ : ℕ) (b�
 -- ---- used up
 
 -- a state with a line of so many bytes begun
-abbrev pub open-state : Chunks → (empties used : ℕ) (cr : Bool) → Chunks
-open-state s empties used cr = record { position = 0; line = s .line; empties = empties; used = used; cr = cr; finished = false; options = s .options }
+abbrev pub open-state : Chunks → (empties used skipped : ℕ) (cr : Bool) → Chunks
+open-state s empties used skipped cr =
+    record { position = 0; line = s .line; empties = empties; used = used; skipped = skipped; cr = cr; finished = false; options = s .options }
 
-used-up-met : (s : Chunks) (used chunk pool : List ℕ) (at : ℕ) (f : Sought) (empties n : ℕ) (w : Bool) (r : ChunkStep) (carry′ : List ℕ)
-    → f ≡ unended empties (held carry′ n w) → n ≤ length carry′ → Plain UsedUp (open-state s empties n w) r → Meets (of-sought s used chunk pool at f) chunk r carry′ pool
+used-up-met : (s : Chunks) (used chunk pool : List ℕ) (at : ℕ) (f : Sought) (empties n k : ℕ) (w : Bool) (r : ChunkStep) (carry′ : List ℕ)
+    → f ≡ unended empties (held carry′ n k w) → n ≤ length carry′ → Plain UsedUp (open-state s empties n k w) r → Meets (of-sought s used chunk pool at f) chunk r carry′ pool
 unfolding of-sought
-used-up-met s used chunk pool at f empties n w r carry′ e h l =
+used-up-met s used chunk pool at f empties n k w r carry′ e h l =
     let size : length (take n carry′) ≡ n = length-take-le n carry′ h in
     rw e (record {
       answer = ap word-of (l .reply-is);
@@ -65,19 +66,19 @@ used-up-met s used chunk pool at f empties n w r carry′ e h l =
       left = refl;
     })
 
-pub older-open : (s : Chunks) (chunk : List ℕ) (position : ℕ) (carry pool : List ℕ) (at position′ n : ℕ) (w : Bool) (r : ChunkStep) (carry′ : List ℕ)
-    → Passed chunk position (begun s carry) position′ (held carry′ n w) → position′ ≡ length chunk → n ≤ length carry′ → Plain UsedUp (open-state s (s .empties) n w) r
+pub older-open : (s : Chunks) (chunk : List ℕ) (position : ℕ) (carry pool : List ℕ) (at position′ n k : ℕ) (w : Bool) (r : ChunkStep) (carry′ : List ℕ)
+    → Passed chunk position (begun s carry) position′ (held carry′ n k w) → position′ ≡ length chunk → n ≤ length carry′ → Plain UsedUp (open-state s (s .empties) n k w) r
     → Meets (of-sought s (take (s .used) carry) chunk pool at (seek none (s .empties) (begun s carry) (drop position chunk))) chunk r carry′ pool
-older-open s chunk position carry pool at position′ n w r carry′ p e h l =
-    used-up-met s (take (s .used) carry) chunk pool at (seek none (s .empties) (begun s carry) (drop position chunk)) (s .empties) n w r carry′
-    (passed-all chunk position (begun s carry) position′ (held carry′ n w) none (s .empties) p e) h l
+older-open s chunk position carry pool at position′ n k w r carry′ p e h l =
+    used-up-met s (take (s .used) carry) chunk pool at (seek none (s .empties) (begun s carry) (drop position chunk)) (s .empties) n k w r carry′
+    (passed-all chunk position (begun s carry) position′ (held carry′ n k w) none (s .empties) p e) h l
 
-pub fresh-open : (s : Chunks) (chunk : List ℕ) (position empties from empties′ : ℕ) (carry pool : List ℕ) (at position′ n : ℕ) (w : Bool) (r : ChunkStep) (carry′ : List ℕ)
-    → OpenLine chunk position empties from empties′ → Passed chunk from (held carry 0 false) position′ (held carry′ n w) → n ≤ length carry′ → Plain UsedUp (open-state s empties′ n w) r
+pub fresh-open : (s : Chunks) (chunk : List ℕ) (position empties from empties′ : ℕ) (carry pool : List ℕ) (at position′ n k : ℕ) (w : Bool) (r : ChunkStep) (carry′ : List ℕ)
+    → OpenLine chunk position empties from empties′ → Passed chunk from (held carry 0 0 false) position′ (held carry′ n k w) → n ≤ length carry′ → Plain UsedUp (open-state s empties′ n k w) r
     → Meets (of-sought s [] chunk pool at (seek-at chunk position empties)) chunk r carry′ pool
-fresh-open s chunk position empties from empties′ carry pool at position′ n w r carry′ o p h l =
-    used-up-met s [] chunk pool at (seek-at chunk position empties) empties′ n w r carry′
-    (o .goes-on ∙ passed-all chunk from nothing position′ (held carry′ n w) (some (drop from chunk)) empties′ p (all (eqb position′ (length chunk)) refl)) h l
+fresh-open s chunk position empties from empties′ carry pool at position′ n k w r carry′ o p h l =
+    used-up-met s [] chunk pool at (seek-at chunk position empties) empties′ n k w r carry′
+    (o .goes-on ∙ passed-all chunk from nothing position′ (held carry′ n k w) (some (drop from chunk)) empties′ p (all (eqb position′ (length chunk)) refl)) h l
   where
     all : (t : Bool) → eqb position′ (length chunk) ≡ t → position′ ≡ length chunk
     all true e = eqb-true position′ (length chunk) e
@@ -88,19 +89,19 @@ fresh-open s chunk position empties from empties′ carry pool at position′ n 
 -- ---- a line in the chunk
 
 -- a record's line is kept as it is
-pub as-it-is : (l : List ℕ) (n at : ℕ) → is-record (answered (judge (brief l)) n at) ≡ true → brief l ≡ l
+pub as-it-is : (l : List ℕ) (n at : ℕ) → is-record (answered (judge (stands-for (brief l))) n at) ≡ true → stands-for (brief l) ≡ l
 as-it-is l n at rec =
     let short : length l < 522 = record-short l n at (rw (judge-brief l) at rec) in
-    brief-short l (omega arith)
+    ap stands-for (brief-short l (omega arith)) ∙ all-kept l
 
 -- the place of a record's line
 placed : (chunk : List ℕ) (from len n at : ℕ) → from + len ≤ length chunk
-    → is-record (answered (judge (brief (take len (drop from chunk)))) n at) ≡ true
-    → InChunk from len ≡ place chunk (some (drop from chunk)) (brief (take len (drop from chunk)))
+    → is-record (answered (judge (stands-for (brief (take len (drop from chunk))))) n at) ≡ true
+    → InChunk from len ≡ place chunk (some (drop from chunk)) (stands-for (brief (take len (drop from chunk))))
 unfolding place
 placed chunk from len n at h rec =
     let f : length chunk - length (drop from chunk) ≡ from = omega (arith, length-drop from chunk) in
-    let b : brief (take len (drop from chunk)) ≡ take len (drop from chunk) = as-it-is (take len (drop from chunk)) n at rec in
+    let b : stands-for (brief (take len (drop from chunk))) ≡ take len (drop from chunk) = as-it-is (take len (drop from chunk)) n at rec in
     ap₂ InChunk (sym f) (sym (ap length b ∙ part-length chunk from len h))
 
 pub fresh-line : (s : Chunks) (chunk : List ℕ) (position empties from len next empties′ : ℕ) (pool : List ℕ) (at : ℕ) (a : Answer) (line : ℕ) (r : ChunkStep) (carry′ pool′ : List ℕ)
@@ -111,49 +112,46 @@ unfolding of-sought in-carry
 fresh-line s chunk position empties from len next empties′ pool at a line r carry′ pool′ c reads number settles =
     let l : List ℕ = take len (drop from chunk) in
     let e : length chunk - length (drop next chunk) ≡ next = omega (arith, length-drop next chunk, c .beyond) in
-    let rd : Reads (judge (brief l)) pool at a pool′ = rw (judge-brief l) (rw (part-is chunk from len) at reads) in
+    let rd : Reads (judge (stands-for (brief l))) pool at a pool′ = rw (judge-brief l) (rw (part-is chunk from len) at reads) in
     rw (c .line, e)
     (met s [] chunk pool at (some (drop from chunk)) empties′ (brief l) next false line (InChunk from len) a r carry′ pool′ rd settles number
     (λ rec. placed chunk from len (length pool) at (c .inside) rec) (λ rec. sym (as-it-is l (length pool) at rec)) (λ _. refl) refl)
 
 -- ---- an older line
 
-some-ended : (start : Option (List ℕ)) (empties n : ℕ) (carry rest : List ℕ) → (n ≡ 0 → ⊥) → n ≤ length carry → settled start empties (take n carry) rest ≡ ended start empties (take n carry) rest
+some-ended : (start : Option (List ℕ)) (empties n k : ℕ) (carry rest : List ℕ) → (n ≡ 0 → ⊥) → n ≤ length carry
+    → settled start empties (kept-in carry n k) rest ≡ ended start empties (kept-in carry n k) rest
 unfolding settled is-empty
-some-ended start empties zero carry rest z h = absurd (z refl)
-some-ended start empties (suc n) [] rest z h = absurd (omega arith)
-some-ended start empties (suc n) (c ∷ carry) rest z h = refl
+some-ended start empties zero k carry rest z h = absurd (z refl)
+some-ended start empties (suc n) k [] rest z h = absurd (omega arith)
+some-ended start empties (suc n) k (c ∷ carry) rest z h = refl
 
-pub older-line : (s : Chunks) (chunk : List ℕ) (position : ℕ) (carry pool : List ℕ) (at position′ n : ℕ) (w : Bool) (a : Answer) (line : ℕ) (r : ChunkStep) (carry′ pool′ : List ℕ)
-    → Passed chunk position (begun s carry) position′ (held carry′ n w) → Grown carry (s .used) (take n carry′) n carry′ → (position′ ≡ length chunk → ⊥) → (n ≡ 0 → ⊥)
-    → s .used ≤ length carry → n ≤ length carry′
-    → Reads (judge (take n carry′)) pool at a pool′ → line ≡ number-behind s (s .empties) → Settles s (told a) (position′ + 1) line false (InCarry n) r
-    → Meets (of-sought s (take (s .used) carry) chunk pool at (seek none (s .empties) (begun s carry) (drop position chunk))) chunk r carry′ pool′
-unfolding of-sought place in-carry
-older-line s chunk position carry pool at position′ n w a line r carry′ pool′ p g ne z hu hn reads number settles =
-    let size : length (take n carry′) ≡ n = length-take-le n carry′ hn in
-    let used : length (take (s .used) carry) ≡ s .used = length-take-le (s .used) carry hu in
-    let e : length chunk - length (drop (position′ + 1) chunk) ≡ position′ + 1 = omega (arith, length-drop (position′ + 1) chunk, p .inside) in
-    rw (passed-feed chunk position (begun s carry) position′ (held carry′ n w) none (s .empties) p ne ∙ some-ended none (s .empties) n carry′ (drop (position′ + 1) chunk) z hn, e)
-    (met s (take (s .used) carry) chunk pool at none (s .empties) (take n carry′) (position′ + 1) false line (InCarry n) a r carry′ pool′ reads settles number
-    (λ _. ap InCarry (sym size)) (λ _. refl)
-    (λ f. rw used (g .earlier (omega (arith, full-short (take n carry′) (length pool) at f))))
-    (rw size))
+module _ (s : Chunks) (chunk : List ℕ) (position : ℕ) (carry pool : List ℕ) (at position′ n k : ℕ) (w : Bool) (carry′ : List ℕ)
+    (p : Passed chunk position (begun s carry) position′ (held carry′ n k w)) (g : Grown carry (s .used) (kept-in carry′ n k) n k carry′) (ne : position′ ≡ length chunk → ⊥) where
+  pub older-line : (a : Answer) (line : ℕ) (r : ChunkStep) (pool′ : List ℕ) → (n ≡ 0 → ⊥) → s .used ≤ length carry → n ≤ length carry′
+      → Reads (judge (stands-for (kept-in carry′ n k))) pool at a pool′ → line ≡ number-behind s (s .empties) → Settles s (told a) (position′ + 1) line false (InCarry n) r
+      → Meets (of-sought s (take (s .used) carry) chunk pool at (seek none (s .empties) (begun s carry) (drop position chunk))) chunk r carry′ pool′
+  unfolding of-sought place in-carry
+  older-line a line r pool′ z hu hn reads number settles =
+      let size : length (take n carry′) ≡ n = length-take-le n carry′ hn in
+      let used : length (take (s .used) carry) ≡ s .used = length-take-le (s .used) carry hu in
+      let e : length chunk - length (drop (position′ + 1) chunk) ≡ position′ + 1 = omega (arith, length-drop (position′ + 1) chunk, p .inside) in
+      rw (passed-feed chunk position (begun s carry) position′ (held carry′ n k w) none (s .empties) p ne ∙ some-ended none (s .empties) n k carry′ (drop (position′ + 1) chunk) z hn, e)
+      (met s (take (s .used) carry) chunk pool at none (s .empties) (kept-in carry′ n k) (position′ + 1) false line (InCarry n) a r carry′ pool′ reads settles number
+      (λ rec. ap InCarry (sym size ∙ ap length (sym (record-kept (kept-in carry′ n k) (length pool) at rec)))) (λ rec. sym (record-kept (kept-in carry′ n k) (length pool) at rec))
+      (λ f. rw used (g .earlier (omega (arith, full-kept (kept-in carry′ n k) (length pool) at f))))
+      (rw size))
 
--- an empty line ended: the next one begins in the chunk
-ended-empty : (chunk : List ℕ) (position : ℕ) (b : Begun) (empties position′ n : ℕ) (w : Bool) (carry′ : List ℕ) → Passed chunk position b position′ (held carry′ n w) → (position′ ≡ length chunk → ⊥) → n ≡ 0
-    → seek none empties b (drop position chunk) ≡ seek-at chunk (position′ + 1) (counted empties)
-unfolding settled is-empty
-ended-empty chunk position b empties position′ n w carry′ p ne z = passed-feed chunk position b position′ (held carry′ n w) none empties p ne ∙ rw z
+  -- an empty line ended: the next one begins in the chunk
+  ended-empty : n ≡ 0 → seek none (s .empties) (begun s carry) (drop position chunk) ≡ seek-at chunk (position′ + 1) (counted (s .empties))
+  unfolding settled is-empty
+  ended-empty z = passed-feed chunk position (begun s carry) position′ (held carry′ n k w) none (s .empties) p ne ∙ rw z
 
-pub older-empty : (s : Chunks) (chunk : List ℕ) (position : ℕ) (carry pool : List ℕ) (at position′ n : ℕ) (w : Bool) (empties : ℕ) (r : ChunkStep) (carry′ carry″ pool′ : List ℕ)
-    → Passed chunk position (begun s carry) position′ (held carry′ n w) → Grown carry (s .used) (take n carry′) n carry′ → (position′ ≡ length chunk → ⊥) → n ≡ 0
-    → empties ≡ counted (s .empties)
-    → Meets (of-sought s [] chunk pool at (seek-at chunk (position′ + 1) empties)) chunk r carry″ pool′
-    → Meets (of-sought s (take (s .used) carry) chunk pool at (seek none (s .empties) (begun s carry) (drop position chunk))) chunk r carry″ pool′
-older-empty s chunk position carry pool at position′ n w empties r carry′ carry″ pool′ p g ne z e m =
-    let none-used : s .used ≡ 0 = omega (arith, g .more) in
-    let u : take (s .used) carry ≡ [] = ap (λ (k : ℕ). take k carry) none-used in
-    let f : seek none (s .empties) (begun s carry) (drop position chunk) ≡ seek-at chunk (position′ + 1) empties =
-    ended-empty chunk position (begun s carry) (s .empties) position′ n w carry′ p ne z ∙ ap (seek-at chunk (position′ + 1)) (sym e) in
-    rw (ap₂ (λ (f : Sought) (k : List ℕ). of-sought s k chunk pool at f) f u) m
+  pub older-empty : (empties : ℕ) (r : ChunkStep) (carry″ pool′ : List ℕ) → n ≡ 0 → empties ≡ counted (s .empties)
+      → Meets (of-sought s [] chunk pool at (seek-at chunk (position′ + 1) empties)) chunk r carry″ pool′
+      → Meets (of-sought s (take (s .used) carry) chunk pool at (seek none (s .empties) (begun s carry) (drop position chunk))) chunk r carry″ pool′
+  older-empty empties r carry″ pool′ z e m =
+      let none-used : s .used ≡ 0 = omega (arith, g .more) in
+      let u : take (s .used) carry ≡ [] = ap (λ (k : ℕ). take k carry) none-used in
+      let f : seek none (s .empties) (begun s carry) (drop position chunk) ≡ seek-at chunk (position′ + 1) empties = ended-empty z ∙ ap (seek-at chunk (position′ + 1)) (sym e) in
+      rw (ap₂ (λ (f : Sought) (k : List ℕ). of-sought s k chunk pool at f) f u) m

@@ -1,4 +1,5 @@
--- The lines that the byte machine makes of a text are the text's lines that have a byte, each as it is kept and with its number.
+-- The lines that the byte machine makes of a text are the text's lines that have a byte, each as what is kept of it stands for, and with its
+-- number.
 -- Assumes nothing.
 use Prim.Native.Nat.{ℕ, suc, _+_, _%_, _^_}
 use mathlib.Core.Path.{_≡_, refl, sym, ap, ap₂, _∙_}
@@ -12,7 +13,7 @@ use Rattle.record.specs.Common.{if_then_else_}
 use Rattle.record.proofs.Tests.{both-ways}
 use Rattle.reader.specs.Lines.{LF, CR, first-line, rest, lines}
 use Rattle.reader.proofs.Cutting.{lines-cons}
-use Rattle.chunks.specs.Begun.{Begun, nothing, is-empty, brief, with-CR, add, counted, Sought, ended, unended, seek, look}
+use Rattle.chunks.specs.Begun.{Kept, Begun, nothing, is-empty, brief, stands-for, with-CR, add, counted, Sought, ended, unended, seek, look}
 use Rattle.chunks.specs.Rows.{Nth, nth, numbered}
 use Rattle.chunks.proofs.Waiting.{waiting, whole, settle-CR, whole-more, brief-empty}
 use Rattle.chunks.proofs.InPlace.{rest-on}
@@ -33,9 +34,9 @@ twice x = omega arith
 
 -- ---- pieces
 
--- a line before others, unless it is empty; m lines stand ahead of it
-unfoldable before : (m : ℕ) → List ℕ → List Nth → List Nth
-before m l ls = if is-empty l then ls else nth (suc m % M) l ∷ ls
+-- a line before others, as what is kept of it stands for, unless it is empty; m lines stand ahead of it
+unfoldable before : (m : ℕ) → Kept → List Nth → List Nth
+before m k ls = if is-empty (k .bytes) then ls else nth (suc m % M) (stands-for k) ∷ ls
 
 -- the lines of a text that goes on with a begun line, to the text's end
 unfoldable pub pieces : (m : ℕ) → Begun → List ℕ → List Nth
@@ -43,13 +44,13 @@ unfolding before
 pieces m b [] = before m (with-CR b) []
 pieces m b (c ∷ text) = if eqb c LF then before m (b .kept) (pieces (suc m) nothing text) else pieces m (add b c) text
 
-pub pieces-end : (l n : ℕ) (b : Begun) (e : Bool) → is-empty (with-CR b) ≡ e → pieces (l + n) b [] ≡ (if e then [] else nth ((l + counted n) % M) (with-CR b) ∷ [])
+pub pieces-end : (l n : ℕ) (b : Begun) (e : Bool) → is-empty (with-CR b .bytes) ≡ e → pieces (l + n) b [] ≡ (if e then [] else nth ((l + counted n) % M) (stands-for (with-CR b)) ∷ [])
 unfolding pieces
 pieces-end l n b e q = rw (q, counted-on l n)
 
-before-mod : (m m′ : ℕ) (l : List ℕ) {ls ls′ : List Nth} → m % M ≡ m′ % M → ls ≡ ls′ → before m l ls ≡ before m′ l ls′
+before-mod : (m m′ : ℕ) (k : Kept) {ls ls′ : List Nth} → m % M ≡ m′ % M → ls ≡ ls′ → before m k ls ≡ before m′ k ls′
 unfolding before
-before-mod m m′ l e f = ap₂ (λ (k : ℕ) (x : List Nth). if is-empty l then x else nth k l ∷ x) (one-on m m′ e) f
+before-mod m m′ k e f = ap₂ (λ (n : ℕ) (x : List Nth). if is-empty (k .bytes) then x else nth n (stands-for k) ∷ x) (one-on m m′ e) f
 
 pub pieces-mod : (text : List ℕ) (m m′ : ℕ) (b : Begun) → m % M ≡ m′ % M → pieces m b text ≡ pieces m′ b text
 unfolding pieces
@@ -60,7 +61,7 @@ pieces-mod (c ∷ text) m m′ b e =
 
 -- the same where the text is in two parts, with l the number of the line answered last
 unfoldable pub found : (l : ℕ) → Sought → (more : List ℕ) → List Nth
-found l (ended start n kept rest) more = nth ((l + counted n) % M) kept ∷ pieces (l + counted n) nothing (rest ++ more)
+found l (ended start n kept rest) more = nth ((l + counted n) % M) (stands-for kept) ∷ pieces (l + counted n) nothing (rest ++ more)
 found l (unended n b) more = pieces (l + n) b more
 
 pieces-split : (text : List ℕ) (l n : ℕ) (start : Option (List ℕ)) (b : Begun) (more : List ℕ) → pieces (l + n) b (text ++ more) ≡ found l (seek start n b text) more
@@ -69,17 +70,17 @@ pieces-split [] l n start b more = refl
 pieces-split (c ∷ text) l n start b more =
     both-ways
     (λ lf. (if lf then before (l + n) (b .kept) (pieces (suc (l + n)) nothing (text ++ more)) else pieces (l + n) (add b c) (text ++ more))
-    ≡ found l (if lf then (if is-empty (b .kept) then seek (some text) (counted n) nothing text else ended start n (b .kept) text) else seek start n (add b c) text) more)
-    (eqb c LF) (at-feed (is-empty (b .kept)) (pieces-split text l (counted n) (some text) nothing more)) (pieces-split text l n start (add b c) more)
+    ≡ found l (if lf then (if is-empty (b .kept .bytes) then seek (some text) (counted n) nothing text else ended start n (b .kept) text) else seek start n (add b c) text) more)
+    (eqb c LF) (at-feed (is-empty (b .kept .bytes)) (pieces-split text l (counted n) (some text) nothing more)) (pieces-split text l n start (add b c) more)
   where
     on : pieces (suc (l + n)) nothing (text ++ more) ≡ pieces (l + counted n) nothing (text ++ more)
     on = pieces-mod (text ++ more) (suc (l + n)) (l + counted n) nothing (sym (counted-on l n))
 
     at-feed : (empty : Bool) → pieces (l + counted n) nothing (text ++ more) ≡ found l (seek (some text) (counted n) nothing text) more
-        → (if empty then pieces (suc (l + n)) nothing (text ++ more) else nth (suc (l + n) % M) (b .kept) ∷ pieces (suc (l + n)) nothing (text ++ more))
+        → (if empty then pieces (suc (l + n)) nothing (text ++ more) else nth (suc (l + n) % M) (stands-for (b .kept)) ∷ pieces (suc (l + n)) nothing (text ++ more))
         ≡ found l (if empty then seek (some text) (counted n) nothing text else ended start n (b .kept) text) more
     at-feed true ih = on ∙ ih
-    at-feed false ih = ap₂ (λ (k : ℕ) (x : List Nth). nth k (b .kept) ∷ x) (sym (counted-on l n)) on
+    at-feed false ih = ap₂ (λ (k : ℕ) (x : List Nth). nth k (stands-for (b .kept)) ∷ x) (sym (counted-on l n)) on
 
 pub pieces-look : (l n : ℕ) (b : Begun) (text more : List ℕ) → pieces (l + n) b (text ++ more) ≡ found l (look n b text) more
 unfolding look
@@ -89,7 +90,7 @@ pieces-look l n b text more = pieces-split text l n _ b more
 
 unfoldable pub briefs : List Nth → List Nth
 briefs [] = []
-briefs (nth n l ∷ ls) = nth n (brief l) ∷ briefs ls
+briefs (nth n l ∷ ls) = nth n (stands-for (brief l)) ∷ briefs ls
 
 -- the lines that have a byte, as they are kept, with m lines ahead
 abbrev all-kept : (m : ℕ) → List ℕ → List Nth
@@ -111,12 +112,12 @@ afresh m [] h = refl
 afresh m (c ∷ text) h =
     h ∙ before-kept m (first-line (c ∷ text)) (lines (rest (c ∷ text))) ∙ ap (λ (ls : List (List ℕ)). briefs (numbered (suc m) ls)) (sym (lines-cons c text))
 
-at-end : (m : ℕ) (kept : List ℕ) (cr : Bool) → Goes-on m (record { kept = kept; cr = cr }) []
+at-end : (m : ℕ) (kept : Kept) (cr : Bool) → Goes-on m (record { kept = kept; cr = cr }) []
 unfolding waiting pieces lines numbered briefs first-line rest with-CR
 at-end m kept true = refl
 at-end m kept false = refl
 
-at-LF : (m : ℕ) (kept : List ℕ) (cr : Bool) (text : List ℕ) → pieces (suc m) nothing text ≡ all-kept (suc m) text
+at-LF : (m : ℕ) (kept : Kept) (cr : Bool) (text : List ℕ) → pieces (suc m) nothing text ≡ all-kept (suc m) text
     → Goes-on m (record { kept = kept; cr = cr }) (LF ∷ text)
 unfolding waiting pieces first-line rest
 at-LF m kept true text h = ap (before m kept) h
@@ -135,7 +136,7 @@ goes-on (c ∷ text) m b = go (eqb c LF) refl (goes-on text)
     go false e ih =
         passed m b c text e
         ∙ ih m (add b c)
-        ∙ ap₂ (λ (k : List ℕ) (r : List ℕ). before m k (all-kept (suc m) r)) (sym (settle-CR (b .kept) (b .cr) c text e ∙ whole-more b c text e (eqb c CR) refl)) (sym (rest-on c text e))
+        ∙ ap₂ (λ (k : Kept) (r : List ℕ). before m k (all-kept (suc m) r)) (sym (settle-CR (b .kept) (b .cr) c text e ∙ whole-more b c text e (eqb c CR) refl)) (sym (rest-on c text e))
 
 pub pieces-lines : (m : ℕ) (text : List ℕ) → pieces m nothing text ≡ briefs (numbered (suc m) (lines text))
 pieces-lines m text = afresh m text (goes-on text m nothing)

@@ -1,16 +1,17 @@
 -- Calls of which only the contracts are known give the row over the pieces of the joined chunks: each call answers the first piece
 -- that is unseen and leaves the rest.
 -- Assumes nothing.
-use Prim.Native.Nat.{ℕ, _+_, _-_, _%_, _≤_}
+use Prim.Native.Nat.{ℕ, _+_, _-_, _%_, _≤_, _<_}
 use mathlib.Core.Path.{_≡_, refl, sym, _∙_, ap, ap₂}
 use mathlib.Core.Bool.{Bool, true, false, _||_}
 use mathlib.Core.Option.{Option, none, some}
 use mathlib.Core.List.{List, [], _∷_, _++_}
 use native.Mathlib.Omega.{arith}
 use native.Mathlib.Nat.{add-zero}
-use lib.Dec.{eqb}
+use lib.Dec.{eqb, ltb}
 use lib.ListN.{length, take, drop}
 use lib.Seq.{length-take-le}
+use borrow.Author.Tests.{lt-ltb, ltb-true, ltb-false}
 use Rattle.record.specs.Common.{if_then_else_}
 use Rattle.record.specs.Line.{judge}
 use Rattle.record.proofs.Tests.{both-ways, if-true, if-false}
@@ -23,48 +24,69 @@ use Rattle.reader.specs.Calls.{Call, given-done}
 use Rattle.reader.proofs.Along.{suffix-at, suffix-drop}
 use Rattle.chunks.specs.declared.Chunks.{Chunks}
 use Rattle.chunks.specs.declared.ChunkStep.{ChunkStep}
-use Rattle.chunks.specs.Begun.{Begun, nothing, is-empty, push, with-CR, add, counted, Sought, ended, unended, seek, look}
-use Rattle.chunks.specs.Next.{Word, tells, used-up, word-of, is-record, begun, holding, past-line, number-behind, at-place, unchanged, answered-line, of-sought, too-small, Meets, NextChunk, Finish}
+use Rattle.chunks.specs.Begun.{Kept, none-kept, Begun, nothing, is-empty, push, stands-for, with-CR, add, counted, Sought, ended, unended, seek, look}
+use Rattle.chunks.specs.Next.{Word, tells, used-up, word-of, is-record, left-out, begun, holding, past-line, number-behind, at-place, unchanged, answered-line, of-sought, too-small, Meets, NextChunk, Finish}
 use Rattle.chunks.specs.Rows.{joined, Seen, seen-at, Fed, no-more, told-next, next-chunk, told-last, Nth, nth, seen-for, showing}
-use Rattle.chunks.proofs.Brief.{length-push}
+use Rattle.chunks.proofs.Brief.{push-more, length-push, still-full}
 use Rattle.chunks.proofs.Pieces.{M, twice, pieces, pieces-end, pieces-mod, found, pieces-look}
 use Rattle.chunks.proofs.FirstTests.{big-enough, next-over, next-on, nothing-left, finish-over, finish-on}
 
--- ---- what was sought ends the text, or is short enough for the carry
+-- ---- what was sought ends the text, or is what a carry can keep
+
+-- what a carry can keep: nothing was left out where there was room
+pub record Sound (k : Kept) : Type 0 where
+  pub short : length (k .bytes) ≤ 522
+  pub none-out : length (k .bytes) < 522 → k .skipped ≡ 0
 
 unfoldable pub Fine : Sought → List ℕ → Type 0
 Fine (ended start n kept rest) text = (c : ℕ) × (p : List ℕ) × (text ≡ c ∷ (p ++ rest))
-Fine (unended n b) text = length (b .kept) ≤ 522
+Fine (unended n b) text = Sound (b .kept)
 
 fine-cons : (c : ℕ) (f : Sought) (text : List ℕ) → Fine f text → Fine f (c ∷ text)
 unfolding Fine
 fine-cons c (ended start n kept rest) text (d, p, e) = (c, d ∷ p, ap (λ (t : List ℕ). c ∷ t) e)
 fine-cons c (unended n b) text h = h
 
-short-CR : (b : Begun) → length (b .kept) ≤ 522 → length (with-CR b) ≤ 522
+sound-nothing : Sound none-kept
+sound-nothing = record { short = omega arith; none-out = λ _. refl }
+
+sound-push : (k : Kept) (c : ℕ) → Sound k → Sound (push k c)
+sound-push k c s = record { short = length-push k c (s .short); none-out = go (ltb (length (k .bytes)) 522) refl }
+  where
+    go : (t : Bool) → ltb (length (k .bytes)) 522 ≡ t → length (push k c .bytes) < 522 → push k c .skipped ≡ 0
+    go true e h = let l = ltb-true (length (k .bytes)) 522 e in ap (λ (x : Kept). x .skipped) (push-more k c l) ∙ s .none-out l
+    go false e h = absurd (omega (arith, still-full k c (omega (arith, s .short, ltb-false (length (k .bytes)) 522 e))))
+
+sound-CR : (b : Begun) → Sound (b .kept) → Sound (with-CR b)
 unfolding with-CR
-short-CR b h = both-ways (λ t. length (if t then push (b .kept) CR else b .kept) ≤ 522) (b .cr) (length-push (b .kept) CR h) h
+sound-CR b h = both-ways (λ t. Sound (if t then push (b .kept) CR else b .kept)) (b .cr) (sound-push (b .kept) CR h) h
 
-short-add : (b : Begun) (c : ℕ) → length (b .kept) ≤ 522 → length (add b c .kept) ≤ 522
+sound-add : (b : Begun) (c : ℕ) → Sound (b .kept) → Sound (add b c .kept)
 unfolding add
-short-add b c h =
-    both-ways (λ t. let b′ : Begun = if t then record { kept = with-CR b; cr = true } else record { kept = push (with-CR b) c; cr = false } in length (b′ .kept) ≤ 522) (eqb c CR)
-    (short-CR b h) (length-push (with-CR b) c (short-CR b h))
+sound-add b c h =
+    both-ways (λ t. let b′ : Begun = if t then record { kept = with-CR b; cr = true } else record { kept = push (with-CR b) c; cr = false } in Sound (b′ .kept)) (eqb c CR)
+    (sound-CR b h) (sound-push (with-CR b) c (sound-CR b h))
 
-pub fine : (text : List ℕ) (start : Option (List ℕ)) (n : ℕ) (b : Begun) → length (b .kept) ≤ 522 → Fine (seek start n b text) text
+pub fine : (text : List ℕ) (start : Option (List ℕ)) (n : ℕ) (b : Begun) → Sound (b .kept) → Fine (seek start n b text) text
 unfolding Fine seek
 fine [] start n b h = h
 fine (c ∷ text) start n b h =
-    both-ways (λ t. Fine (if t then (if is-empty (b .kept) then seek (some text) (counted n) nothing text else ended start n (b .kept) text) else seek start n (add b c) text) (c ∷ text)) (eqb c LF)
-    (both-ways (λ t. Fine (if t then seek (some text) (counted n) nothing text else ended start n (b .kept) text) (c ∷ text)) (is-empty (b .kept))
-    (fine-cons c (seek (some text) (counted n) nothing text) text (fine text (some text) (counted n) nothing (omega arith))) (c, [], refl))
-    (fine-cons c (seek start n (add b c) text) text (fine text start n (add b c) (short-add b c h)))
+    both-ways (λ t. Fine (if t then (if is-empty (b .kept .bytes) then seek (some text) (counted n) nothing text else ended start n (b .kept) text) else seek start n (add b c) text) (c ∷ text)) (eqb c LF)
+    (both-ways (λ t. Fine (if t then seek (some text) (counted n) nothing text else ended start n (b .kept) text) (c ∷ text)) (is-empty (b .kept .bytes))
+    (fine-cons c (seek (some text) (counted n) nothing text) text (fine text (some text) (counted n) nothing sound-nothing)) (c, [], refl))
+    (fine-cons c (seek start n (add b c) text) text (fine text start n (add b c) (sound-add b c h)))
 
 -- ---- what is unseen
 
 -- the used bytes of a carry are all that is begun
 pub same-begun : (s : Chunks) (carry carry′ : List ℕ) → take (s .used) carry′ ≡ take (s .used) carry → begun s carry′ ≡ begun s carry
-same-begun s carry carry′ e = ap (λ (kept : List ℕ). record { kept = kept; cr = s .cr }) e
+same-begun s carry carry′ e = ap (λ (bytes : List ℕ). record { kept = record { bytes = bytes; skipped = left-out s }; cr = s .cr }) e
+
+-- and a carry can keep it
+pub sound-begun : (s : Chunks) (carry : List ℕ) → 522 ≤ length carry → s .used ≤ 522 → Sound (begun s carry .kept)
+sound-begun s carry big small =
+    let n : length (take (s .used) carry) ≡ s .used = length-take-le (s .used) carry (omega arith) in
+    record { short = omega arith; none-out = λ h. rw (lt-ltb (s .used) 522 (omega arith)) }
 
 -- the chunks, the first from a place on
 unfoldable pub from-place : ℕ → List (List ℕ) → List (List ℕ)
@@ -140,17 +162,17 @@ module _ (options : ReaderOptions) where
         (ap₂ (λ (k : ℕ) (x : List Nth). Row k x calls) (sym (ap (λ (x : Chunks). x .line) st)) (sym (unseen-over (r .state) carry′ here e))))
 
     -- a line is answered
-    module _ (used : List ℕ) (start : Option (List ℕ)) (n : ℕ) (kept : List ℕ) (position : ℕ) (last : Bool) (left : List Nth)
+    module _ (used : List ℕ) (start : Option (List ℕ)) (n : ℕ) (kept : Kept) (position : ℕ) (last : Bool) (left : List Nth)
         (m : Meets (answered-line s used chunk (call .pool) (call .at) start n kept position last) chunk r carry′ pool′)
         (same-options : s .options ≡ options)
-        (have : unseen s carry here ≡ nth (number-behind s n) kept ∷ left)
+        (have : unseen s carry here ≡ nth (number-behind s n) (stands-for kept) ∷ left)
         (again : take (length used) carry′ ≡ used → unseen s carry′ here ≡ unseen s carry here)
-        (behind : unseen (past-line s position (number-behind s n) (last || ends-row (s .options) (answer-to kept call))) carry′ here
-        ≡ (if ends-row (s .options) (answer-to kept call) then [] else left)) where
+        (behind : unseen (past-line s position (number-behind s n) (last || ends-row (s .options) (answer-to (stands-for kept) call))) carry′ here
+        ≡ (if ends-row (s .options) (answer-to (stands-for kept) call) then [] else left)) where
       t : Told
-      t = answer-to kept call
+      t = answer-to (stands-for kept) call
 
-      asked : Row (s .line) (unseen s carry here) (call ∷ calls) ≡ Row (s .line) (nth (number-behind s n) kept ∷ left) (call ∷ calls)
+      asked : Row (s .line) (unseen s carry here) (call ∷ calls) ≡ Row (s .line) (nth (number-behind s n) (stands-for kept) ∷ left) (call ∷ calls)
       asked = ap (λ (x : List Nth). Row (s .line) x (call ∷ calls)) have
 
       answered-full : is-full t ≡ true → Follows (word-of (r .reply)) × (r .state ≡ s)
@@ -158,10 +180,10 @@ module _ (options : ReaderOptions) where
       answered-full f =
           let o = rw (if-true (is-full t) _ _ f) at m in
           let line-is : s .line ≡ r .state .line = sym (ap (λ (x : Chunks). x .line) (o .state)) in
-          let left-is : nth (number-behind s n) kept ∷ left ≡ unseen (r .state) carry′ here =
+          let left-is : nth (number-behind s n) (stands-for kept) ∷ left ≡ unseen (r .state) carry′ here =
           sym have ∙ sym (again (o .carry)) ∙ ap (λ (x : Chunks). unseen x carry′ here) (sym (o .state)) in (
             rw (o .answer)
-                (asked ∙ show-full (s .line) (number-behind s n) kept left call calls f
+                (asked ∙ show-full (s .line) (number-behind s n) (stands-for kept) left call calls f
                 ∙ ap₂ (λ (x : Seen) (xs : List Seen). x ∷ xs)
                 (seen-is t (call .pool) pool′ (s .line) (r .state .line) [] (at-place (r .lies) chunk carry′) (sym (o .left)) line-is (sym (o .shows)))
                 (ap₂ (λ (k : ℕ) (x : List Nth). Row k x calls) line-is left-is)),
@@ -177,9 +199,9 @@ module _ (options : ReaderOptions) where
           let left-is : (if ends-row options t then [] else left) ≡ unseen (r .state) carry′ here =
           ap (λ (x : ReaderOptions). if ends-row x t then [] else left) (sym same-options) ∙ sym behind ∙ ap (λ (x : Chunks). unseen x carry′ here) (sym (o .state)) in (
             rw (o .answer)
-                (asked ∙ show-line (s .line) (number-behind s n) kept left call calls f
+                (asked ∙ show-line (s .line) (number-behind s n) (stands-for kept) left call calls f
                 ∙ ap₂ (λ (x : Seen) (xs : List Seen). x ∷ xs)
-                (seen-is t (poured (judge kept) (call .pool) (call .at)) pool′ (number-behind s n) (r .state .line) (if is-record t then kept else []) (at-place (r .lies) chunk carry′) (sym (o .left)) line-is (sym (o .shows)))
+                (seen-is t (poured (judge (stands-for kept)) (call .pool) (call .at)) pool′ (number-behind s n) (r .state .line) (if is-record t then stands-for kept else []) (at-place (r .lies) chunk carry′) (sym (o .left)) line-is (sym (o .shows)))
                 (ap₂ (λ (k : ℕ) (x : List Nth). Row k x calls) line-is left-is)),
             o .state,
           )
@@ -230,39 +252,45 @@ module _ (options : ReaderOptions) where
           good = rw (m .state) (record { big = omega (arith, g .big); small = g .small; options-is = g .options-is });
         }
 
-    held-unseen : (n : ℕ) (b : Begun) → take (length (b .kept)) carry′ ≡ b .kept → unseen (holding s n b) carry′ chunks ≡ pieces (s .line + n) b (joined chunks)
+    held-unseen : (n : ℕ) (b : Begun) → Sound (b .kept) → take (length (b .kept .bytes)) carry′ ≡ b .kept .bytes → unseen (holding s n b) carry′ chunks ≡ pieces (s .line + n) b (joined chunks)
     unfolding unseen
-    held-unseen n b k = ap₂ (λ (x : Begun) (y : List (List ℕ)). pieces (s .line + n) x (joined y)) (ap (λ (kept : List ℕ). record { kept = kept; cr = b .cr }) k) (none-dropped chunks)
+    held-unseen n b h k =
+        ap₂ (λ (x : Begun) (y : List (List ℕ)). pieces (s .line + n) x (joined y))
+        (ap₂ (λ (bytes : List ℕ) (m : ℕ). record { kept = record { bytes = bytes; skipped = m }; cr = b .cr }) k (out (ltb (length (b .kept .bytes)) 522) refl)) (none-dropped chunks)
       where
+        out : (t : Bool) → ltb (length (b .kept .bytes)) 522 ≡ t → (if t then 0 else b .kept .skipped) ≡ b .kept .skipped
+        out true e = sym (h .none-out (ltb-true (length (b .kept .bytes)) 522 e))
+        out false e = refl
+
         none-dropped : (chunks : List (List ℕ)) → from-place 0 chunks ≡ chunks
         none-dropped [] = refl
         none-dropped (c ∷ cs) = refl
 
-    next-open : s .finished ≡ false → (n : ℕ) (b : Begun) → look (s .empties) b₀ text₀ ≡ unended n b → length (b .kept) ≤ 522
+    next-open : s .finished ≡ false → (n : ℕ) (b : Begun) → look (s .empties) b₀ text₀ ≡ unended n b → Sound (b .kept)
         → Meets (of-sought s (take (s .used) carry) chunk (call .pool) (call .at) (unended n b)) chunk r carry′ pool′ → Next-goes-on
     unfolding Follows of-sought found
     next-open d n b e h m =
         record {
           row = rw (m .answer) (
-            unseen-found d (unended n b) e ∙ sym (held-unseen n b (m .carry)) ∙ ap (λ (x : Chunks). unseen x carry′ chunks) (sym (m .state)),
+            unseen-found d (unended n b) e ∙ sym (held-unseen n b h (m .carry)) ∙ ap (λ (x : Chunks). unseen x carry′ chunks) (sym (m .state)),
             sym (ap (λ (x : Chunks). x .line) (m .state)),
           );
-          good = rw (m .state) (record { big = omega (arith, g .big); small = h; options-is = g .options-is });
+          good = rw (m .state) (record { big = omega (arith, g .big); small = h .short; options-is = g .options-is });
         }
 
-    next-found : s .finished ≡ false → (start : Option (List ℕ)) (n : ℕ) (kept rest : List ℕ) → look (s .empties) b₀ text₀ ≡ ended start n kept rest → (p : List ℕ) → text₀ ≡ p ++ rest
+    next-found : s .finished ≡ false → (start : Option (List ℕ)) (n : ℕ) (kept : Kept) (rest : List ℕ) → look (s .empties) b₀ text₀ ≡ ended start n kept rest → (p : List ℕ) → text₀ ≡ p ++ rest
         → Meets (answered-line s (take (s .used) carry) chunk (call .pool) (call .at) start n kept (length chunk - length rest) false) chunk r carry′ pool′ → Next-goes-on
     unfolding found unseen from-place joined
     next-found d start n kept rest e p tail m =
         line-goes-on s carry chunk (chunk ∷ chunks) chunks call calls r carry′ pool′ (take (s .used) carry) start n kept (length chunk - length rest) false left m (g .options-is)
         (have (unseen-found d (ended start n kept rest) e))
         (λ k. same-unseen s carry carry′ (chunk ∷ chunks) (kept-begun s carry carry′ (omega (arith, g .big, g .small)) k))
-        (behind (ends-row (s .options) (answer-to kept call))) g l
+        (behind (ends-row (s .options) (answer-to (stands-for kept) call))) g l
       where
         left : List Nth
         left = pieces (s .line + counted n) nothing (rest ++ joined chunks)
 
-        have : unseen s carry (chunk ∷ chunks) ≡ found (s .line) (ended start n kept rest) (joined chunks) → unseen s carry (chunk ∷ chunks) ≡ nth (number-behind s n) kept ∷ left
+        have : unseen s carry (chunk ∷ chunks) ≡ found (s .line) (ended start n kept rest) (joined chunks) → unseen s carry (chunk ∷ chunks) ≡ nth (number-behind s n) (stands-for kept) ∷ left
         have e = e
 
         behind : (b : Bool) → unseen (past-line s (length chunk - length rest) (number-behind s n) b) carry′ (chunk ∷ chunks) ≡ (if b then [] else left)
@@ -286,7 +314,7 @@ module _ (options : ReaderOptions) where
         by-done : (t : Bool) → s .finished ≡ t → Next-goes-on
         by-done true d = next-ended d (rw (next-over s chunk carry (call .pool) (call .at) enough d) at m)
         by-done false d =
-            by-found d (look (s .empties) b₀ text₀) refl (fine text₀ _ (s .empties) b₀ (omega (arith, length-take-le (s .used) carry (omega (arith, g .big, g .small)), g .small)))
+            by-found d (look (s .empties) b₀ text₀) refl (fine text₀ _ (s .empties) b₀ (sound-begun s carry (g .big) (g .small)))
             (rw (next-on s chunk carry (call .pool) (call .at) enough d) at m)
 
   -- ---- a call of `finish`
@@ -303,12 +331,12 @@ module _ (options : ReaderOptions) where
           good = rw (m .state) (record { big = omega (arith, g .big); small = g .small; options-is = g .options-is });
         }
 
-    last-piece : s .finished ≡ false → (e : Bool) → is-empty (with-CR (begun s carry)) ≡ e
-        → unseen s carry [] ≡ (if e then [] else nth (number-behind s (s .empties)) (with-CR (begun s carry)) ∷ [])
+    last-piece : s .finished ≡ false → (e : Bool) → is-empty (with-CR (begun s carry) .bytes) ≡ e
+        → unseen s carry [] ≡ (if e then [] else nth (number-behind s (s .empties)) (stands-for (with-CR (begun s carry))) ∷ [])
     unfolding from-place joined
     last-piece d e q = unseen-on s carry [] d ∙ pieces-end (s .line) (s .empties) (begun s carry) e q
 
-    finish-none : s .finished ≡ false → is-empty (with-CR (begun s carry)) ≡ true → Meets (nothing-left s (call .pool)) [] r carry′ pool′ → Finish-goes-on
+    finish-none : s .finished ≡ false → is-empty (with-CR (begun s carry) .bytes) ≡ true → Meets (nothing-left s (call .pool)) [] r carry′ pool′ → Finish-goes-on
     unfolding Follows
     finish-none d e m =
         let line-is : s .line ≡ r .state .line = sym (ap (λ (x : Chunks). x .line) (m .state)) in
@@ -322,14 +350,14 @@ module _ (options : ReaderOptions) where
           good = rw (m .state) (record { big = omega (arith, g .big); small = g .small; options-is = g .options-is });
         }
 
-    finish-found : s .finished ≡ false → is-empty (with-CR (begun s carry)) ≡ false
+    finish-found : s .finished ≡ false → is-empty (with-CR (begun s carry) .bytes) ≡ false
         → Meets (answered-line s (take (s .used) carry) [] (call .pool) (call .at) none (s .empties) (with-CR (begun s carry)) 0 true) [] r carry′ pool′ → Finish-goes-on
     unfolding unseen
     finish-found d e m =
         line-goes-on s carry [] [] [] call calls r carry′ pool′ (take (s .used) carry) none (s .empties) (with-CR (begun s carry)) 0 true [] m (g .options-is)
         (last-piece d false e)
         (λ k. same-unseen s carry carry′ [] (kept-begun s carry carry′ (omega (arith, g .big, g .small)) k))
-        (behind (ends-row (s .options) (answer-to (with-CR (begun s carry)) call))) g l
+        (behind (ends-row (s .options) (answer-to (stands-for (with-CR (begun s carry))) call))) g l
       where
         behind : (b : Bool) → unseen (past-line s 0 (number-behind s (s .empties)) true) carry′ [] ≡ (if b then [] else [])
         behind true = refl
@@ -341,13 +369,13 @@ module _ (options : ReaderOptions) where
         enough : too-small s carry ≡ false
         enough = big-enough s carry (g .big) (g .small)
 
-        by-empty : s .finished ≡ false → (b : Bool) → is-empty (with-CR (begun s carry)) ≡ b → Finish-goes-on
+        by-empty : s .finished ≡ false → (b : Bool) → is-empty (with-CR (begun s carry) .bytes) ≡ b → Finish-goes-on
         by-empty d true e = finish-none d e (rw (finish-on s carry (call .pool) (call .at) enough d true e) at m)
         by-empty d false e = finish-found d e (rw (finish-on s carry (call .pool) (call .at) enough d false e) at m)
 
         by-done : (t : Bool) → s .finished ≡ t → Finish-goes-on
         by-done true d = finish-ended d (rw (finish-over s carry (call .pool) (call .at) enough d) at m)
-        by-done false d = by-empty d (is-empty (with-CR (begun s carry))) refl
+        by-done false d = by-empty d (is-empty (with-CR (begun s carry) .bytes)) refl
 
   -- ---- the row
 

@@ -16,7 +16,8 @@ use Rattle.record.proofs.Tests.{or-true}
 use Rattle.reader.specs.Lines.{LF, CR, rest, Ended, with-CRLF, with-LF, with-text, Cut}
 use Rattle.reader.proofs.Cutting.{cut}
 use Rattle.reader.proofs.Searching.{tail-is, behind-inside, rest-behind, Cut-off}
-use Rattle.chunks.specs.Begun.{Begun, push, with-CR, add, seek}
+use Rattle.chunks.specs.Begun.{Kept, Begun, push, with-CR, add, seek}
+use Rattle.chunks.specs.Next.{kept-in}
 use Rattle.chunks.specs.Helpers.{held, Grown, Passed, ends-in-CR}
 use Rattle.chunks.proofs.Brief.{push-more, short-kept}
 use Rattle.chunks.proofs.Pass.{step-over}
@@ -29,19 +30,26 @@ seek-run [] start empties b no-LF = refl
 seek-run (c ∷ line) start empties b no-LF =
     step-over start empties b c line (λ e. no-LF (List·Memᴰ·head (sym e))) ∙ seek-run line start empties (add b c) (λ m. no-LF (List·Memᴰ·tail m))
 
-with-add : (b : Begun) (c : ℕ) → length (with-CR b) < 522 → with-CR (add b c) ≡ with-CR b ++ (c ∷ [])
+-- a line and some bytes behind it
+abbrev extended : Kept → List ℕ → Kept
+extended k line = record { bytes = k .bytes ++ line; skipped = k .skipped }
+
+with-add : (b : Begun) (c : ℕ) → length (with-CR b .bytes) < 522 → with-CR (add b c) ≡ extended (with-CR b) (c ∷ [])
 unfolding add
 with-add b c h = go (eqb c CR) refl
   where
-    go : (t : Bool) → eqb c CR ≡ t → with-CR (if t then record { kept = with-CR b; cr = true } else record { kept = push (with-CR b) c; cr = false }) ≡ with-CR b ++ (c ∷ [])
-    go true e = push-more (with-CR b) CR h ∙ ap (λ (x : ℕ). with-CR b ++ (x ∷ [])) (sym (eqb-true c CR e))
+    go : (t : Bool) → eqb c CR ≡ t → with-CR (if t then record { kept = with-CR b; cr = true } else record { kept = push (with-CR b) c; cr = false }) ≡ extended (with-CR b) (c ∷ [])
+    go true e = push-more (with-CR b) CR h ∙ ap (λ (x : ℕ). extended (with-CR b) (x ∷ [])) (sym (eqb-true c CR e))
     go false e = push-more (with-CR b) c h
 
-with-run : (line : List ℕ) (b : Begun) → length (with-CR b) + length line ≤ 522 → with-CR (foldl add b line) ≡ with-CR b ++ line
-with-run [] b h = sym (append-nil (with-CR b))
+extended-twice : (k : Kept) (xs ys : List ℕ) → extended (extended k xs) ys ≡ extended k (xs ++ ys)
+extended-twice k xs ys = ap (λ (l : List ℕ). record { bytes = l; skipped = k .skipped }) (append-assoc (k .bytes) xs ys)
+
+with-run : (line : List ℕ) (b : Begun) → length (with-CR b .bytes) + length line ≤ 522 → with-CR (foldl add b line) ≡ extended (with-CR b) line
+with-run [] b h = ap (λ (l : List ℕ). record { bytes = l; skipped = with-CR b .skipped }) (sym (append-nil (with-CR b .bytes)))
 with-run (c ∷ line) b h =
     let e = with-add b c (omega arith) in
-    with-run line (add b c) (rw e (simp length-append (omega arith))) ∙ ap (λ (x : List ℕ). x ++ line) e ∙ append-assoc (with-CR b) (c ∷ []) line
+    with-run line (add b c) (rw e (simp length-append (omega arith))) ∙ ap (λ (k : Kept). extended k line) e ∙ extended-twice (with-CR b) (c ∷ []) line
 
 foldl-last : (b : Begun) (line : List ℕ) (c : ℕ) → foldl add b (line ++ (c ∷ [])) ≡ add (foldl add b line) c
 foldl-last b [] c = refl
@@ -69,7 +77,7 @@ some-CR line e = go (ltb 0 (length line)) refl
         let z : _≡_ {A = Bool} false true = none-ends line (omega (arith, ltb-false 0 (length line) h)) ∙ e in
         let y : _≡_ {A = ℕ} 0 1 = cc in absurd (omega arith)
 
-module _ (kept line : List ℕ) (fits : length kept + length line ≤ 522) where
+module _ (kept : Kept) (line : List ℕ) (fits : length (kept .bytes) + length line ≤ 522) where
   b₀ : Begun
   b₀ = record { kept = kept; cr = false }
 
@@ -80,29 +88,30 @@ module _ (kept line : List ℕ) (fits : length kept + length line ≤ 522) where
   last-added : 0 < length line → foldl add b₀ line ≡ add (foldl add b₀ (take n line)) (getD line n 0)
   last-added h = ap (foldl add b₀) (front-last line h) ∙ foldl-last b₀ (take n line) (getD line n 0)
 
-  front-run : 0 < length line → with-CR (foldl add b₀ (take n line)) ≡ kept ++ take n line
+  front-run : 0 < length line → with-CR (foldl add b₀ (take n line)) ≡ extended kept (take n line)
   unfolding b₀ with-CR
   front-run h = with-run (take n line) b₀ (omega (arith, length-take-le n line (omega arith)))
 
-  run-CR : ends-in-CR line ≡ true → foldl add b₀ line ≡ record { kept = kept ++ take n line; cr = true }
+  run-CR : ends-in-CR line ≡ true → foldl add b₀ line ≡ record { kept = extended kept (take n line); cr = true }
   unfolding add
-  run-CR e = let l = some-CR line e in last-added l ∙ rw e (ap (λ (k : List ℕ). record { kept = k; cr = true }) (front-run l))
+  run-CR e = let l = some-CR line e in last-added l ∙ rw e (ap (λ (k : Kept). record { kept = k; cr = true }) (front-run l))
 
-  run-plain : ends-in-CR line ≡ false → foldl add b₀ line ≡ record { kept = kept ++ line; cr = false }
+  run-plain : ends-in-CR line ≡ false → foldl add b₀ line ≡ record { kept = extended kept line; cr = false }
   unfolding add b₀
   run-plain e = go (ltb 0 (length line)) refl
     where
-      go : (t : Bool) → ltb 0 (length line) ≡ t → foldl add b₀ line ≡ record { kept = kept ++ line; cr = false }
+      go : (t : Bool) → ltb 0 (length line) ≡ t → foldl add b₀ line ≡ record { kept = extended kept line; cr = false }
       go true h =
           let l = ltb-true 0 (length line) h in
-          let k : push (with-CR (foldl add b₀ (take n line))) (getD line n 0) ≡ kept ++ line =
-          ap (λ (x : List ℕ). push x (getD line n 0)) (front-run l)
-          ∙ push-more (kept ++ take n line) (getD line n 0) (simp (length-append, length-take-le n line (omega arith)) (omega arith))
-          ∙ append-assoc kept (take n line) (getD line n 0 ∷ []) ∙ ap (λ (x : List ℕ). kept ++ x) (sym (front-last line l)) in
-          last-added l ∙ rw e (ap (λ (x : List ℕ). record { kept = x; cr = false }) k)
+          let k : push (with-CR (foldl add b₀ (take n line))) (getD line n 0) ≡ extended kept line =
+          ap (λ (x : Kept). push x (getD line n 0)) (front-run l)
+          ∙ push-more (extended kept (take n line)) (getD line n 0) (simp (length-append, length-take-le n line (omega arith)) (omega arith))
+          ∙ extended-twice kept (take n line) (getD line n 0 ∷ []) ∙ ap (extended kept) (sym (front-last line l)) in
+          last-added l ∙ rw e (ap (λ (x : Kept). record { kept = x; cr = false }) k)
       go false h =
           let e : line ≡ [] = none-is line (omega (arith, ltb-false 0 (length line) h)) in
-          ap (foldl add b₀) e ∙ ap (λ (x : List ℕ). record { kept = x; cr = false }) (sym (append-nil kept) ∙ ap (λ (x : List ℕ). kept ++ x) (sym e))
+          ap (foldl add b₀) e
+          ∙ ap (λ (x : List ℕ). record { kept = record { bytes = x; skipped = kept .skipped }; cr = false }) (sym (append-nil (kept .bytes)) ∙ ap (λ (x : List ℕ). kept .bytes ++ x) (sym e))
 
 -- ---- a line that does not end in the text
 
@@ -128,7 +137,7 @@ take-over : (xs ys : List ℕ) (k : ℕ) → take (length xs + k) (xs ++ ys) ≡
 take-over [] ys k = ap (λ (n : ℕ). take n ys) (zero-add k)
 take-over (x ∷ xs) ys k = ap (λ (n : ℕ). take n (x ∷ (xs ++ ys))) (suc-add (length xs) k) ∙ ap (λ (l : List ℕ). x ∷ l) (take-over xs ys k)
 
-module _ (chunk : List ℕ) (position : ℕ) (carry : List ℕ) (used : ℕ) (line : List ℕ) (n : ℕ) (carry′ : List ℕ)
+module _ (chunk : List ℕ) (position : ℕ) (carry : List ℕ) (used skipped : ℕ) (line : List ℕ) (n : ℕ) (carry′ : List ℕ)
     (inside : position ≤ length chunk) (few : used ≤ 522) (big : 522 ≤ length carry)
     (known : Cut-off (take (length chunk - position) (drop position chunk)) line n) (fits : length line ≤ 522 - used)
     (copied : carry′ ≡ paste carry used line (length line)) where
@@ -152,7 +161,7 @@ module _ (chunk : List ℕ) (position : ℕ) (carry : List ℕ) (used : ℕ) (li
       ∙ ap (λ (m : ℕ). take (m + k) (take used carry ++ line)) (sym used-is)
       ∙ take-over (take used carry) line k
 
-  grown : (k : ℕ) → k ≤ length line → (m : ℕ) → m ≡ used + k → Grown carry used (take m carry′) m carry′
+  grown : (k : ℕ) → k ≤ length line → (m : ℕ) → m ≡ used + k → Grown carry used (kept-in carry′ m skipped) m skipped carry′
   grown k h m e =
       record {
         holds = refl;
@@ -182,21 +191,21 @@ module _ (chunk : List ℕ) (position : ℕ) (carry : List ℕ) (used : ℕ) (li
         ∙ ap₂ (λ (c : ℕ) (k : ℕ). c ∷ drop k chunk) at-feed j
         ∙ ap (λ (l : List ℕ). LF ∷ l) (rest-behind chunk position ahead n (here .place))
 
-    whole-is : whole (held carry used false) text ≡ take (used + length line) carry′
+    whole-is : whole (held carry used skipped false) text ≡ kept-in carry′ (used + length line) skipped
     unfolding waiting
     whole-is =
-        ap (foldl push (take used carry)) (sym (here .first))
-        ∙ short-kept (take used carry) line (omega (arith, used-is))
-        ∙ sym (taken (length line) (omega arith) ∙ ap (λ (l : List ℕ). take used carry ++ l) (take-length line))
+        ap (foldl push (kept-in carry used skipped)) (sym (here .first))
+        ∙ short-kept line (kept-in carry used skipped) (omega (arith, used-is))
+        ∙ ap (λ (l : List ℕ). record { bytes = l; skipped = skipped }) (sym (taken (length line) (omega arith) ∙ ap (λ (l : List ℕ). take used carry ++ l) (take-length line)))
 
-    pub gathered-line : Passed chunk position (held carry used false) (position + n - 1) (held carry′ (used + length line) false)
-        × Grown carry used (take (used + length line) carry′) (used + length line) carry′
+    pub gathered-line : Passed chunk position (held carry used skipped false) (position + n - 1) (held carry′ (used + length line) skipped false)
+        × Grown carry used (kept-in carry′ (used + length line) skipped) (used + length line) skipped carry′
     gathered-line = (
       record {
         goes-on = λ start empties.
-            feed-in text start empties (held carry used false) has
-            ∙ ap (λ (l : List ℕ). settled start empties l (rest text)) whole-is
-            ∙ sym (ap (seek start empties (held carry′ (used + length line) false)) behind-chunk ∙ at-LF start empties (held carry′ (used + length line) false) LF (rest text) refl);
+            feed-in text start empties (held carry used skipped false) has
+            ∙ ap (λ (k : Kept). settled start empties k (rest text)) whole-is
+            ∙ sym (ap (seek start empties (held carry′ (used + length line) skipped false)) behind-chunk ∙ at-LF start empties (held carry′ (used + length line) skipped false) LF (rest text) refl);
         from = omega arith;
         inside = omega (arith, behind-inside chunk position ahead n (here .place));
         feed = λ _. at-feed;
@@ -218,12 +227,12 @@ module _ (chunk : List ℕ) (position : ℕ) (carry : List ℕ) (used : ℕ) (li
     none-behind : drop (position + n) chunk ≡ []
     none-behind = drop-of-length-le chunk {i = position + n} (omega (arith, at-end))
 
-    open-passed : (m : ℕ) (w : Bool) → foldl add (held carry used false) line ≡ held carry′ m w → Passed chunk position (held carry used false) (position + n) (held carry′ m w)
+    open-passed : (m : ℕ) (w : Bool) → foldl add (held carry used skipped false) line ≡ held carry′ m skipped w → Passed chunk position (held carry used skipped false) (position + n) (held carry′ m skipped w)
     open-passed m w e =
         record {
           goes-on = λ start empties.
-              ap (seek start empties (held carry used false)) text-is
-              ∙ seek-run line start empties (held carry used false) (cuts .no-LF)
+              ap (seek start empties (held carry used skipped false)) text-is
+              ∙ seek-run line start empties (held carry used skipped false) (cuts .no-LF)
               ∙ ap₂ (seek start empties) e (sym none-behind);
           from = omega arith;
           inside = omega (arith, at-end);
@@ -233,24 +242,24 @@ module _ (chunk : List ℕ) (position : ℕ) (carry : List ℕ) (used : ℕ) (li
     fits-in : length (take used carry) + length line ≤ 522
     fits-in = omega (arith, used-is)
 
-    pub gathered-plain : ends-in-CR line ≡ false → Passed chunk position (held carry used false) (position + n) (held carry′ (used + length line) false)
-        × Grown carry used (take (used + length line) carry′) (used + length line) carry′
+    pub gathered-plain : ends-in-CR line ≡ false → Passed chunk position (held carry used skipped false) (position + n) (held carry′ (used + length line) skipped false)
+        × Grown carry used (kept-in carry′ (used + length line) skipped) (used + length line) skipped carry′
     unfolding b₀
     gathered-plain e = (
       open-passed (used + length line) false
-          (run-plain (take used carry) line fits-in e
-          ∙ ap (λ (k : List ℕ). record { kept = k; cr = false }) (sym (taken (length line) (omega arith) ∙ ap (λ (l : List ℕ). take used carry ++ l) (take-length line)))),
+          (run-plain (kept-in carry used skipped) line fits-in e
+          ∙ ap (λ (l : List ℕ). record { kept = record { bytes = l; skipped = skipped }; cr = false }) (sym (taken (length line) (omega arith) ∙ ap (λ (l : List ℕ). take used carry ++ l) (take-length line)))),
       grown (length line) (omega arith) (used + length line) refl,
     )
 
-    pub gathered-CR : ends-in-CR line ≡ true → Passed chunk position (held carry used false) (position + n) (held carry′ (used + length line - 1) true)
-        × Grown carry used (take (used + length line - 1) carry′) (used + length line - 1) carry′
+    pub gathered-CR : ends-in-CR line ≡ true → Passed chunk position (held carry used skipped false) (position + n) (held carry′ (used + length line - 1) skipped true)
+        × Grown carry used (kept-in carry′ (used + length line - 1) skipped) (used + length line - 1) skipped carry′
     unfolding b₀
     gathered-CR e =
         let l = some-CR line e in
         let m : used + length line - 1 ≡ used + (length line - 1) = omega arith in (
           open-passed (used + length line - 1) true
-              (run-CR (take used carry) line fits-in e
-              ∙ ap (λ (k : List ℕ). record { kept = k; cr = true }) (sym (ap (λ (j : ℕ). take j carry′) m ∙ taken (length line - 1) (omega arith)))),
+              (run-CR (kept-in carry used skipped) line fits-in e
+              ∙ ap (λ (l : List ℕ). record { kept = record { bytes = l; skipped = skipped }; cr = true }) (sym (ap (λ (j : ℕ). take j carry′) m ∙ taken (length line - 1) (omega arith)))),
           grown (length line - 1) (omega arith) (used + length line - 1) m,
         )

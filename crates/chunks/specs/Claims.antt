@@ -1,6 +1,7 @@
 -- What is claimed of the chunk reader beyond its contracts, and proved in `proofs/Claims.antt` and `proofs/Calls.antt`.
 -- Assumes nothing.
 use Prim.Native.Nat.{ℕ, _+_, _-_, _^_, _≤_, _<_}
+use Prim.Native.String.{String}
 use mathlib.Core.Path.{_≡_}
 use mathlib.Core.Logic.{_≢_, _⊎_}
 use mathlib.Core.Bool.{true, false}
@@ -20,21 +21,25 @@ use Rattle.reader.specs.Calls.{Call, Given, Calls}
 use Rattle.chunks.specs.declared.Chunks.{Chunks}
 use Rattle.chunks.specs.declared.Place.{Place}
 use Rattle.chunks.specs.declared.ChunkStep.{ChunkStep}
-use Rattle.chunks.specs.Begun.{nothing, brief, ended, unended, look}
+use Rattle.chunks.specs.Begun.{Kept, nothing, brief, stands-for, ended, unended, look}
 use Rattle.chunks.specs.Next.{tells, word-of, is-record, new-chunks, at-place, Outcome, unchanged, next-outcome, finish-outcome, NextChunk, Finish, NewChunks, Shown}
 use Rattle.chunks.specs.Rows.{joined, Seen, Fed, numbered, showing}
+
+-- a line that is kept as it is
+abbrev pub whole : String → Kept
+whole s = record { bytes = text s; skipped = 0 }
 
 -- Some cuts. An end record is cut from its LF behind its CR, which waits; the LF comes, and the record has ended; a CR that waited is a byte
 -- of its line where another byte comes; and empty lines are passed and counted; the line behind them begins in this chunk.
 pub record Examples : Type 0 where
-  pub waits : look 0 nothing (text ":00000001FF" ++ (CR ∷ [])) ≡ unended 0 (record { kept = text ":00000001FF"; cr = true })
-  pub ends : look 0 (record { kept = text ":00000001FF"; cr = true }) (LF ∷ text ":02") ≡ ended none 0 (text ":00000001FF") (text ":02")
-  pub belongs : look 0 (record { kept = text ":"; cr = true }) (text "0" ++ (LF ∷ [])) ≡ ended none 0 (58 ∷ CR ∷ 48 ∷ []) []
-  pub passes : look 0 nothing (LF ∷ CR ∷ LF ∷ (text ":0" ++ (LF ∷ []))) ≡ ended (some (text ":0" ++ (LF ∷ []))) 2 (text ":0") []
+  pub waits : look 0 nothing (text ":00000001FF" ++ (CR ∷ [])) ≡ unended 0 (record { kept = whole ":00000001FF"; cr = true })
+  pub ends : look 0 (record { kept = whole ":00000001FF"; cr = true }) (LF ∷ text ":02") ≡ ended none 0 (whole ":00000001FF") (text ":02")
+  pub belongs : look 0 (record { kept = whole ":"; cr = true }) (text "0" ++ (LF ∷ [])) ≡ ended none 0 (record { bytes = 58 ∷ CR ∷ 48 ∷ []; skipped = 0 }) []
+  pub passes : look 0 nothing (LF ∷ CR ∷ LF ∷ (text ":0" ++ (LF ∷ []))) ≡ ended (some (text ":0" ++ (LF ∷ []))) 2 (whole ":0") []
 
 -- what is kept of a line is judged as the line is
 abbrev pub Judged-as-kept : Type 0
-Judged-as-kept = (line : List ℕ) → judge (brief line) ≡ judge line
+Judged-as-kept = (line : List ℕ) → judge (stands-for (brief line)) ≡ judge line
 
 -- ---- rows of answers
 

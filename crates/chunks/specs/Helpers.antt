@@ -9,7 +9,9 @@ use mathlib.Core.List.{List}
 use lib.Dec.{eqb}
 use lib.ListN.{length, take, drop, getD}
 use Rattle.record.specs.Common.{if_then_else_}
-use Rattle.reader.specs.Told.{Told}
+use Rattle.record.specs.Refusals.{Refusal, refusal, contains-invalid-characters}
+use Rattle.record.specs.Line.{named}
+use Rattle.reader.specs.Told.{Told, gives, refuses, done}
 use Rattle.reader.specs.Lines.{LF, CR}
 use Rattle.reader.specs.Text.{is-full, ends-row}
 use Rattle.chunks.specs.declared.Chunks.{Chunks}
@@ -19,16 +21,16 @@ use Rattle.chunks.specs.declared.ChunkReply.{ChunkReply}
 use Rattle.chunks.specs.declared.ChunkStep.{ChunkStep}
 use Rattle.chunks.specs.declared.Cut.{Cut}
 use Rattle.chunks.specs.declared.Cut.the-variants.{Whole, Open}
-use Rattle.chunks.specs.Begun.{Begun, nothing, brief, Sought, ended, seek}
-use Rattle.chunks.specs.Next.{tells, word-of, is-record, past-line}
+use Rattle.chunks.specs.Begun.{Kept, Begun, nothing, brief, Sought, ended, seek}
+use Rattle.chunks.specs.Next.{tells, word-of, is-record, kept-in, past-line}
 
--- the carry's first bytes, and a CR that waits
-abbrev pub held : (carry : List ℕ) (used : ℕ) (cr : Bool) → Begun
-held carry used cr = record { kept = take used carry; cr = cr }
+-- what a carry keeps, and a CR that waits
+abbrev pub held : (carry : List ℕ) (used skipped : ℕ) (cr : Bool) → Begun
+held carry used skipped cr = record { kept = kept-in carry used skipped; cr = cr }
 
--- the carry holds `kept` now; what it held before is its front, unless it is full
-pub record Grown (carry : List ℕ) (used : ℕ) (kept : List ℕ) (used′ : ℕ) (carry′ : List ℕ) : Type 0 where
-  pub holds : take used′ carry′ ≡ kept
+-- the carry keeps this now; what it held before is its front, unless it is full
+pub record Grown (carry : List ℕ) (used : ℕ) (kept : Kept) (used′ skipped′ : ℕ) (carry′ : List ℕ) : Type 0 where
+  pub holds : kept-in carry′ used′ skipped′ ≡ kept
   pub within : used′ ≤ 522
   pub more : used ≤ used′
   pub earlier : used′ < 522 → take used carry′ ≡ take used carry
@@ -63,6 +65,19 @@ pub record OpenLine (chunk : List ℕ) (position empties from empties′ : ℕ) 
 abbrev pub CutAt : (chunk : List ℕ) (position empties : ℕ) → Cut → Type 0
 CutAt chunk position empties (Whole from len next empties′) = WholeLine chunk position empties from len next empties′
 CutAt chunk position empties (Open from empties′) = OpenLine chunk position empties from empties′
+
+-- the place in its line of a byte at a place of those that are kept: the last of 522 has so many more ahead of it there
+abbrev pub in-line : (skipped place : ℕ) → ℕ
+in-line n place = if eqb place 521 then named (521 + n) else place
+
+-- a refusal of the bytes that are kept as one of their line
+abbrev pub moved : (skipped : ℕ) → Refusal → Refusal
+moved n (refusal number values) = if eqb number 2 then contains-invalid-characters (in-line n (getD values 0 0)) else refusal number values
+
+abbrev pub told-moved : (skipped : ℕ) → Told → Told
+told-moved n (gives kind numbers) = gives kind numbers
+told-moved n (refuses r) = refuses (moved n r)
+told-moved n done = done
 
 -- an answer to a line, with the state that it leaves
 pub record Settles (s : Chunks) (t : Told) (position line : ℕ) (last : Bool) (lies : Place) (r : ChunkStep) : Type 0 where

@@ -22,7 +22,7 @@ use Rattle.chunks.specs.declared.Place.the-variants.{Nowhere, InChunk, I
 use Rattle.chunks.specs.declared.ChunkReply.{ChunkReply}
 use Rattle.chunks.specs.declared.ChunkReply.the-variants.{Read, Refused, UsedUp, Done, CarryTooSmall}
 use Rattle.chunks.specs.declared.ChunkStep.{ChunkStep}
-use Rattle.chunks.specs.Begun.{Begun, is-empty, with-CR, counted, Sought, ended, unended, look}
+use Rattle.chunks.specs.Begun.{Kept, Begun, is-empty, stands-for, with-CR, counted, Sought, ended, unended, look}
 
 -- ---- answers
 
@@ -47,26 +47,52 @@ is-record done = false
 
 -- at the beginning of any text
 abbrev pub new-chunks : ReaderOptions → Chunks
-new-chunks options = record { position = 0; line = 0; empties = 0; used = 0; cr = false; finished = false; options = options }
+new-chunks options = record { position = 0; line = 0; empties = 0; used = 0; skipped = 0; cr = false; finished = false; options = options }
+
+-- what a carry keeps of a line in its first bytes
+abbrev pub kept-in : (carry : List ℕ) (used skipped : ℕ) → Kept
+kept-in carry used skipped = record { bytes = take used carry; skipped = skipped }
+
+-- how many were left out: none of a line of which fewer than 522 bytes are used
+abbrev pub left-out : Chunks → ℕ
+left-out s = if ltb (s .used) 522 then 0 else s .skipped
 
 -- the line that a state and its carry hold
 abbrev pub begun : Chunks → (carry : List ℕ) → Begun
-begun s carry = record { kept = take (s .used) carry; cr = s .cr }
+begun s carry = record { kept = kept-in carry (s .used) (left-out s); cr = s .cr }
 
 -- with a line begun, at the front of the next chunk
 abbrev pub holding : Chunks → (empties : ℕ) → Begun → Chunks
 holding s empties b =
-    record { position = 0; line = s .line; empties = empties; used = length (b .kept); cr = b .cr; finished = false; options = s .options }
+    record {
+      position = 0;
+      line = s .line;
+      empties = empties;
+      used = length (b .kept .bytes);
+      skipped = b .kept .skipped;
+      cr = b .cr;
+      finished = false;
+      options = s .options;
+    }
 
 -- behind a line that was answered: `line` is its number
 abbrev pub past-line : Chunks → (position line : ℕ) (finished : Bool) → Chunks
 past-line s position line finished =
-    record { position = position; line = line; empties = 0; used = 0; cr = false; finished = finished; options = s .options }
+    record { position = position; line = line; empties = 0; used = 0; skipped = 0; cr = false; finished = finished; options = s .options }
 
 -- at the text's end: all else stays
 abbrev pub over : Chunks → Chunks
 over s =
-    record { position = s .position; line = s .line; empties = s .empties; used = s .used; cr = s .cr; finished = true; options = s .options }
+    record {
+      position = s .position;
+      line = s .line;
+      empties = s .empties;
+      used = s .used;
+      skipped = s .skipped;
+      cr = s .cr;
+      finished = true;
+      options = s .options;
+    }
 
 -- the number of the line that stands behind the last one answered and some empty ones
 abbrev pub number-behind : Chunks → (empties : ℕ) → ℕ
@@ -81,14 +107,14 @@ at-place (InChunk from len) chunk carry = take len (drop from chunk)
 at-place (InCarry len) chunk carry = take len carry
 
 -- a line begun in this chunk lies in the chunk, an older one in the carry
-unfoldable pub place : (chunk : List ℕ) (start : Option (List ℕ)) (kept : List ℕ) → Place
-place chunk (some text) kept = InChunk (length chunk - length text) (length kept)
-place chunk none kept = InCarry (length kept)
+unfoldable pub place : (chunk : List ℕ) (start : Option (List ℕ)) (line : List ℕ) → Place
+place chunk (some text) line = InChunk (length chunk - length text) (length line)
+place chunk none line = InCarry (length line)
 
 -- what such a line leaves at the carry's front
-unfoldable pub in-carry : (start : Option (List ℕ)) (kept : List ℕ) → List ℕ
-in-carry (some text) kept = []
-in-carry none kept = kept
+unfoldable pub in-carry : (start : Option (List ℕ)) → Kept → List ℕ
+in-carry (some text) k = []
+in-carry none k = k .bytes
 
 -- ---- outcomes
 
@@ -107,19 +133,20 @@ unfoldable pub unchanged : Word → Chunks → (carry pool : List ℕ) → Outco
 unchanged w s carry pool = record { word = w; state = s; lies = Nowhere; shows = []; carried = carry; pool = pool }
 
 -- a line is answered: PoolFull keeps the state and the used bytes of the carry
-unfoldable pub answered-line : Chunks → (used chunk pool : List ℕ) (at : ℕ) (start : Option (List ℕ)) (empties : ℕ) (kept : List ℕ) (position : ℕ) (last : Bool) → Outcome
-unfolding is-full ends-row is-record place in-carry
-answered-line s used chunk pool at start empties kept position last =
-    let t = answered (judge kept) (length pool) at in
+unfoldable pub answered-line : Chunks → (used chunk pool : List ℕ) (at : ℕ) (start : Option (List ℕ)) (empties : ℕ) → Kept → (position : ℕ) (last : Bool) → Outcome
+unfolding is-full ends-row is-record place in-carry stands-for
+answered-line s used chunk pool at start empties k position last =
+    let line = stands-for k in
+    let t = answered (judge line) (length pool) at in
     if is-full t
     then record { word = tells t; state = s; lies = Nowhere; shows = []; carried = used; pool = pool }
     else record {
       word = tells t;
       state = past-line s position (number-behind s empties) (last || ends-row (s .options) t);
-      lies = if is-record t then place chunk start kept else Nowhere;
-      shows = if is-record t then kept else [];
-      carried = in-carry start kept;
-      pool = poured (judge kept) pool at;
+      lies = if is-record t then place chunk start line else Nowhere;
+      shows = if is-record t then line else [];
+      carried = in-carry start k;
+      pool = poured (judge line) pool at;
     }
 
 unfoldable pub of-sought : Chunks → (used chunk pool : List ℕ) (at : ℕ) → Sought → Outcome
@@ -127,7 +154,7 @@ unfolding answered-line
 of-sought s used chunk pool at (ended start empties kept rest) =
     answered-line s used chunk pool at start empties kept (length chunk - length rest) false
 of-sought s used chunk pool at (unended empties b) =
-    record { word = used-up; state = holding s empties b; lies = Nowhere; shows = []; carried = b .kept; pool = pool }
+    record { word = used-up; state = holding s empties b; lies = Nowhere; shows = []; carried = b .kept .bytes; pool = pool }
 
 -- refusal 18, before all others: a carry under 522 bytes, or a state that counts more than 522 used
 unfoldable pub too-small : Chunks → (carry : List ℕ) → Bool
@@ -146,7 +173,7 @@ unfolding too-small unchanged answered-line is-empty with-CR
 finish-outcome s carry pool at =
     if too-small s carry then unchanged (tells (refuses carry-too-small)) s carry pool else
     if s .finished then unchanged (tells done) s carry pool else
-    if is-empty (with-CR (begun s carry))
+    if is-empty (with-CR (begun s carry) .bytes)
     then record { word = tells done; state = over s; lies = Nowhere; shows = []; carried = []; pool = pool }
     else answered-line s (take (s .used) carry) [] pool at none (s .empties) (with-CR (begun s carry)) 0 true
 

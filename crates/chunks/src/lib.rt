@@ -7,15 +7,17 @@ ghost use mathlib.Core.Path.{_≡_};
 ghost use mathlib.Core.Bool.{false, _||_};
 ghost use mathlib.Core.List.{[]};
 ghost use mathlib.Core.Option.{none};
-ghost use Prim.Native.Nat.{_+_, _≤_};
+ghost use Prim.Native.Nat.{suc, _+_, _≤_};
 ghost use lib.ListN.{length, take, drop};
 ghost use lib.Seq.{paste};
 ghost use Rattle.record.specs.Digits.{is-digit};
-ghost use Rattle.reader.specs.Told.{told};
+ghost use Rattle.record.specs.Line.{named, judge};
+ghost use Rattle.reader.specs.Told.{refusal-of, told};
+ghost use Rattle.reader.specs.Answer.{Reads};
 ghost use Rattle.reader.specs.Text.{default-options};
-ghost use Rattle.chunks.specs.Begun.{seek, push as pushed, with-CR, add as added};
-ghost use Rattle.chunks.specs.Next.{begun, holding, past-line, over, number-behind, of-sought, Meets, NextChunk, Finish, NewChunks, PartOf, Shown};
-ghost use Rattle.chunks.specs.Helpers.{held, Grown, Passed, ends-in-CR, seek-at, CutAt, Settles, Plain, Within};
+ghost use Rattle.chunks.specs.Begun.{seek, stands-for, push as pushed, with-CR, add as added};
+ghost use Rattle.chunks.specs.Next.{kept-in, left-out, begun, holding, past-line, over, number-behind, of-sought, Meets, NextChunk, Finish, NewChunks, PartOf, Shown};
+ghost use Rattle.chunks.specs.Helpers.{held, Grown, Passed, ends-in-CR, seek-at, CutAt, in-line, moved, told-moved, Settles, Plain, Within};
 
 // Where a reader of chunks stands.
 pub struct Chunks {
@@ -24,8 +26,10 @@ pub struct Chunks {
     // The number of the line that was answered last, and how many empty lines were passed behind it.
     pub line: usize,
     pub empties: usize,
-    // The line that is begun: so many bytes of the carry, and a CR behind them where `cr` is set.
+    // The line that is begun: so many bytes of the carry, and a CR behind them where `cr` is set. Of a line over 522 bytes so many
+    // digits, 65,535 for any number beyond that, were left out ahead of the last one that the carry holds.
     pub used: usize,
+    pub skipped: u16,
     pub cr: bool,
     // Only "done" is answered, or 18.
     pub finished: bool,
@@ -58,9 +62,16 @@ pub struct ChunkStep {
     pub lies: Place,
 }
 
-// What the carry holds.
+// How much of a line the carry holds, and how much was left out.
+struct Taken {
+    used: usize,
+    skipped: u16,
+}
+
+// The same, and whether a CR waits.
 struct Held {
     used: usize,
+    skipped: u16,
     cr: bool,
 }
 
@@ -68,6 +79,7 @@ struct Held {
 struct Gathered {
     position: usize,
     used: usize,
+    skipped: u16,
     cr: bool,
 }
 
@@ -132,54 +144,88 @@ fn is_digit(c: u8) -> bool
     c <= 102
 }
 
-// One byte more of the line in the carry. Behind 521 only one is kept: the first that is no digit, or the last.
-fn push(carry: &mut [u8], used: usize, c: u8) -> usize
+// One more, up to the greatest.
+fn one_more(n: u16) -> u16
+    ensures { λ r. ⌜ r ≡ named (suc n) ⌝ }
+{
+    if n == 65535 {
+        return n;
+    }
+    n + 1
+}
+
+// One byte more of the line in the carry. Behind 521 only one is kept: the first that is no digit, or the last. The digits that it
+// takes the place of are counted.
+fn push(carry: &mut [u8], used: usize, skipped: u16, c: u8) -> Taken
     requires { ⌜ (used ≤ 522) × (522 ≤ length (now carry)) ⌝ }
-    ensures { λ r. ⌜ Grown (now (carry .entry)) used (pushed (take used (now (carry .entry))) c) r (now (carry .exit)) ⌝ }
+    ensures { λ r. ⌜ Grown (now (carry .entry)) used (pushed (kept-in (now (carry .entry)) used skipped) c) (r .used) (r .skipped) (now (carry .exit)) ⌝ }
 {
     if used < 522 {
         carry[used] = c;
-        return used + 1;
+        return Taken {
+            used: used + 1,
+            skipped,
+        };
     }
     if is_digit(carry[521]) {
         carry[521] = c;
+        return Taken {
+            used,
+            skipped: one_more(skipped),
+        };
     }
-    used
+    Taken { used, skipped }
 }
 
 // The CR that waited is the line's.
-fn with_cr(carry: &mut [u8], used: usize, cr: bool) -> usize
+fn with_cr(carry: &mut [u8], used: usize, skipped: u16, cr: bool) -> Taken
     requires { ⌜ (used ≤ 522) × (522 ≤ length (now carry)) ⌝ }
-    ensures { λ r. ⌜ Grown (now (carry .entry)) used (with-CR (held (now (carry .entry)) used cr)) r (now (carry .exit)) ⌝ }
+    ensures { λ r. ⌜ Grown (now (carry .entry)) used (with-CR (held (now (carry .entry)) used skipped cr)) (r .used) (r .skipped) (now (carry .exit)) ⌝ }
 {
     if cr {
-        return push(carry, used, 13);
+        return push(carry, used, skipped, 13);
     }
-    used
+    Taken { used, skipped }
 }
 
 // A byte that is no LF.
-fn add(carry: &mut [u8], used: usize, cr: bool, c: u8) -> Held
+fn add(carry: &mut [u8], used: usize, skipped: u16, cr: bool, c: u8) -> Held
     requires { ⌜ (used ≤ 522) × (522 ≤ length (now carry)) ⌝ }
-    ensures { λ r. ⌜ Grown (now (carry .entry)) used (added (held (now (carry .entry)) used cr) c .kept) (r .used) (now (carry .exit)) ⌝ }
-    ensures { λ r. ⌜ r .cr ≡ added (held (now (carry .entry)) used cr) c .cr ⌝ }
+    ensures { λ r. ⌜ Grown (now (carry .entry)) used (added (held (now (carry .entry)) used skipped cr) c .kept) (r .used) (r .skipped) (now (carry .exit)) ⌝ }
+    ensures { λ r. ⌜ r .cr ≡ added (held (now (carry .entry)) used skipped cr) c .cr ⌝ }
 {
-    let n = with_cr(carry, used, cr);
+    let n = with_cr(carry, used, skipped, cr);
     if c == 13 {
-        return Held { used: n, cr: true };
+        return Held {
+            used: n.used,
+            skipped: n.skipped,
+            cr: true,
+        };
     }
-    let m = push(carry, n, c);
-    Held { used: m, cr: false }
+    let m = push(carry, n.used, n.skipped, c);
+    Held {
+        used: m.used,
+        skipped: m.skipped,
+        cr: false,
+    }
 }
 
 // Takes the chunk's bytes from a position into the carry one by one, up to a LF or the chunk's end.
-fn gather_bytes(chunk: &[u8], position: usize, carry: &mut [u8], used: usize, cr: bool) -> Gathered
+fn gather_bytes(
+    chunk: &[u8],
+    position: usize,
+    carry: &mut [u8],
+    used: usize,
+    skipped: u16,
+    cr: bool,
+) -> Gathered
     requires { ⌜ (position ≤ length (now chunk)) × (used ≤ 522) × (522 ≤ length (now carry)) ⌝ }
-    ensures { λ r. ⌜ Passed (now (chunk .entry)) position (held (now (carry .entry)) used cr) (r .position) (held (now (carry .exit)) (r .used) (r .cr)) ⌝ }
-    ensures { λ r. ⌜ Grown (now (carry .entry)) used (take (r .used) (now (carry .exit))) (r .used) (now (carry .exit)) ⌝ }
+    ensures { λ r. ⌜ Passed (now (chunk .entry)) position (held (now (carry .entry)) used skipped cr) (r .position) (held (now (carry .exit)) (r .used) (r .skipped) (r .cr)) ⌝ }
+    ensures { λ r. ⌜ Grown (now (carry .entry)) used (kept-in (now (carry .exit)) (r .used) (r .skipped)) (r .used) (r .skipped) (now (carry .exit)) ⌝ }
 {
     let mut i = position;
     let mut n = used;
+    let mut k = skipped;
     let mut w = cr;
     while i < chunk.len() {
         let c = chunk[i];
@@ -187,17 +233,20 @@ fn gather_bytes(chunk: &[u8], position: usize, carry: &mut [u8], used: usize, cr
             return Gathered {
                 position: i,
                 used: n,
+                skipped: k,
                 cr: w,
             };
         }
-        let h = add(carry, n, w, c);
+        let h = add(carry, n, k, w, c);
         n = h.used;
+        k = h.skipped;
         w = h.cr;
         i += 1;
     }
     Gathered {
         position: i,
         used: n,
+        skipped: k,
         cr: w,
     }
 }
@@ -224,22 +273,29 @@ fn ends_in_cr(line: &[u8]) -> bool
 }
 
 // The same as `gather_bytes`, but in one go where no CR waits, the line fits, and the chunk has bytes enough that it pays.
-fn gather(chunk: &[u8], position: usize, carry: &mut [u8], used: usize, cr: bool) -> Gathered
+fn gather(
+    chunk: &[u8],
+    position: usize,
+    carry: &mut [u8],
+    used: usize,
+    skipped: u16,
+    cr: bool,
+) -> Gathered
     requires { ⌜ (position ≤ length (now chunk)) × (used ≤ 522) × (522 ≤ length (now carry)) ⌝ }
-    ensures { λ r. ⌜ Passed (now (chunk .entry)) position (held (now (carry .entry)) used cr) (r .position) (held (now (carry .exit)) (r .used) (r .cr)) ⌝ }
-    ensures { λ r. ⌜ Grown (now (carry .entry)) used (take (r .used) (now (carry .exit))) (r .used) (now (carry .exit)) ⌝ }
+    ensures { λ r. ⌜ Passed (now (chunk .entry)) position (held (now (carry .entry)) used skipped cr) (r .position) (held (now (carry .exit)) (r .used) (r .skipped) (r .cr)) ⌝ }
+    ensures { λ r. ⌜ Grown (now (carry .entry)) used (kept-in (now (carry .exit)) (r .used) (r .skipped)) (r .used) (r .skipped) (now (carry .exit)) ⌝ }
 {
     if cr {
-        return gather_bytes(chunk, position, carry, used, cr);
+        return gather_bytes(chunk, position, carry, used, skipped, cr);
     }
     if chunk.len() - position < 16 {
-        return gather_bytes(chunk, position, carry, used, cr);
+        return gather_bytes(chunk, position, carry, used, skipped, cr);
     }
     let mut n = 0;
     let line = reader::first_line(&chunk[position..], &mut n);
     let len = line.len();
     if len > 522 - used {
-        return gather_bytes(chunk, position, carry, used, cr);
+        return gather_bytes(chunk, position, carry, used, skipped, cr);
     }
     copy(line, carry, used);
     let behind = position + n;
@@ -247,6 +303,7 @@ fn gather(chunk: &[u8], position: usize, carry: &mut [u8], used: usize, cr: bool
         return Gathered {
             position: behind - 1,
             used: used + len,
+            skipped,
             cr: false,
         };
     }
@@ -254,12 +311,14 @@ fn gather(chunk: &[u8], position: usize, carry: &mut [u8], used: usize, cr: bool
         return Gathered {
             position: behind,
             used: used + len - 1,
+            skipped,
             cr: true,
         };
     }
     Gathered {
         position: behind,
         used: used + len,
+        skipped,
         cr: false,
     }
 }
@@ -325,6 +384,7 @@ fn past_line(s: Chunks, position: usize, line: usize, finished: bool) -> Chunks
         line,
         empties: 0,
         used: 0,
+        skipped: 0,
         cr: false,
         finished,
         options,
@@ -340,6 +400,57 @@ fn plain(reply: ChunkReply, state: Chunks) -> ChunkStep
         state,
         lies: Place::Nowhere,
     }
+}
+
+// The place in a line of a byte at a place of the carry, with so many left out ahead of the last of 522.
+fn place_from(place: u16, skipped: u16) -> u16
+    ensures { λ r. ⌜ r ≡ in-line skipped place ⌝ }
+{
+    if place != 521 {
+        return place;
+    }
+    if skipped > 65014 {
+        return 65535;
+    }
+    521 + skipped
+}
+
+// A refusal of what a carry holds, as one of its line: one that names the carry's last byte names its place there.
+fn further(e: ReaderError, skipped: u16) -> ReaderError
+    ensures { λ r. ⌜ refusal-of r ≡ moved skipped (refusal-of e) ⌝ }
+{
+    match e {
+        ReaderError::ContainsInvalidCharacters(place) => {
+            ReaderError::ContainsInvalidCharacters(place_from(place, skipped))
+        }
+        ReaderError::MissingStartCode => e,
+        ReaderError::RecordTooShort => e,
+        ReaderError::RecordTooLong => e,
+        ReaderError::RecordNotEvenLength => e,
+        ReaderError::ChecksumMismatch(_, _) => e,
+        ReaderError::PayloadLengthMismatch => e,
+        ReaderError::UnsupportedRecordType(_) => e,
+        ReaderError::InvalidLengthForType => e,
+        ReaderError::PoolFull => e,
+    }
+}
+
+// The answer to what a carry holds, as the answer to its line.
+fn in_line(answer: Answer, skipped: u16) -> Answer
+    ensures { λ r. ⌜ told r ≡ told-moved skipped (told answer) ⌝ }
+{
+    if let Answer::Refused(e) = answer {
+        return Answer::Refused(further(e, skipped));
+    }
+    answer
+}
+
+// Reads the line of which these bytes are kept, with so many left out.
+fn read_kept(bytes: &[u8], skipped: u16, pool: &mut [u8], at: usize) -> Answer
+    requires { ⌜ length (now bytes) ≤ 522 ⌝ }
+    ensures { λ r. ⌜ Reads (judge (stands-for (record { bytes = now (bytes .entry); skipped = skipped }))) (now (pool .entry)) at r (now (pool .exit)) ⌝ }
+{
+    in_line(reader::read_record(bytes, pool, at), skipped)
 }
 
 // The reply to a line that was answered, and the state behind it; PoolFull does not use the line up.
@@ -377,8 +488,8 @@ fn settle(
 }
 
 // The chunk is used up, and the carry holds a line that is begun.
-fn used_up(s: Chunks, empties: usize, used: usize, cr: bool) -> ChunkStep
-    ensures { λ r. ⌜ Plain ChunkReply.UsedUp (record { position = 0; line = s .line; empties = empties; used = used; cr = cr; finished = false; options = s .options }) r ⌝ }
+fn used_up(s: Chunks, empties: usize, used: usize, skipped: u16, cr: bool) -> ChunkStep
+    ensures { λ r. ⌜ Plain ChunkReply.UsedUp (record { position = 0; line = s .line; empties = empties; used = used; skipped = skipped; cr = cr; finished = false; options = s .options }) r ⌝ }
 {
     let options = s.options;
     let state = Chunks {
@@ -386,6 +497,7 @@ fn used_up(s: Chunks, empties: usize, used: usize, cr: bool) -> ChunkStep
         line: s.line,
         empties,
         used,
+        skipped,
         cr,
         finished: false,
         options,
@@ -408,8 +520,8 @@ fn fresh(
 {
     match find(chunk, position, empties) {
         Cut::Open { from, empties: n } => {
-            let g = gather(chunk, from, carry, 0, false);
-            used_up(s, n, g.used, g.cr)
+            let g = gather(chunk, from, carry, 0, 0, false);
+            used_up(s, n, g.used, g.skipped, g.cr)
         }
         Cut::Whole {
             from,
@@ -431,6 +543,16 @@ fn fresh(
     }
 }
 
+// How many digits were left out of the line that is begun: none of a line of which fewer than 522 bytes are used.
+fn left_out(s: Chunks) -> u16
+    ensures { λ r. ⌜ r ≡ left-out s ⌝ }
+{
+    if s.used < 522 {
+        return 0;
+    }
+    s.skipped
+}
+
 // A line is begun: it is gathered in the carry and judged there. An empty one, whose CR was cut from its LF, is passed.
 fn older(
     s: Chunks,
@@ -443,18 +565,18 @@ fn older(
     requires { ⌜ (position ≤ length (now chunk)) × (s .used ≤ 522) × (522 ≤ length (now carry)) ⌝ }
     ensures { λ r. ⌜ Meets (of-sought s (take (s .used) (now (carry .entry))) (now (chunk .entry)) (now (pool .entry)) at (seek none (s .empties) (begun s (now (carry .entry))) (drop position (now (chunk .entry))))) (now (chunk .entry)) r (now (carry .exit)) (now (pool .exit)) ⌝ }
 {
-    let g = gather(chunk, position, carry, s.used, s.cr);
+    let g = gather(chunk, position, carry, s.used, left_out(s), s.cr);
     let feed = g.position;
     let used = g.used;
     if feed == chunk.len() {
-        return used_up(s, s.empties, used, g.cr);
+        return used_up(s, s.empties, used, g.skipped, g.cr);
     }
     let next = feed + 1;
     if used == 0 {
         let empties = std::num::wrapping_add_usize(s.empties, 1);
         return fresh(s, chunk, next, empties, carry, pool, at);
     }
-    let answer = reader::read_record(&carry[..used], pool, at);
+    let answer = read_kept(&carry[..used], g.skipped, pool, at);
     settle(
         s,
         answer,
@@ -485,6 +607,7 @@ fn over(s: Chunks) -> Chunks
         line: s.line,
         empties: s.empties,
         used: s.used,
+        skipped: s.skipped,
         cr: s.cr,
         finished: true,
         options,
@@ -508,6 +631,7 @@ impl Chunks {
             line: 0,
             empties: 0,
             used: 0,
+            skipped: 0,
             cr: false,
             finished: false,
             options,
@@ -550,11 +674,12 @@ impl Chunks {
         if self.finished {
             return plain(ChunkReply::Done, self);
         }
-        let used = with_cr(carry, self.used, self.cr);
+        let taken = with_cr(carry, self.used, left_out(self), self.cr);
+        let used = taken.used;
         if used == 0 {
             return plain(ChunkReply::Done, over(self));
         }
-        let answer = reader::read_record(&carry[..used], pool, at);
+        let answer = read_kept(&carry[..used], taken.skipped, pool, at);
         settle(
             self,
             answer,

@@ -28,16 +28,16 @@ place-is Nowhere x = rw (x .lies-is)
 place-is (InChunk from len) x = rw (x .lies-is, x .from-is, x .len-is)
 place-is (InCarry len) x = rw (x .lies-is, x .len-is)
 
-module _ {step : ChunkStep} {r position line empties used flags lies from len a b c : ℕ} where
+module _ {step : ChunkStep} {r position line empties used skipped flags lies from len a b c : ℕ} where
   pub chunk-read : (o : Outcome) (chunk : List ℕ) {carry′ pool′ : List ℕ}
-      → Meets o chunk step carry′ pool′ → TellStep step r position line empties used flags lies from len a b c
-      → Chunk-read o chunk r position line empties used flags lies from len a b c carry′ pool′
+      → Meets o chunk step carry′ pool′ → TellStep step r position line empties used skipped flags lies from len a b c
+      → Chunk-read o chunk r position line empties used skipped flags lies from len a b c carry′ pool′
   chunk-read o chunk {carry′} m t =
       record {
         answer = subst (λ (w : Word). Numbers (reading-chunk w) r a b c) (m .answer) (t .answer);
         stands =
-            subst (λ (p : Place). Stands (o .state) p position line empties used flags lies from len) (m .lies)
-            (subst (λ (s : Chunks). Stands s (step .lies) position line empties used flags lies from len) (m .state) (t .stands));
+            subst (λ (p : Place). Stands (o .state) p position line empties used skipped flags lies from len) (m .lies)
+            (subst (λ (s : Chunks). Stands s (step .lies) position line empties used skipped flags lies from len) (m .state) (t .stands));
         shows = ap (λ (p : Place). at-place p chunk carry′) (place-is (step .lies) (t .stands .spot)) ∙ m .shows;
         carry = m .carry;
         left = m .left;
@@ -45,7 +45,7 @@ module _ {step : ChunkStep} {r position line empties used flags lies from len a 
 
 -- ---- nothing is lost in numbers
 
-module _ (position line empties used : ℕ) where
+module _ (position line empties used skipped : ℕ) where
   abbrev state-with : (first eof finished cr : Bool) → Chunks
   state-with first eof finished cr =
       record {
@@ -53,13 +53,14 @@ module _ (position line empties used : ℕ) where
         line = line;
         empties = empties;
         used = used;
+        skipped = skipped;
         cr = cr;
         finished = finished;
         options = record { «stop_after_first_error» = first; «stop_after_eof» = eof };
       }
 
   flags-return : (first eof finished cr : Bool)
-      → chunks-of position line empties used (chunk-flags-of (state-with first eof finished cr)) ≡ state-with first eof finished cr
+      → chunks-of position line empties used skipped (chunk-flags-of (state-with first eof finished cr)) ≡ state-with first eof finished cr
   flags-return true true true true = refl
   flags-return true true true false = refl
   flags-return true true false true = refl
@@ -79,7 +80,7 @@ module _ (position line empties used : ℕ) where
 
 pub state-returns : State-returns
 state-returns s =
-    flags-return (s .position) (s .line) (s .empties) (s .used) (s .options .«stop_after_first_error») (s .options .«stop_after_eof») (s .finished) (s .cr)
+    flags-return (s .position) (s .line) (s .empties) (s .used) (s .skipped) (s .options .«stop_after_first_error») (s .options .«stop_after_eof») (s .finished) (s .cr)
 
 pub place-returns : Place-returns
 place-returns p = place-is p (record { lies-is = refl; from-is = refl; len-is = refl })
@@ -87,7 +88,7 @@ place-returns p = place-is p (record { lies-is = refl; from-is = refl; len-is = 
 -- ---- refusal 18
 
 all-kept : (x : Outcome) (chunk carry pool : List ℕ) → x .carried ≡ carry → x .pool ≡ pool → Unchanged-by x chunk carry pool
-all-kept x chunk carry pool g h r i l e u f w o n a b c k p same y =
+all-kept x chunk carry pool g h r i l e u m f w o n a b c k p same y =
     (sym (take-all (length carry) k (omega arith)) ∙ rw g at (y .carry), y .left ∙ h)
 
 pub too-small-keeps : Too-small-keeps

@@ -29,11 +29,11 @@ ihex-next-unique s text pool at r i l f a b c p r′ i′ l′ f′ a′ b′ c�
 )
 
 one-chunk-read : (x : Outcome) (chunk : List ℕ) → One-chunk-read x chunk
-one-chunk-read x chunk r i l e u f w o n a b c k p r′ i′ l′ e′ u′ f′ w′ o′ n′ a′ b′ c′ k′ p′ y z =
+one-chunk-read x chunk r i l e u m f w o n a b c k p r′ i′ l′ e′ u′ m′ f′ w′ o′ n′ a′ b′ c′ k′ p′ y z =
     let g = y .stands in
     let h = z .stands in (
       same-numbers (y .answer) (z .answer),
-      (g .position-is ∙ sym (h .position-is), g .line-is ∙ sym (h .line-is), g .empties-is ∙ sym (h .empties-is), g .used-is ∙ sym (h .used-is), g .flags-is ∙ sym (h .flags-is)),
+      (g .position-is ∙ sym (h .position-is), g .line-is ∙ sym (h .line-is), g .empties-is ∙ sym (h .empties-is), g .used-is ∙ sym (h .used-is), g .skipped-is ∙ sym (h .skipped-is), g .flags-is ∙ sym (h .flags-is)),
       (g .spot .lies-is ∙ sym (h .spot .lies-is), g .spot .from-is ∙ sym (h .spot .from-is), g .spot .len-is ∙ sym (h .spot .len-is)),
       y .carry ∙ sym (z .carry),
       y .left ∙ sym (z .left),

@@ -36,9 +36,9 @@ Ihex-next-unique =
 -- an outcome of a reader of chunks fixes all but the carry's bytes behind `carried`
 abbrev pub One-chunk-read : Outcome → (chunk : List ℕ) → Type 0
 One-chunk-read x chunk =
-    (r i l e u f w o n a b c : ℕ) (k p : List ℕ) (r′ i′ l′ e′ u′ f′ w′ o′ n′ a′ b′ c′ : ℕ) (k′ p′ : List ℕ)
-    → Chunk-read x chunk r i l e u f w o n a b c k p → Chunk-read x chunk r′ i′ l′ e′ u′ f′ w′ o′ n′ a′ b′ c′ k′ p′
-    → ((r ≡ r′) × (a ≡ a′) × (b ≡ b′) × (c ≡ c′)) × ((i ≡ i′) × (l ≡ l′) × (e ≡ e′) × (u ≡ u′) × (f ≡ f′)) × ((w ≡ w′) × (o ≡ o′) × (n ≡ n′))
+    (r i l e u m f w o n a b c : ℕ) (k p : List ℕ) (r′ i′ l′ e′ u′ m′ f′ w′ o′ n′ a′ b′ c′ : ℕ) (k′ p′ : List ℕ)
+    → Chunk-read x chunk r i l e u m f w o n a b c k p → Chunk-read x chunk r′ i′ l′ e′ u′ m′ f′ w′ o′ n′ a′ b′ c′ k′ p′
+    → ((r ≡ r′) × (a ≡ a′) × (b ≡ b′) × (c ≡ c′)) × ((i ≡ i′) × (l ≡ l′) × (e ≡ e′) × (u ≡ u′) × (m ≡ m′) × (f ≡ f′)) × ((w ≡ w′) × (o ≡ o′) × (n ≡ n′))
     × (take (length (x .carried)) k ≡ take (length (x .carried)) k′) × (p ≡ p′)
 
 abbrev pub Ihex-next-chunk-unique : Type 0
@@ -74,7 +74,7 @@ Ihex-load-unique =
 
 -- a state and a place are what their numbers say: nothing is lost from one call to the next
 abbrev pub State-returns : Type 0
-State-returns = (s : Chunks) → chunks-of (s .position) (s .line) (s .empties) (s .used) (chunk-flags-of s) ≡ s
+State-returns = (s : Chunks) → chunks-of (s .position) (s .line) (s .empties) (s .used) (s .skipped) (chunk-flags-of s) ≡ s
 
 abbrev pub Place-returns : Type 0
 Place-returns = (p : Place) → place-of (lies-of p) (from-of p) (len-of p) ≡ p
@@ -82,7 +82,7 @@ Place-returns = (p : Place) → place-of (lies-of p) (from-of p) (len-of p) ≡ 
 -- refusal 18 leaves the carry and the pool as they were, every byte
 abbrev pub Unchanged-by : Outcome → (chunk carry pool : List ℕ) → Type 0
 Unchanged-by x chunk carry pool =
-    (r i l e u f w o n a b c : ℕ) (k p : List ℕ) → length k ≡ length carry → Chunk-read x chunk r i l e u f w o n a b c k p → (k ≡ carry) × (p ≡ pool)
+    (r i l e u m f w o n a b c : ℕ) (k p : List ℕ) → length k ≡ length carry → Chunk-read x chunk r i l e u m f w o n a b c k p → (k ≡ carry) × (p ≡ pool)
 
 abbrev pub Too-small-keeps : Type 0
 Too-small-keeps =

@@ -93,13 +93,14 @@ flags-of s =
     + ((if s .options .«stop_after_eof» then 2 else 0) + (if s .finished then 4 else 0))
 
 -- the state of a reader of chunks
-abbrev pub chunks-of : (position line empties used flags : ℕ) → Chunks
-chunks-of position line empties used flags =
+abbrev pub chunks-of : (position line empties used skipped flags : ℕ) → Chunks
+chunks-of position line empties used skipped flags =
     record {
       position = position;
       line = line;
       empties = empties;
       used = used;
+      skipped = skipped;
       cr = bit flags 8;
       finished = bit flags 4;
       options = options-of flags;

@@ -33,29 +33,30 @@ pub record IhexNext (s : State) (text pool : List ℕ) (at r position line flags
   pub left : pool′ ≡ outcome s text pool at .pool
 
 -- where a reader of chunks stands, and where the line lies that gave a record, in numbers
-pub record Stands (s : Chunks) (p : Place) (position line empties used flags lies from len : ℕ) : Type 0 where
+pub record Stands (s : Chunks) (p : Place) (position line empties used skipped flags lies from len : ℕ) : Type 0 where
   pub position-is : position ≡ s .position
   pub line-is : line ≡ s .line
   pub empties-is : empties ≡ s .empties
   pub used-is : used ≡ s .used
+  pub skipped-is : skipped ≡ s .skipped
   pub flags-is : flags ≡ chunk-flags-of s
   pub spot : Spotted p lies from len
 
 -- an outcome of a reader of chunks, in numbers and bytes: the carry's bytes behind `carried` are anything
-pub record Chunk-read (o : Outcome) (chunk : List ℕ) (r position line empties used flags lies from len a b c : ℕ) (carry′ pool′ : List ℕ) : Type 0 where
+pub record Chunk-read (o : Outcome) (chunk : List ℕ) (r position line empties used skipped flags lies from len a b c : ℕ) (carry′ pool′ : List ℕ) : Type 0 where
   pub answer : Numbers (reading-chunk (o .word)) r a b c
-  pub stands : Stands (o .state) (o .lies) position line empties used flags lies from len
+  pub stands : Stands (o .state) (o .lies) position line empties used skipped flags lies from len
   pub shows : at-place (place-of lies from len) chunk carry′ ≡ o .shows
   pub carry : take (length (o .carried)) carry′ ≡ o .carried
   pub left : pool′ ≡ o .pool
 
-abbrev pub IhexNextChunk : (s : Chunks) (chunk carry pool : List ℕ) (at r position line empties used flags lies from len a b c : ℕ) (carry′ pool′ : List ℕ) → Type 0
-IhexNextChunk s chunk carry pool at r position line empties used flags lies from len a b c carry′ pool′ =
-    Chunk-read (next-outcome s chunk carry pool at) chunk r position line empties used flags lies from len a b c carry′ pool′
+abbrev pub IhexNextChunk : (s : Chunks) (chunk carry pool : List ℕ) (at r position line empties used skipped flags lies from len a b c : ℕ) (carry′ pool′ : List ℕ) → Type 0
+IhexNextChunk s chunk carry pool at r position line empties used skipped flags lies from len a b c carry′ pool′ =
+    Chunk-read (next-outcome s chunk carry pool at) chunk r position line empties used skipped flags lies from len a b c carry′ pool′
 
-abbrev pub IhexFinish : (s : Chunks) (carry pool : List ℕ) (at r position line empties used flags lies from len a b c : ℕ) (carry′ pool′ : List ℕ) → Type 0
-IhexFinish s carry pool at r position line empties used flags lies from len a b c carry′ pool′ =
-    Chunk-read (finish-outcome s carry pool at) [] r position line empties used flags lies from len a b c carry′ pool′
+abbrev pub IhexFinish : (s : Chunks) (carry pool : List ℕ) (at r position line empties used skipped flags lies from len a b c : ℕ) (carry′ pool′ : List ℕ) → Type 0
+IhexFinish s carry pool at r position line empties used skipped flags lies from len a b c carry′ pool′ =
+    Chunk-read (finish-outcome s carry pool at) [] r position line empties used skipped flags lies from len a b c carry′ pool′
 
 -- the bytes at a place are its buffer's own, r of them from `start` on
 pub record IhexShown (p : Place) (chunk carry : List ℕ) (start r : ℕ) : Type 0 where

@@ -42,6 +42,6 @@ abbrev pub Stepped : (bytes pool out : List ℕ) (start r : Written) (out′ : L
 Stepped bytes pool out start r out′ = (rs : List Record) → records-of bytes ≡ some rs → Steps pool out start rs r out′
 
 -- a step of a reader of chunks, in numbers
-pub record TellStep (step : ChunkStep) (r position line empties used flags lies from len a b c : ℕ) : Type 0 where
+pub record TellStep (step : ChunkStep) (r position line empties used skipped flags lies from len a b c : ℕ) : Type 0 where
   pub answer : Numbers (reading-chunk (word-of (step .reply))) r a b c
-  pub stands : Stands (step .state) (step .lies) position line empties used flags lies from len
+  pub stands : Stands (step .state) (step .lies) position line empties used skipped flags lies from len

@@ -68,7 +68,7 @@ fn code_error(e: ReaderError) -> Coded
 {
     match e {
         ReaderError::MissingStartCode => four(257, 0, 0, 0),
-        ReaderError::ContainsInvalidCharacters => four(258, 0, 0, 0),
+        ReaderError::ContainsInvalidCharacters(place) => four(258, place as u64, 0, 0),
         ReaderError::RecordTooShort => four(259, 0, 0, 0),
         ReaderError::RecordTooLong => four(260, 0, 0, 0),
         ReaderError::RecordNotEvenLength => four(261, 0, 0, 0),
@@ -201,8 +201,15 @@ fn code_chunk_reply(reply: ChunkReply) -> Coded
 }
 
 // The state of a reader of chunks that stands in numbers: bit 3 of the flags is cr.
-fn chunks_from(position: usize, line: usize, empties: usize, used: usize, flags: u8) -> Chunks
-    ensures { λ r. ⌜ r ≡ chunks-of position line empties used flags ⌝ }
+fn chunks_from(
+    position: usize,
+    line: usize,
+    empties: usize,
+    used: usize,
+    skipped: u16,
+    flags: u8,
+) -> Chunks
+    ensures { λ r. ⌜ r ≡ chunks-of position line empties used skipped flags ⌝ }
 {
     let state = state_from(position, line, flags);
     let options = state.options;
@@ -211,6 +218,7 @@ fn chunks_from(position: usize, line: usize, empties: usize, used: usize, flags:
         line,
         empties,
         used,
+        skipped,
         cr: flags / 8 % 2 == 1,
         finished: state.finished,
         options,
@@ -269,6 +277,7 @@ fn tell_step(
     line: &mut usize,
     empties: &mut usize,
     used: &mut usize,
+    skipped: &mut u16,
     flags: &mut u8,
     lies: &mut u8,
     from: &mut usize,
@@ -277,13 +286,14 @@ fn tell_step(
     b: &mut u64,
     c: &mut u64,
 ) -> u32
-    ensures { λ r. ⌜ TellStep step r (now (position .exit)) (now (line .exit)) (now (empties .exit)) (now (used .exit)) (now (flags .exit)) (now (lies .exit)) (now (from .exit)) (now (len .exit)) (now (a .exit)) (now (b .exit)) (now (c .exit)) ⌝ }
+    ensures { λ r. ⌜ TellStep step r (now (position .exit)) (now (line .exit)) (now (empties .exit)) (now (used .exit)) (now (skipped .exit)) (now (flags .exit)) (now (lies .exit)) (now (from .exit)) (now (len .exit)) (now (a .exit)) (now (b .exit)) (now (c .exit)) ⌝ }
 {
     let state = step.state;
     *position = state.position;
     *line = state.line;
     *empties = state.empties;
     *used = state.used;
+    *skipped = state.skipped;
     *flags = chunk_flags_from(state);
     let place = step.lies;
     let spot = spot_of(place);
@@ -309,6 +319,7 @@ pub extern "C" fn ihex_next_chunk(
     line: &mut usize,
     empties: &mut usize,
     used: &mut usize,
+    skipped: &mut u16,
     flags: &mut u8,
     lies: &mut u8,
     from: &mut usize,
@@ -317,9 +328,9 @@ pub extern "C" fn ihex_next_chunk(
     b: &mut u64,
     c: &mut u64,
 ) -> u32
-    ensures { λ r. ⌜ IhexNextChunk (chunks-of (now (position .entry)) (now (line .entry)) (now (empties .entry)) (now (used .entry)) (now (flags .entry))) (now (chunk .entry)) (now (carry .entry)) (now (pool .entry)) at r (now (position .exit)) (now (line .exit)) (now (empties .exit)) (now (used .exit)) (now (flags .exit)) (now (lies .exit)) (now (from .exit)) (now (len .exit)) (now (a .exit)) (now (b .exit)) (now (c .exit)) (now (carry .exit)) (now (pool .exit)) ⌝ }
+    ensures { λ r. ⌜ IhexNextChunk (chunks-of (now (position .entry)) (now (line .entry)) (now (empties .entry)) (now (used .entry)) (now (skipped .entry)) (now (flags .entry))) (now (chunk .entry)) (now (carry .entry)) (now (pool .entry)) at r (now (position .exit)) (now (line .exit)) (now (empties .exit)) (now (used .exit)) (now (skipped .exit)) (now (flags .exit)) (now (lies .exit)) (now (from .exit)) (now (len .exit)) (now (a .exit)) (now (b .exit)) (now (c .exit)) (now (carry .exit)) (now (pool .exit)) ⌝ }
 {
-    let state = chunks_from(*position, *line, *empties, *used, *flags);
+    let state = chunks_from(*position, *line, *empties, *used, *skipped, *flags);
     let step = state.next(chunk, carry, pool, at);
     tell_step(
         step,
@@ -327,6 +338,7 @@ pub extern "C" fn ihex_next_chunk(
         line,
         empties,
         used,
+        skipped,
         flags,
         lies,
         from,
@@ -347,6 +359,7 @@ pub extern "C" fn ihex_finish(
     line: &mut usize,
     empties: &mut usize,
     used: &mut usize,
+    skipped: &mut u16,
     flags: &mut u8,
     lies: &mut u8,
     from: &mut usize,
@@ -355,9 +368,9 @@ pub extern "C" fn ihex_finish(
     b: &mut u64,
     c: &mut u64,
 ) -> u32
-    ensures { λ r. ⌜ IhexFinish (chunks-of (now (position .entry)) (now (line .entry)) (now (empties .entry)) (now (used .entry)) (now (flags .entry))) (now (carry .entry)) (now (pool .entry)) at r (now (position .exit)) (now (line .exit)) (now (empties .exit)) (now (used .exit)) (now (flags .exit)) (now (lies .exit)) (now (from .exit)) (now (len .exit)) (now (a .exit)) (now (b .exit)) (now (c .exit)) (now (carry .exit)) (now (pool .exit)) ⌝ }
+    ensures { λ r. ⌜ IhexFinish (chunks-of (now (position .entry)) (now (line .entry)) (now (empties .entry)) (now (used .entry)) (now (skipped .entry)) (now (flags .entry))) (now (carry .entry)) (now (pool .entry)) at r (now (position .exit)) (now (line .exit)) (now (empties .exit)) (now (used .exit)) (now (skipped .exit)) (now (flags .exit)) (now (lies .exit)) (now (from .exit)) (now (len .exit)) (now (a .exit)) (now (b .exit)) (now (c .exit)) (now (carry .exit)) (now (pool .exit)) ⌝ }
 {
-    let state = chunks_from(*position, *line, *empties, *used, *flags);
+    let state = chunks_from(*position, *line, *empties, *used, *skipped, *flags);
     let step = state.finish(carry, pool, at);
     tell_step(
         step,
@@ -365,6 +378,7 @@ pub extern "C" fn ihex_finish(
         line,
         empties,
         used,
+        skipped,
         flags,
         lies,
         from,

@@ -10,11 +10,11 @@ fn input() -> [u8; 65537]
     [0; 65537]
 }
 
-// Space for its listing: twice as much, and 32.
-fn output() -> [u8; 131106]
-    ensures { λ r. ⌜ 131106 ≡ length r ⌝ }
+// Space for its listing: three times as much, and 32.
+fn output() -> [u8; 196643]
+    ensures { λ r. ⌜ 196643 ≡ length r ⌝ }
 {
-    [0; 131106]
+    [0; 196643]
 }
 
 fn main() {

@@ -1,4 +1,4 @@
--- The claims of `specs/Claims.antt`, proved. The example computes; an answer is found again from what is told; a reply is shown as in a turn of the listing.
+-- The claims of `specs/Claims.antt`, proved. The examples compute; an answer is found again from what is told; a reply is shown as in a turn of the listing.
 -- Assumes nothing.
 use Prim.Native.Nat.{ℕ}
 use mathlib.Core.Path.{_≡_, refl, sym, _∙_, ap}
@@ -10,12 +10,16 @@ use Rattle.listing.specs.declared.Listed.{Listed}
 use Rattle.listing.specs.declared.Listed.the-variants.{Wrote, NoRoom}
 use Rattle.listing.specs.Listing.{listing}
 use Rattle.listing.specs.Listed.{Told, wrote, no-room, told, Writes}
-use Rattle.listing.specs.Claims.{Example, List-unique, List-reply-unique, List-first-unique, List-last-unique, Shown-as-listed, Room-for-each}
+use Rattle.listing.specs.Claims.{Example, Example-place, List-unique, List-reply-unique, List-first-unique, List-last-unique, Shown-as-listed, Room-for-each}
 use Rattle.listing.proofs.Turning.{spoken}
 
 pub example : Example
 unfolding listing row judge
 example = refl
+
+pub example-place : Example-place
+unfolding listing row judge
+example-place = refl
 
 untold : Told → Listed
 untold (wrote n) = Wrote n

@@ -1,5 +1,5 @@
--- What is printed of an answer: its parts, and how long it is beside its line. A record's line spells each byte that is printed of it, and
--- a refusal that has numbers has a line of five bytes or more.
+-- What is printed of an answer: its parts, and how long it is beside its line. A record's line spells each byte that is printed of it, a
+-- refusal that has a byte or two has a line of five bytes or more, and one that has a place has a line of two bytes or more.
 -- Assumes nothing.
 use Prim.Native.Nat.{ℕ, _+_, _*_, _≤_, _<_}
 use mathlib.Core.Path.{_≡_, refl, sym, _∙_, ap}
@@ -7,7 +7,7 @@ use mathlib.Core.List.{List, [], _∷_, _++_, append-assoc, append-nil}
 use native.Mathlib.Omega.{arith}
 use lib.ListN.{length, length-append}
 use Rattle.record.specs.Common.{text}
-use Rattle.record.specs.Refusals.{Refusal, refusal, number-of}
+use Rattle.record.specs.Refusals.{Refusal, number-of}
 use Rattle.record.specs.Faults.{Fault, no-colon, no-digit, short, long, odd, sum-differs, length-differs, type-unknown, size-differs}
 use Rattle.record.specs.Line.{Said, says, wrong}
 use Rattle.record.specs.Meaning.{data-at, meaning}
@@ -16,8 +16,8 @@ use Rattle.record.proofs.Spelling.{spells-length}
 use Rattle.record.proofs.Judging.{size-fits, kinds}
 use Rattle.record.proofs.Standing.{Stands}
 use Rattle.record.proofs.Writing.{spelt-length, spelt-append}
-use Rattle.listing.specs.Listing.{decimal, spaced, payload, record-entry, refusal-entry, entry, ended}
-use Rattle.listing.specs.Helpers.{numbered, values-of}
+use Rattle.listing.specs.Listing.{decimal, payload, record-entry, values-shown, refusal-entry, entry, ended}
+use Rattle.listing.specs.Helpers.{numbered}
 
 -- ---- parts
 
@@ -61,13 +61,13 @@ pub numbered-length : (digit : ℕ) (xs : List ℕ) → length (numbered digit x
 unfolding numbered
 numbered-length digit xs = omega (arith, spelt-length xs)
 
-pub refusal-length : (r : Refusal) → length (refusal-entry r) ≡ 2 + length (decimal (number-of r)) + length (spaced (values-of r))
+pub refusal-length : (r : Refusal) → length (refusal-entry r) ≡ 2 + length (decimal (number-of r)) + length (values-shown r)
 unfolding refusal-entry
-refusal-length (refusal n vs) = length-append (text "! " ++ decimal n) (spaced vs) ∙ omega arith
+refusal-length r = length-append (text "! " ++ decimal (number-of r)) (values-shown r) ∙ omega arith
 
-pub refusal-is : (r : Refusal) → refusal-entry r ≡ text "! " ++ decimal (number-of r) ++ spaced (values-of r)
+pub refusal-is : (r : Refusal) → refusal-entry r ≡ text "! " ++ decimal (number-of r) ++ values-shown r
 unfolding refusal-entry
-refusal-is (refusal n vs) = refl
+refusal-is r = refl
 
 -- ---- beside its line
 
@@ -77,15 +77,15 @@ record-most kind address bs =
     kinds (λ (k : ℕ). length (record-entry (meaning k address bs)) ≤ 11 + 2 * length bs)
     (omega (arith, data-length address bs, payload-most bs)) (omega arith) (omega arith) (omega arith) (omega arith) (omega arith) kind
 
--- an entry with its LF is at most twice as long as its line with an LF
-pub entry-most : (line : List ℕ) (said : Said) → Stands line said → 0 < length line → length (ended (entry said)) ≤ 2 * length line + 2
-unfolding entry decimal spaced spelt
+-- an entry with its LF is at most three times as long as its line with an LF
+pub entry-most : (line : List ℕ) (said : Said) → Stands line said → 0 < length line → length (ended (entry said)) ≤ 3 * length line + 3
+unfolding entry decimal values-shown spelt
 entry-most line (says kind address bs) f h =
     let n : length line ≡ 1 + 2 * (4 + (length bs + 1)) =
     ap length (f .starts) ∙ omega (arith, spells-length (f .spells), length-append bs (f .check ∷ [])) in
     omega (arith, length-append (record-entry (meaning kind address bs)) (10 ∷ []), record-most kind address bs (size-fits (f .sized) .0))
 entry-most line (wrong r) (no-colon k) h = omega arith
-entry-most line (wrong r) (no-digit before after c e k) h = omega arith
+entry-most line (wrong r) (no-digit place f) h = omega (arith, f .behind, f .inside)
 entry-most line (wrong r) (short ds e d k) h = omega arith
 entry-most line (wrong r) (long ds e d k) h = omega arith
 entry-most line (wrong r) (odd ds e d k l m) h = omega arith
@@ -99,7 +99,7 @@ entry-most line (wrong r) (size-differs high low kind check bs s k l) h = omega 
 -- no line is refused as PoolFull is
 pub not-full : (line : List ℕ) (r : Refusal) → Fault line r → number-of r < 10
 not-full line r (no-colon k) = omega arith
-not-full line r (no-digit before after c e k) = omega arith
+not-full line r (no-digit place f) = omega arith
 not-full line r (short ds e d k) = omega arith
 not-full line r (long ds e d k) = omega arith
 not-full line r (odd ds e d k l m) = omega arith

@@ -18,8 +18,8 @@ use Rattle.reader.specs.declared.Reply.{Reply}
 use Rattle.reader.specs.declared.Reply.the-variants.{Read, Refused, Done}
 use Rattle.record.proofs.Tests.{split, both}
 use Rattle.reader.specs.Told.{refusal-of}
-use Rattle.listing.specs.Listing.{decimal, spaced, record-entry, refusal-entry, count-line}
-use Rattle.listing.specs.Listed.{room, record-room, reply-room}
+use Rattle.listing.specs.Listing.{decimal, values-shown, record-entry, refusal-entry, count-line}
+use Rattle.listing.specs.Listed.{text-room, room, record-room, reply-room}
 use Rattle.listing.specs.Helpers.{Fits-in}
 use Rattle.listing.proofs.Decimal.{decimal-length}
 use Rattle.listing.proofs.Entry.{data-length, payload-most}
@@ -33,6 +33,13 @@ room-half given out h =
     (λ k. le-leb given ((out - 32) / 2) k ∙ sym (le-leb (2 * given + 32) out (omega arith)))
     (λ k. lt-leb given ((out - 32) / 2) k ∙ sym (lt-leb (2 * given + 32) out (omega arith)))
 
+-- a text takes one byte more for each of its bytes
+pub room-behind : (given out : ℕ) → given ≤ out → room given (out - given) ≡ text-room given out
+room-behind given out h =
+    split (3 * given + 32) out
+    (λ k. le-leb (2 * given + 32) (out - given) (omega arith) ∙ sym (le-leb (3 * given + 32) out k))
+    (λ k. lt-leb (2 * given + 32) (out - given) (omega arith) ∙ sym (lt-leb (3 * given + 32) out k))
+
 module _ (offset at len pool out : ℕ) where
   pub data-inside : at + len ≤ pool → record-room (Data offset at len) pool out ≡ room len out
   data-inside h = rw (le-leb (at + len) pool h)
@@ -43,12 +50,12 @@ module _ (offset at len pool out : ℕ) where
 -- ---- that it is enough
 
 refusal-most : (e : ReaderError) → length (refusal-entry (refusal-of e)) ≤ 12
-unfolding refusal-entry decimal spaced spelt
+unfolding refusal-entry decimal values-shown spelt
 refusal-most MissingStartCode = omega arith
 refusal-most RecordTooShort = omega arith
 refusal-most RecordTooLong = omega arith
 refusal-most RecordNotEvenLength = omega arith
-refusal-most ContainsInvalidCharacters = omega arith
+refusal-most (ContainsInvalidCharacters place) = omega arith
 refusal-most (ChecksumMismatch computed stated) = omega arith
 refusal-most PayloadLengthMismatch = omega arith
 refusal-most (UnsupportedRecordType kind) = omega arith

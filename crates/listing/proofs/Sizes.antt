@@ -1,4 +1,4 @@
--- The listing's length: every answer's entry is at most twice as long as its line with an LF, and there are no more answers than bytes.
+-- The listing's length: every answer's entry is at most three times as long as its line with an LF, and there are no more answers than bytes.
 -- Assumes nothing.
 use Prim.Native.Nat.{ℕ, suc, _+_, _*_, _≤_}
 use mathlib.Core.Path.{_≡_, refl, ap}
@@ -52,13 +52,13 @@ unfolding entries
 entries-cons n said more′ = length-append (ended (entry said)) (entries more′)
 
 -- the first line's part, whatever it is
-line-most : (n : ℕ) (line : List ℕ) (ls : List (List ℕ)) → length (entries (sayings n (line ∷ ls))) ≤ 2 * length line + 2 + length (entries (sayings (suc n) ls))
+line-most : (n : ℕ) (line : List ℕ) (ls : List (List ℕ)) → length (entries (sayings n (line ∷ ls))) ≤ 3 * length line + 3 + length (entries (sayings (suc n) ls))
 unfolding sayings
 line-most n [] ls = omega arith
 line-most n (c ∷ line) ls =
     omega (arith, entries-cons n (judge (c ∷ line)) (sayings (suc n) ls), entry-most (c ∷ line) (judge (c ∷ line)) (stands (c ∷ line)) (omega arith))
 
-entries-most : {t : List ℕ} {ls : List (List ℕ)} (n : ℕ) → Joins t ls → length (entries (sayings n ls)) ≤ 2 * length t + 2
+entries-most : {t : List ℕ} {ls : List (List ℕ)} (n : ℕ) → Joins t ls → length (entries (sayings n ls)) ≤ 3 * length t + 3
 unfolding sayings entries
 entries-most n nothing = omega arith
 entries-most n (more {text = t} {line = line} {rest = rest′} {ls = ls} h c j) =
@@ -84,6 +84,6 @@ pub answers-most : (input : List ℕ) → length (answers input) ≤ length inpu
 unfolding row
 answers-most input = omega (arith, stop-most listing-options (sayings 1 (lines input)) .0, sayings-few 1 (lines input), lines-most (joins input))
 
-pub answers-room : (input : List ℕ) → length (entries (answers input)) ≤ 2 * length input + 2
+pub answers-room : (input : List ℕ) → length (entries (answers input)) ≤ 3 * length input + 3
 unfolding row
 answers-room input = omega (arith, stop-most listing-options (sayings 1 (lines input)) .1, entries-most 1 (joins input))

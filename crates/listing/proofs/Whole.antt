@@ -1,4 +1,4 @@
--- The listing as a whole: what `list` wrote is it, and twice the input's length and 32 are room enough. What is put at the beginning is written.
+-- The listing as a whole: what `list` wrote is it, and three times the input's length and 32 are room enough. What is put at the beginning is written.
 -- Assumes nothing.
 use Prim.Native.Nat.{ℕ, _+_, _*_, _≤_, _<_}
 use mathlib.Core.Path.{_≡_, refl, sym, _∙_, ap}
@@ -12,7 +12,7 @@ use Rattle.record.proofs.Tests.{split}
 use Rattle.listing.specs.declared.Listed.{Listed}
 use Rattle.listing.specs.declared.Listed.the-variants.{Wrote, NoRoom}
 use Rattle.listing.specs.Listing.{decimal, ended, heading, count-line, entries, answers, listing}
-use Rattle.listing.specs.Listed.{wrote, no-room, told, room, Writes, Lists}
+use Rattle.listing.specs.Listed.{wrote, no-room, told, text-room, Writes, Lists}
 use Rattle.listing.specs.Helpers.{Puts}
 use Rattle.listing.specs.Claims.{Fits}
 use Rattle.listing.proofs.Decimal.{decimal-length}
@@ -54,17 +54,17 @@ module _ (room′ : Bool) (xs out : List ℕ) where
       record { answer = rw e (ap wrote (p .place ∙ z)); left = rw e (p .left ∙ ap (λ (k : ℕ). xs ++ drop k out) z) }
 
 module _ (input out : List ℕ) where
-  pub lists-full : length out < 2 * length input + 32 → Lists input out NoRoom out
-  lists-full h = writes-none (room (length input) (length out)) (listing input) out (lt-leb (2 * length input + 32) (length out) h)
+  pub lists-full : length out < 3 * length input + 32 → Lists input out NoRoom out
+  lists-full h = writes-none (text-room (length input) (length out)) (listing input) out (lt-leb (3 * length input + 32) (length out) h)
 
-  pub lists-wrote : (r : ℕ) (out′ xs : List ℕ) → 2 * length input + 32 ≤ length out → xs ≡ listing input → Puts out 0 xs r out′ → Lists input out (Wrote r) out′
+  pub lists-wrote : (r : ℕ) (out′ xs : List ℕ) → 3 * length input + 32 ≤ length out → xs ≡ listing input → Puts out 0 xs r out′ → Lists input out (Wrote r) out′
   lists-wrote r out′ xs h e p =
-      writes-put (room (length input) (length out)) (listing input) out r out′ (le-leb (2 * length input + 32) (length out) h) (put-as out 0 e p)
+      writes-put (text-room (length input) (length out)) (listing input) out r out′ (le-leb (3 * length input + 32) (length out) h) (put-as out 0 e p)
 
 -- what was written lies within the output
 pub wrote-inside : (input out : List ℕ) (r : Listed) (out′ : List ℕ) (n : ℕ) → Lists input out r out′ → r ≡ Wrote n → n ≤ length out
-wrote-inside input out r out′ n l e = go (room (length input) (length out)) refl (ap told (sym e) ∙ l .answer)
+wrote-inside input out r out′ n l e = go (text-room (length input) (length out)) refl (ap told (sym e) ∙ l .answer)
   where
-    go : (b : Bool) → room (length input) (length out) ≡ b → wrote n ≡ (if b then wrote (length (listing input)) else no-room) → n ≤ length out
-    go true t q = let k : n ≡ length (listing input) = cc in omega (arith, fits input, leb-true (2 * length input + 32) (length out) t)
+    go : (b : Bool) → text-room (length input) (length out) ≡ b → wrote n ≡ (if b then wrote (length (listing input)) else no-room) → n ≤ length out
+    go true t q = let k : n ≡ length (listing input) = cc in omega (arith, fits input, leb-true (3 * length input + 32) (length out) t)
     go false t q = let z : _≡_ {A = ℕ} 0 1 = cc in absurd (omega arith)

@@ -20,9 +20,13 @@ Example =
     listing (ended (text ":04012000102030403B") ++ ended [] ++ ended (text ":00000001FE") ++ ended (text ":00000001FF"))
     ≡ ended (text "records") ++ ended (text "D 0120 10203040") ++ ended (text "! 6 FF FE") ++ ended (text "E") ++ ended (text "3 answers")
 
--- an output of twice the input's length and 32 has room for the listing
+-- a place of a line, which refusal 2 names, takes four digits
+abbrev pub Example-place : Type 0
+Example-place = listing (ended (text ":G")) ≡ ended (text "records") ++ ended (text "! 2 0001") ++ ended (text "1 answers")
+
+-- an output of three times the input's length and 32 has room for the listing
 abbrev pub Fits : Type 0
-Fits = (input : List ℕ) → length (listing input) ≤ 2 * length input + 32
+Fits = (input : List ℕ) → length (listing input) ≤ 3 * length input + 32
 
 -- no second answer, and no second output, meets a contract
 abbrev pub List-unique : Type 0

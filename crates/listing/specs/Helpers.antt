@@ -6,7 +6,6 @@ use mathlib.Core.Bool.{Bool, true, false}
 use mathlib.Core.List.{List, [], _∷_, _++_}
 use lib.ListN.{length}
 use Rattle.record.specs.Common.{text, pasted}
-use Rattle.record.specs.Refusals.{Refusal, refusal}
 use Rattle.record.specs.Written.{spelt}
 use Rattle.record.specs.Record.{meant, Inside}
 use Rattle.record.specs.declared.Record.{Record}
@@ -23,9 +22,6 @@ pub record Puts (out : List ℕ) (at : ℕ) (characters : List ℕ) (r : ℕ) (o
 unfoldable pub numbered : (character : ℕ) (bytes : List ℕ) → List ℕ
 unfolding spelt
 numbered character bytes = text "X" ++ (character ∷ []) ++ text " " ++ spelt bytes
-
-abbrev pub values-of : Refusal → List ℕ
-values-of (refusal number values) = values
 
 pub record Printable (given : Record) (pool out : List ℕ) (at : ℕ) : Type 0 where
   pub lies : Inside given (length pool)

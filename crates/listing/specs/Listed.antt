@@ -28,7 +28,11 @@ pub record Writes (room : Bool) (characters out : List ℕ) (r : Listed) (out′
   pub answer : told r ≡ (if room then wrote (length characters) else no-room)
   pub left : out′ ≡ (if room then characters ++ drop (length characters) out else out)
 
--- an output of so many bytes has room for the listing of any text of the given length, and for a line with a payload of that length
+-- an output of so many bytes has room for the listing of any text of the given length
+abbrev pub text-room : (given out : ℕ) → Bool
+text-room given out = leb (3 * given + 32) out
+
+-- and for a line with a payload of the given length
 abbrev pub room : (given out : ℕ) → Bool
 room given out = leb (2 * given + 32) out
 
@@ -48,7 +52,7 @@ reply-room Done pool out = room 0 out
 
 -- the contract of `list`
 abbrev pub Lists : (input out : List ℕ) (r : Listed) (out′ : List ℕ) → Type 0
-Lists input out r out′ = Writes (room (length input) (length out)) (listing input) out r out′
+Lists input out r out′ = Writes (text-room (length input) (length out)) (listing input) out r out′
 
 -- the contract of `list_reply`
 abbrev pub ListsReply : (reply : Reply) (pool out : List ℕ) (r : Listed) (out′ : List ℕ) → Type 0

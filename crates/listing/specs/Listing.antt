@@ -2,11 +2,11 @@
 -- Assumes nothing.
 use Prim.Native.Nat.{ℕ, zero, suc, _/_, _%_}
 use mathlib.Core.Bool.{true, false}
-use mathlib.Core.List.{List, [], _∷_, _++_}
-use lib.Dec.{ltb}
+use mathlib.Core.List.{List, [], _∷_, _++_, flatMap}
+use lib.Dec.{eqb, ltb}
 use lib.ListN.{length}
 use Rattle.record.specs.Common.{if_then_else_, text}
-use Rattle.record.specs.Refusals.{Refusal, refusal}
+use Rattle.record.specs.Refusals.{Refusal, refusal, number-of}
 use Rattle.record.specs.Line.{Said, says, wrong}
 use Rattle.record.specs.Meaning.{Meaning, data-at, end-of-file, extended-segment, start-segment, extended-linear, start-linear, meaning}
 use Rattle.record.specs.Written.{capital-digit, spelt, two-bytes, four-bytes}
@@ -28,17 +28,15 @@ unfoldable pub decimal : ℕ → List ℕ
 unfolding digits
 decimal n = digits (suc n) n
 
--- bytes in hexadecimal, each behind a space
-unfoldable pub spaced : List ℕ → List ℕ
-unfolding spelt
-spaced [] = []
-spaced (b ∷ bs) = text " " ++ spelt (b ∷ []) ++ spaced bs
+-- bytes in hexadecimal, behind a space
+abbrev pub spaced : List ℕ → List ℕ
+spaced bytes = text " " ++ spelt bytes
 
 -- a payload behind a space; nothing where there is none
 unfoldable pub payload : List ℕ → List ℕ
 unfolding spelt
 payload [] = []
-payload (b ∷ bs) = text " " ++ spelt (b ∷ bs)
+payload (b ∷ bs) = spaced (b ∷ bs)
 
 -- types 02 to 05 are marked X and their type's last digit
 unfoldable pub record-entry : Meaning → List ℕ
@@ -50,9 +48,14 @@ record-entry (start-segment cs ip) = text "X3 " ++ spelt (two-bytes cs ++ two-by
 record-entry (extended-linear number) = text "X4 " ++ spelt (two-bytes number)
 record-entry (start-linear number) = text "X5 " ++ spelt (four-bytes number)
 
+-- the values of a refusal: each is a byte, but that of refusal 2 is a place, which takes two
+unfoldable pub values-shown : Refusal → List ℕ
+unfolding spelt flatMap
+values-shown (refusal number values) = flatMap (λ v. spaced (if eqb number 2 then two-bytes v else v ∷ [])) values
+
 unfoldable pub refusal-entry : Refusal → List ℕ
-unfolding decimal spaced
-refusal-entry (refusal number values) = text "! " ++ decimal number ++ spaced values
+unfolding decimal values-shown
+refusal-entry r = text "! " ++ decimal (number-of r) ++ values-shown r
 
 unfoldable pub entry : Said → List ℕ
 unfolding record-entry refusal-entry meaning

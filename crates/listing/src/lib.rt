@@ -12,9 +12,9 @@ ghost use Rattle.record.specs.Record.{meant};
 ghost use Rattle.record.specs.Written.{capital-digit, spelt, two-bytes};
 ghost use Rattle.record.specs.Meaning.{data-at};
 ghost use Rattle.reader.specs.Told.{refusal-of};
-ghost use Rattle.listing.specs.Listing.{decimal, spaced, record-entry, refusal-entry, shown, heading, count-line};
-ghost use Rattle.listing.specs.Listed.{room, record-room, reply-room, Lists, ListsReply, ListsFirst, ListsLast};
-ghost use Rattle.listing.specs.Helpers.{Puts, Printable, Fits-in, is-done, values-of, numbered, EntriesPut, HasRoom};
+ghost use Rattle.listing.specs.Listing.{decimal, spaced, record-entry, values-shown, refusal-entry, shown, heading, count-line};
+ghost use Rattle.listing.specs.Listed.{text-room, room, record-room, reply-room, Lists, ListsReply, ListsFirst, ListsLast};
+ghost use Rattle.listing.specs.Helpers.{Puts, Printable, Fits-in, is-done, numbered, EntriesPut, HasRoom};
 
 // What is answered: how many characters were written, or that the output may be too small.
 pub enum Listed {
@@ -172,22 +172,31 @@ fn put_value(v: u8, out: &mut [u8], at: usize) -> usize
     put_byte(v, out, digits)
 }
 
+// A space and a place of a line, in two bytes.
+fn put_place(place: u16, out: &mut [u8], at: usize) -> usize
+    requires { ⌜ at + 5 ≤ length (now out) ⌝ }
+    ensures { λ r. ⌜ Puts (now (out .entry)) at (spaced (two-bytes place)) r (now (out .exit)) ⌝ }
+{
+    let digits = put_char(b' ', out, at);
+    put_word(place, out, digits)
+}
+
 // The numbers of a refusal that has any.
 fn put_values(e: ReaderError, out: &mut [u8], at: usize) -> usize
-    requires { ⌜ at + length (spaced (values-of (refusal-of e))) ≤ length (now out) ⌝ }
-    ensures { λ r. ⌜ Puts (now (out .entry)) at (spaced (values-of (refusal-of e))) r (now (out .exit)) ⌝ }
+    requires { ⌜ at + length (values-shown (refusal-of e)) ≤ length (now out) ⌝ }
+    ensures { λ r. ⌜ Puts (now (out .entry)) at (values-shown (refusal-of e)) r (now (out .exit)) ⌝ }
 {
     match e {
         ReaderError::ChecksumMismatch(computed, stated) => {
             let second = put_value(computed, out, at);
             put_value(stated, out, second)
         }
+        ReaderError::ContainsInvalidCharacters(place) => put_place(place, out, at),
         ReaderError::UnsupportedRecordType(kind) => put_value(kind, out, at),
         ReaderError::MissingStartCode => at,
         ReaderError::RecordTooShort => at,
         ReaderError::RecordTooLong => at,
         ReaderError::RecordNotEvenLength => at,
-        ReaderError::ContainsInvalidCharacters => at,
         ReaderError::PayloadLengthMismatch => at,
         ReaderError::InvalidLengthForType => at,
         ReaderError::PoolFull => at,
@@ -274,8 +283,7 @@ fn put_last(count: usize, out: &mut [u8], at: usize) -> usize
     put_text(b" answers\n", out, behind)
 }
 
-// Whether an output has room for the listing of so many bytes, or for a line with such a payload. A line of n bytes with its LF
-// is listed in at most 2n characters, and the rest, the first and the last line and what a missing LF may take, in less than 32.
+// Whether an output has room for a line with a payload of so many bytes: two characters for each, and less than 32 for the rest.
 fn has_room(given: usize, out: usize) -> bool
     ensures { λ r. ⌜ r ≡ room given out ⌝ }
 {
@@ -318,11 +326,22 @@ fn reply_room(reply: Reply, pool: usize, out: usize) -> bool
     }
 }
 
-// The listing of a text, at the output's beginning. There is no room in less than 32 bytes and two for each byte of the text.
+// The same for the listing of a text of so many bytes: one character more for each. A line of n bytes with its LF is listed in at
+// most 3n characters, and the rest, the first and the last line and what a missing LF may take, in less than 32.
+fn text_room(given: usize, out: usize) -> bool
+    ensures { λ r. ⌜ r ≡ text-room given out ⌝ }
+{
+    if out < given {
+        return false;
+    }
+    has_room(given, out - given)
+}
+
+// The listing of a text, at the output's beginning. There is no room in less than 32 bytes and three for each byte of the text.
 pub fn list(text: &[u8], out: &mut [u8]) -> Listed
     ensures { λ r. ⌜ Lists (now (text .entry)) (now (out .entry)) r (now (out .exit)) ⌝ }
 {
-    if !has_room(text.len(), out.len()) {
+    if !text_room(text.len(), out.len()) {
         return Listed::NoRoom;
     }
     if text.len() > 65536 {

@@ -10,14 +10,16 @@ use lib.Dec.{eqb}
 use lib.ListN.{length, getD}
 use borrow.Author.Tests.{eq-eqb, le-ltb}
 use Rattle.record.specs.Common.{if_then_else_}
-use Rattle.record.specs.Refusals.{Refusal, refusal, bad-window}
+use Rattle.record.specs.Refusals.{Refusal, refusal, number-of, contains-invalid-characters, missing-end-of-file-record, bad-window, outside-window}
 use Rattle.record.specs.Digits.{number}
-use Rattle.record.specs.Line.{judge}
+use Rattle.record.specs.Line.{wrong, named, judge}
 use Rattle.record.specs.Meaning.{meaning}
 use Rattle.record.specs.Faults.{Fault, no-colon, no-digit, short, long, odd, sum-differs, length-differs, type-unknown, size-differs}
 use Rattle.record.proofs.Standing.{Stands, stands}
+use Rattle.record.proofs.Claims.{names-the-offender}
 use Rattle.reader.specs.Lines.{lines}
 use Rattle.reader.specs.Row.{row}
+use Rattle.reader.specs.Claims.{Offends}
 use Rattle.reader.specs.declared.Answer.{Answer}
 use Rattle.reader.specs.declared.Answer.the-variants.{Read, Refused as AnswerRefused}
 use Rattle.reader.specs.declared.ReaderError.{ReaderError}
@@ -30,7 +32,7 @@ use Rattle.loader.specs.declared.Loading.{Loading}
 use Rattle.loader.specs.declared.Loading.the-variants.{Accepted, Refused}
 use Rattle.loader.specs.Load.{no-records, Verdict, accepted, refused, Decision, by, within, decision, verdict, unfit, placements, steps-of, stopping, load}
 use Rattle.loader.specs.Told.{refusal-by, told}
-use Rattle.loader.specs.Claims.{Window, in-force, data-records, Stops, the-end, no-record, first-outside, Why, bad-one, no-end, at-line, Reasons, Among, Total, Told-apart, Load-unique, Examples}
+use Rattle.loader.specs.Claims.{Window, in-force, data-records, Stops, the-end, no-record, first-outside, Decided, Why, bad-one, no-end, at-line, Reasons, Names-the-offender, Among, Total, Told-apart, Load-unique, Examples}
 use Rattle.loader.proofs.Demand3.{good-window, load-answer}
 use Rattle.loader.proofs.Reasons.{Walked, walked}
 
@@ -67,7 +69,7 @@ reasons text first page marks =
 
 refused-line : {line : List ℕ} {r : Refusal} (n : ℕ) → Fault line r → Among (refused r n)
 refused-line n (no-colon a) = refl
-refused-line n (no-digit a b c d e) = refl
+refused-line n (no-digit p f) = refl
 refused-line n (short a b c d) = refl
 refused-line n (long a b c d) = refl
 refused-line n (odd a b c d e f) = refl
@@ -88,6 +90,30 @@ why-among (at-line n v w d) = stops-among (d .stops)
 
 pub total : Total
 total text first page marks = why-among (reasons text first page marks)
+
+-- ---- the offender
+
+-- of the answers of a line only its own refusal has the number 2
+named-by : {text : List ℕ} {inside : ℕ → Bool} {n m : ℕ} {v : Verdict} {r : Refusal} → Decided text inside n v → v ≡ refused r m → number-of r ≡ 2
+    → (place : ℕ) × Offends text m place × (r ≡ contains-invalid-characters (named place))
+named-by {text} {inside} {n} {m} {v} {r} d = go (d .stops) refl
+  where
+    go : {k : ℕ} {v : Verdict} → Stops inside (d .ahead) (d .line) k v → k ≡ n → v ≡ refused r m → number-of r ≡ 2 → (place : ℕ) × Offends text m place × (r ≡ contains-invalid-characters (named place))
+    go (the-end tally e c) k q two = let z : _≡_ {A = ℕ} 0 1 = cc in absurd (omega arith)
+    go {k} (no-record w b e) same q two =
+        let is : w ≡ r = cc in
+        let at-m : k ≡ m = cc in
+        let (place, f, said) = names-the-offender (d .line) r .0 (e ∙ ap wrong is, two) in
+        (place, record { line = d .line; before = d .ahead; after = d .later; stands = d .whole; number = sym at-m ∙ same ∙ d .number; first = f }, said)
+    go (first-outside before after p e i o) k q two = let is : outside-window (p .address) ≡ r = cc in absurd (omega (arith, ap number-of is))
+
+pub load-names-the-offender : Names-the-offender
+load-names-the-offender text first page marks r n e two = go (reasons text first page marks) e
+  where
+    go : {v : Verdict} → Why text first page marks v → v ≡ refused r n → (place : ℕ) × Offends text n place × (r ≡ contains-invalid-characters (named place))
+    go (bad-one w) q = let is : bad-window ≡ r = cc in absurd (omega (arith, ap number-of is))
+    go (no-end w all) q = let is : missing-end-of-file-record ≡ r = cc in absurd (omega (arith, ap number-of is))
+    go (at-line k v w d) q = named-by d q two
 
 -- ---- the contract
 
@@ -114,7 +140,7 @@ again (Line MissingStartCode) = of-line MissingStartCode
 again (Line RecordTooShort) = of-line RecordTooShort
 again (Line RecordTooLong) = of-line RecordTooLong
 again (Line RecordNotEvenLength) = of-line RecordNotEvenLength
-again (Line ContainsInvalidCharacters) = of-line ContainsInvalidCharacters
+again (Line (ContainsInvalidCharacters a)) = of-line (ContainsInvalidCharacters a)
 again (Line (ChecksumMismatch a b)) = of-line (ChecksumMismatch a b)
 again (Line PayloadLengthMismatch) = of-line PayloadLengthMismatch
 again (Line (UnsupportedRecordType a)) = of-line (UnsupportedRecordType a)

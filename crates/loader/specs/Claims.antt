@@ -12,10 +12,11 @@ use mathlib.Core.List.{List, [], _∷_, _++_, List·Memᴰ}
 use lib.Dec.{eqb}
 use lib.ListN.{length, getD, replicate}
 use Rattle.record.specs.Common.{or-else, Every, text}
-use Rattle.record.specs.Refusals.{Refusal, number-of, missing-end-of-file-record, bad-window, outside-window}
-use Rattle.record.specs.Line.{Said, says, wrong, judge}
+use Rattle.record.specs.Refusals.{Refusal, number-of, contains-invalid-characters, missing-end-of-file-record, bad-window, outside-window}
+use Rattle.record.specs.Line.{Said, says, wrong, named, judge}
 use Rattle.record.specs.Meaning.{Meaning, data-at, end-of-file, extended-segment, start-segment, extended-linear, start-linear, meaning}
 use Rattle.reader.specs.Lines.{LF, lines, through}
+use Rattle.reader.specs.Claims.{Offends}
 use Rattle.loader.specs.declared.Loading.{Loading}
 use Rattle.loader.specs.Placing.{Placement, Base, from-start, segment, linear, stated-by}
 use Rattle.loader.specs.Load.{Tally, Verdict, accepted, refused, by, within, stopping, Loaded, placements, load}
@@ -191,6 +192,12 @@ Reasons = (text : List ℕ) (first : ℕ) (page marks : List ℕ) → Why text f
 -- and no other answer has one: each refusal is given exactly when its reason holds
 abbrev pub One-reason : Type 0
 One-reason = (text : List ℕ) (first : ℕ) (page marks : List ℕ) (v v′ : Verdict) → Why text first page marks v → Why text first page marks v′ → v ≡ v′
+
+-- a load that is refused with 2 gives the number of a line that has an offender, and names the first one's place there
+abbrev pub Names-the-offender : Type 0
+Names-the-offender =
+    (text : List ℕ) (first : ℕ) (page marks : List ℕ) (r : Refusal) (n : ℕ) → (load text first page marks) .answer ≡ refused r n → number-of r ≡ 2
+    → (place : ℕ) × Offends text n place × (r ≡ contains-invalid-characters (named place))
 
 -- the numbers of refusals that a load can give
 abbrev pub refusal-numbers : List ℕ

@@ -34,7 +34,7 @@ examples =
 error : Refusal → ReaderError
 error (refusal n vs) =
     if eqb n 1 then MissingStartCode else
-    if eqb n 2 then ContainsInvalidCharacters else
+    if eqb n 2 then ContainsInvalidCharacters (getD vs 0 0) else
     if eqb n 3 then RecordTooShort else
     if eqb n 4 then RecordTooLong else
     if eqb n 5 then RecordNotEvenLength else
@@ -66,7 +66,7 @@ error-again MissingStartCode = refl
 error-again RecordTooShort = refl
 error-again RecordTooLong = refl
 error-again RecordNotEvenLength = refl
-error-again ContainsInvalidCharacters = refl
+error-again (ContainsInvalidCharacters a) = refl
 error-again (ChecksumMismatch a b) = refl
 error-again PayloadLengthMismatch = refl
 error-again (UnsupportedRecordType a) = refl

@@ -1,4 +1,5 @@
 pub mod Gather
+pub mod Offender
 pub mod Cells
 pub mod Payload
 pub mod Answers
@@ -14,5 +15,6 @@ pub mod Along
 pub mod Room
 pub mod Claims
 pub mod Texts
+pub mod Naming
 pub mod Stays
 pub mod Held

@@ -10,12 +10,15 @@ use mathlib.Core.List.{List, [], _∷_, _++_, List·Memᴰ}
 use denote.Ref.{RefT}
 use lib.ListN.{length}
 use Rattle.record.specs.Common.{Every, text}
-use Rattle.record.specs.Refusals.{refusal, pool-full}
-use Rattle.record.specs.Line.{Said, judge}
+use Rattle.record.specs.Refusals.{Refusal, refusal, number-of, contains-invalid-characters, pool-full}
+use Rattle.record.specs.Line.{Said, wrong, named, judge}
+use Rattle.record.specs.Faults.{First-offender}
 use Rattle.record.specs.Written.{rewritten}
 use Rattle.record.specs.declared.Record.{Record}
 use Rattle.reader.specs.declared.Answer.{Answer}
+use Rattle.reader.specs.declared.Answer.the-variants.{Refused}
 use Rattle.reader.specs.declared.ReaderError.{ReaderError}
+use Rattle.reader.specs.declared.ReaderError.the-variants.{ContainsInvalidCharacters}
 use Rattle.reader.specs.declared.ReaderOptions.{ReaderOptions}
 use Rattle.reader.specs.declared.State.{State}
 use Rattle.reader.specs.declared.Step.{Step}
@@ -38,7 +41,7 @@ abbrev pub marked : List Row
 marked =
     (record { line = ""; answer = refuses (refusal 1 []) }) ∷
     (record { line = ":"; answer = refuses (refusal 3 []) }) ∷
-    (record { line = ":G"; answer = refuses (refusal 2 []) }) ∷
+    (record { line = ":G"; answer = refuses (refusal 2 (1 ∷ [])) }) ∷
     (record { line = ":0100000"; answer = refuses (refusal 3 []) }) ∷
     (record { line = ":00000001FF0"; answer = refuses (refusal 5 []) }) ∷
     (record { line = ":00000001FE"; answer = refuses (refusal 6 (0xFF ∷ 0xFE ∷ [])) }) ∷
@@ -65,6 +68,12 @@ abbrev pub Read-record-unique : Type 0
 Read-record-unique =
     (line pool : List ℕ) (at : ℕ) (r r′ : Answer) (p p′ : List ℕ)
     → ReadRecord line pool at r p → ReadRecord line pool at r′ p′ → (r ≡ r′) × (p ≡ p′)
+
+-- ContainsInvalidCharacters is answered exactly to a line that has an offender, and names the first one's place; the pool is as it was
+abbrev pub Answers-the-offender : Type 0
+Answers-the-offender =
+    (line pool : List ℕ) (at p : ℕ) (pool′ : List ℕ)
+    → ReadRecord line pool at (Refused (ContainsInvalidCharacters p)) pool′ ↔ ((place : ℕ) × First-offender line place × (p ≡ named place) × (pool′ ≡ pool))
 
 -- ---- lines
 
@@ -111,6 +120,21 @@ Numbers-are-lines =
     → List·Memᴰ (on n said) (sayings 1 (lines text))
     ↔ ((c : ℕ) × (line : List ℕ) × (before : List (List ℕ)) × (after : List (List ℕ))
     × (lines text ≡ before ++ ((c ∷ line) ∷ after)) × (n ≡ suc (length before)) × (said ≡ judge (c ∷ line)))
+
+-- the first offender of a text's n-th line stands at the place
+pub record Offends (text : List ℕ) (n place : ℕ) : Type 0 where
+  pub line : List ℕ
+  pub before : List (List ℕ)
+  pub after : List (List ℕ)
+  pub stands : lines text ≡ before ++ (line ∷ after)
+  pub number : n ≡ suc (length before)
+  pub first : First-offender line place
+
+-- what is said on line n is refusal 2 exactly where that line has an offender, and it names the first one's place there
+abbrev pub Says-the-offender : Type 0
+Says-the-offender =
+    (text : List ℕ) (n : ℕ) (r : Refusal)
+    → (List·Memᴰ (on n (wrong r)) (sayings 1 (lines text)) × (number-of r ≡ 2)) ↔ ((place : ℕ) × Offends text n place × (r ≡ contains-invalid-characters (named place)))
 
 -- ---- calls from any state
 

@@ -1,6 +1,6 @@
 -- What the helpers of the readers ask of and promise each other.
 -- Assumes nothing.
-use Prim.Native.Nat.{ℕ, _+_, _*_, _%_, _<_, _≤_}
+use Prim.Native.Nat.{ℕ, suc, _+_, _*_, _%_, _<_, _≤_}
 use mathlib.Core.Path.{_≡_}
 use mathlib.Core.Logic.{_≢_}
 use mathlib.Core.List.{List}
@@ -9,9 +9,12 @@ use lib.Dec.{ltb}
 use lib.ListN.{length, getD, take, drop}
 use Rattle.checksum.specs.Checksum.{sum}
 use Rattle.record.specs.declared.Record.{Record}
-use Rattle.record.specs.Digits.{digit, all-digits, bytes}
+use Rattle.record.specs.Digits.{digit, all-digits, leading, bytes}
+use Rattle.record.specs.Line.{named}
 use Rattle.record.specs.Meaning.{meaning}
 use Rattle.reader.specs.declared.Answer.the-variants.{Read}
+use Rattle.reader.specs.declared.ReaderError.{ReaderError}
+use Rattle.reader.specs.declared.ReaderError.the-variants.{ContainsInvalidCharacters}
 use Rattle.reader.specs.declared.Spot.{Spot}
 use Rattle.reader.specs.declared.Spot.the-variants.{At, Nothing}
 use Rattle.reader.specs.Lines.{LF, first-line, next-line, a-line, no-line}
@@ -42,6 +45,10 @@ pub record Decoded (ds : List ℕ) (n seen total : ℕ) (buf : List ℕ) : Type 
   pub digits : ltb seen 16 ≡ all-digits ds
   pub spelt : all-digits ds ≡ true → take n buf ≡ bytes ds
   pub sums : all-digits ds ≡ true → total ≡ sum (bytes ds) % 256
+
+-- refusal 2 of a line, whose first byte is the colon
+abbrev pub invalid-at : (line : List ℕ) → ReaderError
+invalid-at line = ContainsInvalidCharacters (named (suc (leading (drop 1 line))))
 
 -- m bytes of a buffer and their sum
 pub record Summed (buf : List ℕ) (m total : ℕ) : Type 0 where

@@ -5,19 +5,19 @@ use record::Record;
 use record::types;
 ghost use mathlib.Core.Path.{_≡_};
 ghost use mathlib.Core.Bool.{true, false};
-ghost use Prim.Native.Nat.{_+_, _-_, _*_, _%_, _≤_, _<_};
+ghost use Prim.Native.Nat.{suc, _+_, _-_, _*_, _%_, _≤_, _<_};
 ghost use lib.ListN.{length, take, drop};
 ghost use lib.Seq.{paste};
 ghost use lib.Dec.{eqb};
 ghost use Rattle.record.specs.Common.{if_then_else_};
-ghost use Rattle.record.specs.Digits.{digit, all-digits};
-ghost use Rattle.record.specs.Line.{size, judge-bytes, says};
+ghost use Rattle.record.specs.Digits.{digit, all-digits, leading};
+ghost use Rattle.record.specs.Line.{size, judge-bytes, says, named};
 ghost use Rattle.reader.specs.Told.{told};
 ghost use Rattle.reader.specs.Answer.{ReadRecord, Reads, word};
 ghost use Rattle.reader.specs.Lines.{rest};
 ghost use Rattle.reader.specs.Text.{FirstLine, Default, Ends, New, Next, Number, default-options, at-end};
 ghost use Rattle.reader.specs.Held.{Opened, Asked};
-ghost use Rattle.reader.specs.Helpers.{NoFeed, FirstFeed, LineEnd, Spotted, Settled, IsTable, Lent, Decodable, Decoded, Special, Summed};
+ghost use Rattle.reader.specs.Helpers.{NoFeed, FirstFeed, LineEnd, Spotted, Settled, IsTable, invalid-at, Lent, Decodable, Decoded, Special, Summed};
 
 // Why a line gives no record, in the crate's order.
 pub enum ReaderError {
@@ -25,7 +25,8 @@ pub enum ReaderError {
     RecordTooShort,
     RecordTooLong,
     RecordNotEvenLength,
-    ContainsInvalidCharacters,
+    // The place of the first byte that is no digit, the colon's being 0; 65,535 for any place beyond that.
+    ContainsInvalidCharacters(u16),
     // The computed checksum, and the stated one.
     ChecksumMismatch(u8, u8),
     PayloadLengthMismatch,
@@ -87,18 +88,29 @@ fn value(t: &[u8; 256], c: u8) -> u8
     t[c as usize]
 }
 
-// Whether each byte behind the first is a digit. The marker 16 has a bit that no digit has.
-fn all_digits(t: &[u8; 256], line: &[u8]) -> bool
+// The place of the first byte behind the colon that is no digit, or behind the line where each is one.
+fn first_other(t: &[u8; 256], line: &[u8]) -> usize
     requires { ⌜ IsTable (now t) ⌝ }
-    ensures { λ r. ⌜ r ≡ all-digits (drop 1 (now (line .entry))) ⌝ }
+    ensures { λ r. ⌜ r ≡ suc (leading (drop 1 (now (line .entry)))) ⌝ }
 {
-    let mut seen: u8 = 0;
     let mut i = 1;
     while i < line.len() {
-        seen = seen | value(t, line[i]);
+        if value(t, line[i]) >= 16 {
+            return i;
+        }
         i += 1;
     }
-    seen < 16
+    i
+}
+
+// A place as a refusal names it.
+fn name_place(place: usize) -> u16
+    ensures { λ r. ⌜ r ≡ named place ⌝ }
+{
+    if place > 65535 {
+        return 65535;
+    }
+    place as u16
 }
 
 // The byte that two digits spell.
@@ -108,7 +120,7 @@ fn pair(high: u8, low: u8) -> u8
     (((high as u16) * 16 + (low as u16)) % 256) as u8
 }
 
-// All digits gathered, and the sum of all bytes.
+// All digits gathered, and the sum of all bytes. The marker 16 has a bit that no digit has.
 struct Scan {
     seen: u8,
     sum: u8,
@@ -259,13 +271,13 @@ fn judge_bytes(buf: &[u8], m: usize, sum: u8, pool: &mut [u8], at: usize) -> Ans
 // The given refusal, unless a byte behind the colon is no digit.
 fn digits_or(t: &[u8; 256], line: &[u8], e: ReaderError) -> Answer
     requires { ⌜ IsTable (now t) ⌝ }
-    ensures { λ r. ⌜ r ≡ (if all-digits (drop 1 (now (line .entry))) then Answer.Refused e else Answer.Refused ReaderError.ContainsInvalidCharacters) ⌝ }
+    ensures { λ r. ⌜ r ≡ (if all-digits (drop 1 (now (line .entry))) then Answer.Refused e else Answer.Refused (invalid-at (now (line .entry)))) ⌝ }
 {
-    if all_digits(t, line) {
-        Answer::Refused(e)
-    } else {
-        Answer::Refused(ReaderError::ContainsInvalidCharacters)
+    let place = first_other(t, line);
+    if place < line.len() {
+        return Answer::Refused(ReaderError::ContainsInvalidCharacters(name_place(place)));
     }
+    Answer::Refused(e)
 }
 
 // One line, with the table and a buffer lent.
@@ -292,7 +304,8 @@ fn read_with(t: &[u8; 256], buf: &mut [u8], line: &[u8], pool: &mut [u8], at: us
     let m = n / 2;
     let scan = decode(t, line, m, buf);
     if scan.seen >= 16 {
-        return Answer::Refused(ReaderError::ContainsInvalidCharacters);
+        let place = first_other(t, line);
+        return Answer::Refused(ReaderError::ContainsInvalidCharacters(name_place(place)));
     }
     judge_bytes(buf, m, scan.sum, pool, at)
 }
@@ -429,7 +442,7 @@ impl ReaderError {
     {
         match self {
             ReaderError::MissingStartCode => 1,
-            ReaderError::ContainsInvalidCharacters => 2,
+            ReaderError::ContainsInvalidCharacters(_) => 2,
             ReaderError::RecordTooShort => 3,
             ReaderError::RecordTooLong => 4,
             ReaderError::RecordNotEvenLength => 5,

@@ -2,6 +2,7 @@ pub mod Tests
 pub mod Choices
 pub mod Parts
 pub mod Spelling
+pub mod Offender
 pub mod Judging
 pub mod Standing
 pub mod Writing

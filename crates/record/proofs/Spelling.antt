@@ -1,7 +1,7 @@
 -- Digits and bytes: the functions of `specs/Digits.antt` and the relations of `specs/Format.antt` agree, character by character.
 -- Assumes nothing.
 use Prim.Native.Nat.{ℕ, _+_, _*_, _-_, _%_, _<_, _≤_}
-use mathlib.Core.Path.{_≡_, refl, sym, _∙_, ap, ap₂}
+use mathlib.Core.Path.{_≡_, refl, sym, _∙_, ap₂}
 use mathlib.Core.Bool.{Bool, true, false, _&&_}
 use mathlib.Core.List.{List, [], _∷_, _++_}
 use native.Mathlib.Omega.{arith}
@@ -90,30 +90,6 @@ pub hex-every : (ds : List ℕ) → Every Is-hex ds → all-digits ds ≡ true
 unfolding all-digits
 hex-every [] h = refl
 hex-every (c ∷ ds) (h, hs) = rw (hex-is c h) (hex-every ds hs)
-
--- the first character that is no digit, between those before it and those behind
-pub record Offender (ds : List ℕ) : Type 0 where
-  pub before : List ℕ
-  pub at : ℕ
-  pub after : List ℕ
-  pub whole : ds ≡ before ++ (at ∷ after)
-  pub bad : ¬ Is-hex at
-
-pub offender : (ds : List ℕ) → all-digits ds ≡ false → Offender ds
-unfolding all-digits
-offender [] e = let z : _≡_ {A = ℕ} 0 1 = cc in absurd (omega arith)
-offender (c ∷ ds) e = go (is-digit c) refl (λ q. offender ds q) e
-  where
-    go : (b : Bool) → is-digit c ≡ b → (all-digits ds ≡ false → Offender ds) → b && all-digits ds ≡ false → Offender (c ∷ ds)
-    go true t later q =
-        let o = later q in
-        record { before = c ∷ o .before; at = o .at; after = o .after; whole = ap (λ (l : List ℕ). c ∷ l) (o .whole); bad = o .bad }
-    go false t later q = record { before = []; at = c; after = ds; whole = refl; bad = not-hex c t }
-
-pub not-all : (before : List ℕ) (c : ℕ) (after : List ℕ) → ¬ Is-hex c → all-digits (before ++ (c ∷ after)) ≡ false
-unfolding all-digits
-not-all [] c after h = rw (hex-not c h)
-not-all (b ∷ before) c after h = rw (not-all before c after h) (and-false (is-digit b))
 
 -- what spells bytes is digits, twice as many, and spells those that `bytes` computes
 pub spells-digits : {ds bs : List ℕ} → Spells ds bs → all-digits ds ≡ true

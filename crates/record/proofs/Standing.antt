@@ -1,7 +1,7 @@
 -- Each line stands as the judge says, in the terms of the relations, and nothing stands otherwise: the judge's tests are walked once,
 -- and what each shows is the relation's own fact.
 -- Assumes nothing.
-use Prim.Native.Nat.{ℕ, _+_, _*_, _%_, _<_, _≤_}
+use Prim.Native.Nat.{ℕ, suc, _+_, _*_, _%_, _<_, _≤_}
 use mathlib.Core.Path.{_≡_, refl, sym, _∙_, ap, subst}
 use mathlib.Core.Logic.{_≢_}
 use mathlib.Core.Bool.{Bool, true, false}
@@ -11,13 +11,14 @@ use lib.Dec.{ltb, eqb}
 use lib.ListN.{length, length-append}
 use borrow.Author.Tests.{lt-ltb, le-ltb, eq-eqb, ne-eqb, eqb-true, eqb-false, ltb-true, ltb-false}
 use Rattle.checksum.specs.Checksum.{negated-sum}
-use Rattle.record.specs.Refusals.{Refusal, number-of, missing-start-code, checksum-mismatch}
-use Rattle.record.specs.Digits.{all-digits, bytes}
-use Rattle.record.specs.Line.{Said, says, wrong, fits, judge-fields, judge-bytes, judge-digits, judge}
+use Rattle.record.specs.Refusals.{Refusal, number-of, missing-start-code, contains-invalid-characters, checksum-mismatch}
+use Rattle.record.specs.Digits.{all-digits, leading, bytes}
+use Rattle.record.specs.Line.{Said, says, wrong, fits, named, invalid, judge-fields, judge-bytes, judge-digits, judge}
 use Rattle.record.specs.Format.{Spells, Size, layout, Format}
 use Rattle.record.specs.Faults.{Sums-up, Fault, no-colon, no-digit, short, long, odd, sum-differs, length-differs, type-unknown, size-differs}
 use Rattle.record.proofs.Tests.{branch}
-use Rattle.record.proofs.Spelling.{spells-length, first-small, every-hex, hex-every, offender, not-all, digits-spell}
+use Rattle.record.proofs.Spelling.{spells-length, first-small, every-hex, hex-every, digits-spell}
+use Rattle.record.proofs.Offender.{first-offender, offended}
 use Rattle.record.proofs.Judging.{size-fits, fits-size, fields-mislaid, fields-unknown, fields-misfit, fields-fit, judge-layout, check-sums, parts, judge-colon, judge-other, judge-spelt, judged}
 
 -- what is owed to a line of which this is said
@@ -78,7 +79,7 @@ stands-digits ds =
     let s = digits-spell ds d even in
     let n : length ds ≡ 2 * length (bytes ds) = spells-length s in
     stands-bytes ds (bytes ds) s (omega arith) (omega arith)))))
-    (λ d. let o = offender ds d in no-digit (o .before) (o .after) (o .at) (ap (λ (l : List ℕ). 58 ∷ l) (o .whole)) (o .bad))
+    (λ d. no-digit (suc (leading ds)) (first-offender ds d))
 
 pub stands : (line : List ℕ) → Stands line (judge line)
 unfolding judge
@@ -125,11 +126,14 @@ differing ds (a ∷ b ∷ c ∷ d ∷ payload) stated s least most h =
     ∙ judge-layout a b c d payload stated
     ∙ rw (ne-eqb (negated-sum (a ∷ b ∷ c ∷ d ∷ payload)) stated (λ e. h (sym e)))
 
+judge-invalid : (ds : List ℕ) → all-digits ds ≡ false → judge (58 ∷ ds) ≡ invalid ds
+unfolding judge-digits
+judge-invalid ds e = judge-colon ds ∙ rw e
+
 pub refused : {line : List ℕ} {r : Refusal} → Fault line r → judge line ≡ wrong r
 unfolding judge-digits
 refused {line} (no-colon h) = without-colon line h
-refused (no-digit before after c e h) =
-    ap judge e ∙ judge-colon (before ++ (c ∷ after)) ∙ rw (not-all before c after h)
+refused {line} (no-digit place f) = let o = offended line place f in ap judge (o .starts) ∙ judge-invalid (o .digits) (o .bad) ∙ ap (λ (p : ℕ). wrong (contains-invalid-characters (named p))) (sym (o .counts))
 refused (short ds e d h) = ap judge e ∙ judge-colon ds ∙ rw (hex-every ds d, lt-ltb (length ds) 10 h)
 refused (long ds e d h) =
     ap judge e ∙ judge-colon ds ∙ rw (hex-every ds d, le-ltb (length ds) 10 (omega arith), lt-ltb 520 (length ds) h)
@@ -149,7 +153,7 @@ refused (size-differs high low kind check payload s h z) =
 -- a line is refused with a number up to 9
 pub fault-few : {line : List ℕ} {r : Refusal} → Fault line r → number-of r ≤ 9
 fault-few (no-colon h) = omega arith
-fault-few (no-digit before after c s h) = omega arith
+fault-few (no-digit place f) = omega arith
 fault-few (short ds s d h) = omega arith
 fault-few (long ds s d h) = omega arith
 fault-few (odd ds s d l m h) = omega arith

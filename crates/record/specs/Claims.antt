@@ -4,10 +4,10 @@ use Prim.Native.Nat.{ℕ}
 use mathlib.Core.Path.{_≡_}
 use mathlib.Core.Logic.{_↔_}
 use mathlib.Core.List.{List}
-use Rattle.record.specs.Refusals.{Refusal}
-use Rattle.record.specs.Line.{says, wrong, judge}
+use Rattle.record.specs.Refusals.{Refusal, number-of, contains-invalid-characters}
+use Rattle.record.specs.Line.{says, wrong, named, judge}
 use Rattle.record.specs.Format.{Format}
-use Rattle.record.specs.Faults.{Fault}
+use Rattle.record.specs.Faults.{First-offender, Fault}
 use Rattle.record.specs.Meaning.{Meaning, meaning}
 use Rattle.record.specs.Written.{written, Writable, Sayable, kind-of, address-of, payload-of, line-of}
 use Rattle.record.specs.declared.Record.{Record}
@@ -22,6 +22,15 @@ Admits =
 -- and refuses every other line, with the refusal that is first in the order
 abbrev pub Refuses : Type 0
 Refuses = (line : List ℕ) (r : Refusal) → (judge line ≡ wrong r) ↔ Fault line r
+
+-- there is one first offender at most, and refusal 2 comes exactly where there is one, and names its place
+abbrev pub One-offender : Type 0
+One-offender = (line : List ℕ) (p q : ℕ) → First-offender line p → First-offender line q → p ≡ q
+
+abbrev pub Names-the-offender : Type 0
+Names-the-offender =
+    (line : List ℕ) (r : Refusal)
+    → ((judge line ≡ wrong r) × (number-of r ≡ 2)) ↔ ((place : ℕ) × First-offender line place × (r ≡ contains-invalid-characters (named place)))
 
 -- what is written is in the format, for exactly that type, address and payload
 abbrev pub Written-in-format : Type 0

@@ -1,6 +1,6 @@
 -- Hexadecimal digits, the bytes that pairs of them spell, and the numbers that bytes say.
 -- Assumes nothing.
-use Prim.Native.Nat.{ℕ, _+_, _-_, _*_}
+use Prim.Native.Nat.{ℕ, suc, _+_, _-_, _*_}
 use mathlib.Core.Bool.{Bool, true, _&&_}
 use mathlib.Core.List.{List, [], _∷_}
 use lib.Dec.{leb, ltb}
@@ -25,6 +25,12 @@ unfoldable pub all-digits : List ℕ → Bool
 unfolding digit
 all-digits [] = true
 all-digits (c ∷ cs) = is-digit c && all-digits cs
+
+-- how many digits stand ahead of the first character that is none
+unfoldable pub leading : List ℕ → ℕ
+unfolding digit
+leading [] = 0
+leading (c ∷ cs) = if is-digit c then suc (leading cs) else 0
 
 -- two digits to a byte, high digit first
 unfoldable pub bytes : List ℕ → List ℕ

@@ -1,18 +1,27 @@
 -- What can be wrong with a line, as a relation: each refusal from 1 to 9 with the facts that make it the first that applies.
 -- Assumes nothing.
-use Prim.Native.Nat.{ℕ, _+_, _%_, _<_, _≤_}
+use Prim.Native.Nat.{ℕ, _%_, _<_, _≤_}
 use mathlib.Core.Path.{_≡_}
 use mathlib.Core.Logic.{_≢_}
 use mathlib.Core.List.{List, [], _∷_, _++_}
-use lib.ListN.{length}
+use lib.ListN.{length, getD}
 use Rattle.checksum.specs.Checksum.{sum, negated-sum}
 use Rattle.record.specs.Common.{Every}
 use Rattle.record.specs.Refusals.{Refusal, missing-start-code, contains-invalid-characters, record-too-short, record-too-long, record-not-even-length, checksum-mismatch, payload-length-mismatch, unsupported-record-type, invalid-length-for-type}
+use Rattle.record.specs.Line.{named}
 use Rattle.record.specs.Format.{Hex, Spells, Size, layout}
 
 -- the character is a hexadecimal digit
 abbrev pub Is-hex : ℕ → Type 0
 Is-hex c = (x : ℕ) × Hex c x
+
+-- the place of the first character behind a colon that is no digit, the colon's being 0: the least such place
+pub record First-offender (line : List ℕ) (place : ℕ) : Type 0 where
+  pub colon : getD line 0 0 ≡ 58
+  pub behind : 0 < place
+  pub inside : place < length line
+  pub offends : ¬ Is-hex (getD line place 0)
+  pub least : (i : ℕ) → 0 < i → i < length line → ¬ Is-hex (getD line i 0) → place ≤ i
 
 -- the line is a colon and digits that spell these bytes, which sum to zero: what stands before refusals 7 to 9
 pub record Sums-up (line bytes : List ℕ) : Type 0 where
@@ -24,7 +33,7 @@ pub record Sums-up (line bytes : List ℕ) : Type 0 where
 
 pub data Fault (line : List ℕ) : Refusal → Type 0 where
   no-colon : ((ds : List ℕ) → line ≢ 58 ∷ ds) → Fault line missing-start-code
-  no-digit : (before after : List ℕ) (c : ℕ) → line ≡ 58 ∷ (before ++ (c ∷ after)) → ¬ Is-hex c → Fault line contains-invalid-characters
+  no-digit : (place : ℕ) → First-offender line place → Fault line (contains-invalid-characters (named place))
   short : (ds : List ℕ) → line ≡ 58 ∷ ds → Every Is-hex ds → length ds < 10 → Fault line record-too-short
   long : (ds : List ℕ) → line ≡ 58 ∷ ds → Every Is-hex ds → 520 < length ds → Fault line record-too-long
   odd : (ds : List ℕ) → line ≡ 58 ∷ ds → Every Is-hex ds → 10 ≤ length ds → length ds ≤ 520 → length ds % 2 ≡ 1 → Fault line record-not-even-length

@@ -14,8 +14,8 @@ number-of (refusal number values) = number
 abbrev pub missing-start-code : Refusal
 missing-start-code = refusal 1 []
 
-abbrev pub contains-invalid-characters : Refusal
-contains-invalid-characters = refusal 2 []
+abbrev pub contains-invalid-characters : (place : ℕ) → Refusal
+contains-invalid-characters place = refusal 2 (place ∷ [])
 
 abbrev pub record-too-short : Refusal
 record-too-short = refusal 3 []

@@ -171,6 +171,9 @@ fn say_refusal(e: ReaderError) {
     if let ReaderError::UnsupportedRecordType(kind) = e {
         say_field(wide(kind), 2);
     }
+    if let ReaderError::ContainsInvalidCharacters(place) = e {
+        say_field(place as u64, 4);
+    }
 }
 
 fn say_answer(a: Answer) {

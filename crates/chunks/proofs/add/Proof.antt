@@ -18,7 +18,7 @@ same-length c = search needs
 returns : tie.Need-returns
 returns c =
     let a = c .before .before .before .before .before .before .args in
-    rw (added-CR (now (a .carry)) (a .used) (a .cr) (a .c) (c .if1 .taken)) (c .before .before .before .with-cr .ensures, refl)
+    rw (added-CR (held (now (a .carry)) (a .used) (a .skipped) (a .cr)) (a .c) (c .if1 .taken)) (c .before .before .before .with-cr .ensures, refl)
 
 push-requires : tie.Need-push-requires
 push-requires c κs = search needs
@@ -31,9 +31,9 @@ returns-2 c =
     let a = c .before .before .before .before .before .before .before .before .before .before .args in
     let w = c .before .before .before .before .before .before .before .with-cr in
     let p = c .before .before .push in
-    rw (added (now (a .carry)) (a .used) (a .cr) (a .c) (c .before .before .before .before .if1 .left)) (
-      onward (now (a .carry)) (a .used) (with-CR (held (now (a .carry)) (a .used) (a .cr))) (w .result) (w .last .0)
-          (push (with-CR (held (now (a .carry)) (a .used) (a .cr))) (a .c)) (p .result) (p .last .0) (w .ensures) (rw (← (w .ensures .holds)) (p .ensures)),
+    rw (added (held (now (a .carry)) (a .used) (a .skipped) (a .cr)) (a .c) (c .before .before .before .before .if1 .left)) (
+      onward (now (a .carry)) (a .used) (with-CR (held (now (a .carry)) (a .used) (a .skipped) (a .cr))) (w .result .used) (w .result .skipped) (w .last .0)
+          (push (with-CR (held (now (a .carry)) (a .used) (a .skipped) (a .cr))) (a .c)) (p .result .used) (p .result .skipped) (p .last .0) (w .ensures) (rw (← (w .ensures .holds)) (p .ensures)),
       refl,
     )
 

@@ -70,7 +70,7 @@ returns c =
     let f = c .before .before .before .before .before .before .from .given .0 in
     let g = c .before .before .before .gather in
     fresh-open (a .s) (now (a .chunk)) (a .position) (a .empties) (f .0) (f .1 .0) (now (a .carry)) (now (a .pool)) (a .at)
-    (g .result .position) (g .result .used) (g .result .cr) (c .used-up .result) (g .last .1 .1 .0) (opened (c .before .before .before .before .before .before)) (g .ensures .0)
+    (g .result .position) (g .result .used) (g .result .skipped) (g .result .cr) (c .used-up .result) (g .last .1 .1 .0) (opened (c .before .before .before .before .before .before)) (g .ensures .0)
     (omega (arith, g .ensures .1 .within, g .kept .1 .1 .0, c .before .before .before .before .before .before .before .before .before .before .before .before .pre)) (c .used-up .ensures)
 
 same-length-2 : tie.Need-same-length-2

@@ -5,9 +5,10 @@ use mathlib.Core.Path.{sym, _∙_, subst}
 use mathlib.Core.Bool.{Bool, true, false}
 use native.Mathlib.Omega.{arith}
 use denote.Ref.{now}
-use lib.ListN.{length, take}
+use lib.ListN.{length}
 use borrow.Author.Needs.{needs}
 use Rattle.reader.proofs.Searching.{cut-off}
+use Rattle.chunks.specs.Next.{kept-in}
 use Rattle.chunks.specs.Helpers.{held, Passed, Grown}
 use Rattle.chunks.proofs.Runs.{gathered-line, gathered-plain, some-CR, gathered-CR}
 use Rattle.chunks.proofs.gather.Statement.{statement}
@@ -64,11 +65,11 @@ copy-requires c κs = search needs
 add-behind : tie.Need-add-behind
 add-behind c = search needs
 
-sub-t26 : tie.Need-sub-t26
-sub-t26 c = search needs
+sub-t27 : tie.Need-sub-t27
+sub-t27 c = search needs
 
-add-t27 : tie.Need-add-t27
-add-t27 c = search needs
+add-t28 : tie.Need-add-t28
+add-t28 c = search needs
 
 same-length-4 : tie.Need-same-length-4
 same-length-4 c = search needs
@@ -79,17 +80,17 @@ returns-4 c =
     let f = c .before .before .before .before .before .before .first-line in
     let k = c .before .before .before .copy in
     let len = length (now (f .result)) in
-    subst (λ (x : Bool). Passed (now (a .chunk)) (a .position) (held (now (a .carry)) (a .used) x) (a .position + f .last .1 .0 - 1) (held (k .last .1 .0) (a .used + len) false) × Grown (now (a .carry)) (a .used) (take (a .used + len) (k .last .1 .0)) (a .used + len) (k .last .1 .0)) (sym (c .before .before .before .before .before .before .before .before .before .before .if1 .left))
-    (gathered-line (now (a .chunk)) (a .position) (now (a .carry)) (a .used) (now (f .result)) (f .last .1 .0) (k .last .1 .0) (c .before .before .before .before .before .before .before .before .before .before .before .before .before .pre .0) (c .before .before .before .before .before .before .before .before .before .before .before .before .before .pre .1) (c .before .before .before .before .before .before .before .before .before .before .before .before .before .pre .2) (cut-off (f .ensures)) (c .before .before .before .before .before .if3 .left) (k .ensures) (c .if4 .taken))
+    subst (λ (x : Bool). Passed (now (a .chunk)) (a .position) (held (now (a .carry)) (a .used) (a .skipped) x) (a .position + f .last .1 .0 - 1) (held (k .last .1 .0) (a .used + len) (a .skipped) false) × Grown (now (a .carry)) (a .used) (kept-in (k .last .1 .0) (a .used + len) (a .skipped)) (a .used + len) (a .skipped) (k .last .1 .0)) (sym (c .before .before .before .before .before .before .before .before .before .before .if1 .left))
+    (gathered-line (now (a .chunk)) (a .position) (now (a .carry)) (a .used) (a .skipped) (now (f .result)) (f .last .1 .0) (k .last .1 .0) (c .before .before .before .before .before .before .before .before .before .before .before .before .before .pre .0) (c .before .before .before .before .before .before .before .before .before .before .before .before .before .pre .1) (c .before .before .before .before .before .before .before .before .before .before .before .before .before .pre .2) (cut-off (f .ensures)) (c .before .before .before .before .before .if3 .left) (k .ensures) (c .if4 .taken))
 
 ends-in-cr-requires : tie.Need-ends-in-cr-requires
 ends-in-cr-requires c κs = search needs
 
-add-t29 : tie.Need-add-t29
-add-t29 c = search needs
+add-t30 : tie.Need-add-t30
+add-t30 c = search needs
 
-sub-t30 : tie.Need-sub-t30
-sub-t30 c = omega (arith, some-CR (now (c .before .before .before .before .before .before .before .before .first-line .result)) (sym (c .before .ends-in-cr .ensures) ∙ c .if5 .taken))
+sub-t31 : tie.Need-sub-t31
+sub-t31 c = omega (arith, some-CR (now (c .before .before .before .before .before .before .before .before .first-line .result)) (sym (c .before .ends-in-cr .ensures) ∙ c .if5 .taken))
 
 same-length-5 : tie.Need-same-length-5
 same-length-5 c = search needs
@@ -100,11 +101,11 @@ returns-5 c =
     let f = c .before .before .before .before .before .before .before .before .first-line in
     let k = c .before .before .before .before .before .copy in
     let len = length (now (f .result)) in
-    subst (λ (x : Bool). Passed (now (a .chunk)) (a .position) (held (now (a .carry)) (a .used) x) (a .position + f .last .1 .0) (held (k .last .1 .0) (a .used + len - 1) true) × Grown (now (a .carry)) (a .used) (take (a .used + len - 1) (k .last .1 .0)) (a .used + len - 1) (k .last .1 .0)) (sym (c .before .before .before .before .before .before .before .before .before .before .before .before .if1 .left))
-    (gathered-CR (now (a .chunk)) (a .position) (now (a .carry)) (a .used) (now (f .result)) (f .last .1 .0) (k .last .1 .0) (c .before .before .before .before .before .before .before .before .before .before .before .before .before .before .before .pre .0) (c .before .before .before .before .before .before .before .before .before .before .before .before .before .before .before .pre .1) (c .before .before .before .before .before .before .before .before .before .before .before .before .before .before .before .pre .2) (cut-off (f .ensures)) (c .before .before .before .before .before .before .before .if3 .left) (k .ensures) (omega (arith, c .before .before .if4 .left)) (sym (c .before .ends-in-cr .ensures) ∙ c .if5 .taken))
+    subst (λ (x : Bool). Passed (now (a .chunk)) (a .position) (held (now (a .carry)) (a .used) (a .skipped) x) (a .position + f .last .1 .0) (held (k .last .1 .0) (a .used + len - 1) (a .skipped) true) × Grown (now (a .carry)) (a .used) (kept-in (k .last .1 .0) (a .used + len - 1) (a .skipped)) (a .used + len - 1) (a .skipped) (k .last .1 .0)) (sym (c .before .before .before .before .before .before .before .before .before .before .before .before .if1 .left))
+    (gathered-CR (now (a .chunk)) (a .position) (now (a .carry)) (a .used) (a .skipped) (now (f .result)) (f .last .1 .0) (k .last .1 .0) (c .before .before .before .before .before .before .before .before .before .before .before .before .before .before .before .pre .0) (c .before .before .before .before .before .before .before .before .before .before .before .before .before .before .before .pre .1) (c .before .before .before .before .before .before .before .before .before .before .before .before .before .before .before .pre .2) (cut-off (f .ensures)) (c .before .before .before .before .before .before .before .if3 .left) (k .ensures) (omega (arith, c .before .before .if4 .left)) (sym (c .before .ends-in-cr .ensures) ∙ c .if5 .taken))
 
-add-t13 : tie.Need-add-t13
-add-t13 c = search needs
+add-t14 : tie.Need-add-t14
+add-t14 c = search needs
 
 same-length-6 : tie.Need-same-length-6
 same-length-6 c = search needs
@@ -115,8 +116,8 @@ returns-6 c =
     let f = c .before .before .before .before .before .before .before .before .first-line in
     let k = c .before .before .before .before .before .copy in
     let len = length (now (f .result)) in
-    subst (λ (x : Bool). Passed (now (a .chunk)) (a .position) (held (now (a .carry)) (a .used) x) (a .position + f .last .1 .0) (held (k .last .1 .0) (a .used + len) false) × Grown (now (a .carry)) (a .used) (take (a .used + len) (k .last .1 .0)) (a .used + len) (k .last .1 .0)) (sym (c .before .before .before .before .before .before .before .before .before .before .before .before .if1 .left))
-    (gathered-plain (now (a .chunk)) (a .position) (now (a .carry)) (a .used) (now (f .result)) (f .last .1 .0) (k .last .1 .0) (c .before .before .before .before .before .before .before .before .before .before .before .before .before .before .before .pre .0) (c .before .before .before .before .before .before .before .before .before .before .before .before .before .before .before .pre .1) (c .before .before .before .before .before .before .before .before .before .before .before .before .before .before .before .pre .2) (cut-off (f .ensures)) (c .before .before .before .before .before .before .before .if3 .left) (k .ensures) (omega (arith, c .before .before .if4 .left)) (sym (c .before .ends-in-cr .ensures) ∙ c .if5 .left))
+    subst (λ (x : Bool). Passed (now (a .chunk)) (a .position) (held (now (a .carry)) (a .used) (a .skipped) x) (a .position + f .last .1 .0) (held (k .last .1 .0) (a .used + len) (a .skipped) false) × Grown (now (a .carry)) (a .used) (kept-in (k .last .1 .0) (a .used + len) (a .skipped)) (a .used + len) (a .skipped) (k .last .1 .0)) (sym (c .before .before .before .before .before .before .before .before .before .before .before .before .if1 .left))
+    (gathered-plain (now (a .chunk)) (a .position) (now (a .carry)) (a .used) (a .skipped) (now (f .result)) (f .last .1 .0) (k .last .1 .0) (c .before .before .before .before .before .before .before .before .before .before .before .before .before .before .before .pre .0) (c .before .before .before .before .before .before .before .before .before .before .before .before .before .before .before .pre .1) (c .before .before .before .before .before .before .before .before .before .before .before .before .before .before .before .pre .2) (cut-off (f .ensures)) (c .before .before .before .before .before .before .before .if3 .left) (k .ensures) (omega (arith, c .before .before .if4 .left)) (sym (c .before .ends-in-cr .ensures) ∙ c .if5 .left))
 
 pub gather-spec : {M : Type 1} → statement M
 gather-spec =
@@ -139,15 +140,15 @@ gather-spec =
     returns-3
     copy-requires
     add-behind
-    sub-t26
-    add-t27
+    sub-t27
+    add-t28
     same-length-4
     returns-4
     ends-in-cr-requires
-    add-t29
-    sub-t30
+    add-t30
+    sub-t31
     same-length-5
     returns-5
-    add-t13
+    add-t14
     same-length-6
     returns-6)

@@ -18,7 +18,7 @@ unfolding with-CR
 returns c = rw (c .before .before .before .before .if1 .taken) (c .before .before .push .ensures)
 
 returns-2 : tie.Need-returns-2
-returns-2 c = rw (c .if1 .left) (no-CR (now (c .before .before .args .carry)) (c .before .before .args .used) (search needs))
+returns-2 c = rw (c .if1 .left) (no-CR (now (c .before .before .args .carry)) (c .before .before .args .used) (c .before .before .args .skipped) (search needs))
 
 pub with-cr-spec : {M : Type 1} → statement M
 with-cr-spec = tie.close (tie.spec push-requires same-length returns returns-2)

@@ -13,7 +13,7 @@ state-from-requires c κs = search needs
 returns : tie.Need-returns
 returns c =
     let a = c .before .before .args in
-    ap (λ (s : State). record { position = a .position; line = a .line; empties = a .empties; used = a .used; cr = bit (a .flags) 8; finished = s .finished; options = s .options })
+    ap (λ (s : State). record { position = a .position; line = a .line; empties = a .empties; used = a .used; skipped = a .skipped; cr = bit (a .flags) 8; finished = s .finished; options = s .options })
     (c .before .state-from .ensures)
 
 pub chunks-from-spec : {M : Type 1} → statement M

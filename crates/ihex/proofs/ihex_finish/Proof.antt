@@ -27,9 +27,9 @@ same-length-2 c = search needs
 
 returns : tie.Need-returns
 returns c =
-    let n = c .before .before .before .before .before .before .before .before .before .before .before .before .before .before .before .before in
+    let n = c .before .before .before .before .before .before .before .before .before .before .before .before .before .before .before .before .before in
     let s = n .before .before .before in
-    let a = s .before .before .before .before .before .before .before .before .args in
+    let a = s .before .before .before .before .before .before .before .before .before .args in
     chunk-read (finish-outcome _ (now (a .carry)) (now (a .pool)) (a .at)) []
     (subst (λ (x : Chunks). Finish x (now (a .carry)) (now (a .pool)) (a .at) (n .finish .result) (n .finish .last .1 .0) (n .finish .last .1 .1 .0)) (s .chunks-from .ensures) (n .finish .ensures))
     (c .tell-step .ensures)

@@ -16,17 +16,17 @@ use borrow.Author.Needs.{needs}
 use Rattle.listing.proofs.list.Statement.{statement}
 use Rattle.listing.proofs.list.Tie as tie
 
-has-room-requires : tie.Need-has-room-requires
-has-room-requires c κs = search needs
+text-room-requires : tie.Need-text-room-requires
+text-room-requires c κs = search needs
 
 returns : tie.Need-returns
 returns c =
     let a = c .before .before .before .before .args in
-    lists-full (now (a .text)) (now (a .out)) (leb-false _ _ (sym (c .before .has-room .ensures) ∙ not-true _ (c .if1 .taken)))
+    lists-full (now (a .text)) (now (a .out)) (leb-false _ _ (sym (c .before .text-room .ensures) ∙ not-true _ (c .if1 .taken)))
 
 -- past the first test there is room
-roomy : (c : tie.Else1) → 2 * length (now (c .before .before .before .before .args .text)) + 32 ≤ length (now (c .before .before .before .before .args .out))
-roomy c = leb-true _ _ (sym (c .before .has-room .ensures) ∙ not-false _ (c .if1 .left))
+roomy : (c : tie.Else1) → 3 * length (now (c .before .before .before .before .args .text)) + 32 ≤ length (now (c .before .before .before .before .args .out))
+roomy c = leb-true _ _ (sym (c .before .text-room .ensures) ∙ not-false _ (c .if1 .left))
 
 slice-aggregate-put-text : tie.Need-slice-aggregate-put-text
 slice-aggregate-put-text c = search needs
@@ -81,7 +81,7 @@ pub list-spec : {M : Type 1} → statement M
 list-spec =
     tie.close
     (tie.spec
-    has-room-requires
+    text-room-requires
     returns
     slice-aggregate-put-text
     put-text-requires

@@ -8,8 +8,7 @@ use denote.Ref.{now}
 use lib.ListN.{length}
 use Rattle.record.specs.Common.{text}
 use Rattle.reader.specs.Told.{refusal-of}
-use Rattle.listing.specs.Listing.{decimal, spaced}
-use Rattle.listing.specs.Helpers.{values-of}
+use Rattle.listing.specs.Listing.{decimal, values-shown}
 use Rattle.listing.proofs.Putting.{put-then, put-as}
 use Rattle.listing.proofs.Entry.{refusal-length, refusal-is}
 use borrow.Author.Needs.{needs}
@@ -47,7 +46,7 @@ returns c =
     let r = refusal-of (a .e) in
     let n = ap (λ (k : ℕ). length (decimal k)) (c .before .before .before .before .before .before .before .before .number .ensures .answer) in
     let l = refusal-length r in
-    put-as (now (a .out)) (a .at) (ap (λ (k : ℕ). text "! " ++ decimal k ++ spaced (values-of r)) (c .before .before .before .before .before .before .before .before .number .ensures .answer) ∙ sym (refusal-is r))
+    put-as (now (a .out)) (a .at) (ap (λ (k : ℕ). text "! " ++ decimal k ++ values-shown r) (c .before .before .before .before .before .before .before .before .number .ensures .answer) ∙ sym (refusal-is r))
     (put-then (now (a .out)) (a .at) (omega (arith, c .before .before .before .before .before .before .before .before .before .before .before .before .before .before .before .pre)) (put-then (now (a .out)) (a .at) (omega (arith, c .before .before .before .before .before .before .before .before .before .before .before .before .before .before .before .pre)) (c .before .before .before .before .before .before .before .before .before .before .before .put-text .ensures) (c .before .before .before .before .before .before .put-decimal .ensures)) (c .before .before .put-values .ensures))
 
 pub put-refusal-spec : {M : Type 1} → statement M

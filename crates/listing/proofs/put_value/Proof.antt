@@ -2,8 +2,6 @@
 -- Assumes nothing.
 use native.Mathlib.Omega.{arith}
 use denote.Ref.{now}
-use Rattle.record.specs.Written.{spelt}
-use Rattle.listing.specs.Listing.{spaced}
 use Rattle.listing.proofs.Putting.{put-then}
 use borrow.Author.Needs.{needs}
 use Rattle.listing.proofs.put_value.Statement.{statement}
@@ -19,7 +17,6 @@ same-length : tie.Need-same-length
 same-length c = search needs
 
 returns : tie.Need-returns
-unfolding spaced spelt
 returns c =
     let a = c .before .before .before .before .before .before .before .before .before .args in
     put-then (now (a .out)) (a .at) (omega (arith, c .before .before .before .before .before .before .before .before .before .pre)) (c .before .before .before .before .before .before .put-char .ensures) (c .before .before .put-byte .ensures)

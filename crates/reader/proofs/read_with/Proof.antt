@@ -11,7 +11,9 @@ use borrow.Author.Tests.{lt-ltb, le-ltb}
 use Rattle.checksum.specs.Checksum.{sum}
 use Rattle.record.specs.Digits.{all-digits}
 use Rattle.reader.specs.declared.ReaderError.the-variants.{MissingStartCode, RecordTooShort, RecordTooLong, RecordNotEvenLength, ContainsInvalidCharacters}
-use Rattle.record.specs.Line.{Said, judge, judge-bytes}
+use Rattle.record.specs.Refusals.{contains-invalid-characters}
+use Rattle.record.specs.Line.{Said, wrong, named, judge, judge-bytes}
+use Rattle.reader.specs.Helpers.{invalid-at}
 use Rattle.reader.proofs.Answers.{refused, chosen}
 use Rattle.reader.proofs.Line.{judge-none, judge-other, judge-short, judge-long, judge-odd, judge-bad, judge-whole}
 use borrow.Author.Needs.{needs}
@@ -59,7 +61,7 @@ digits-or-requires c κs = search needs
 returns-3 : tie.Need-returns-3
 returns-3 c =
     let s = c .before .before .before .before .before .before .before .before in
-    chosen (said s) (now (s .args .pool)) (s .args .at) (all-digits (drop 1 (line-of s))) (c .digits-or .result) RecordTooShort ContainsInvalidCharacters
+    chosen (said s) (now (s .args .pool)) (s .args .at) (all-digits (drop 1 (line-of s))) (c .digits-or .result) RecordTooShort (invalid-at (line-of s))
     (judge-short (line-of s) (c .before .before .if2 .left) (c .before .if3 .taken)) (c .digits-or .ensures)
 
 digits-or-requires-2 : tie.Need-digits-or-requires-2
@@ -68,7 +70,7 @@ digits-or-requires-2 c κs = search needs
 returns-4 : tie.Need-returns-4
 returns-4 c =
     let s = c .before .before .before .before .before .before .before .before .before in
-    chosen (said s) (now (s .args .pool)) (s .args .at) (all-digits (drop 1 (line-of s))) (c .digits-or2 .result) RecordTooLong ContainsInvalidCharacters
+    chosen (said s) (now (s .args .pool)) (s .args .at) (all-digits (drop 1 (line-of s))) (c .digits-or2 .result) RecordTooLong (invalid-at (line-of s))
     (judge-long (line-of s) (c .before .before .before .if2 .left) (c .before .if4 .taken)) (c .digits-or2 .ensures)
 
 digits-or-requires-3 : tie.Need-digits-or-requires-3
@@ -77,7 +79,7 @@ digits-or-requires-3 c κs = search needs
 returns-5 : tie.Need-returns-5
 returns-5 c =
     let s = c .before .before .before .before .before .before .before .before .before .before in
-    chosen (said s) (now (s .args .pool)) (s .args .at) (all-digits (drop 1 (line-of s))) (c .digits-or3 .result) RecordNotEvenLength ContainsInvalidCharacters
+    chosen (said s) (now (s .args .pool)) (s .args .at) (all-digits (drop 1 (line-of s))) (c .digits-or3 .result) RecordNotEvenLength (invalid-at (line-of s))
     (judge-odd (line-of s) (c .before .before .before .before .if2 .left) (omega arith) (omega arith) (c .before .if5 .taken)) (c .digits-or3 .ensures)
 
 decode-requires : tie.Need-decode-requires
@@ -85,15 +87,23 @@ decode-requires c κs =
     let s = c .before .before .before .before .before .before .before .before .before .before in
     record { table = s .pre .table; sized = omega arith; most = omega arith; room = s .pre .room }
 
+first-other-requires : tie.Need-first-other-requires
+first-other-requires c κs = search needs
+
+name-place-requires : tie.Need-name-place-requires
+name-place-requires c κs = search needs
+
 same-length : tie.Need-same-length
 same-length c = search needs
 
 returns-6 : tie.Need-returns-6
 returns-6 c =
-    let s = c .before .before .before .before .before .before .before .before .before .before .before .before .before .before .before in
-    let d = c .before .before .before .before .decode in
-    refused (said s) (now (s .args .pool)) (s .args .at) ContainsInvalidCharacters
-    (judge-bad (line-of s) (c .before .before .before .before .before .before .before .before .before .if2 .left) (sym (d .ensures .digits) ∙ le-ltb _ _ (c .if6 .taken)))
+    let b = c .before .before in
+    let s = b .before .before .before .before .before .before .before .before .before .before .before .before .before .before .before in
+    let d = b .before .before .before .before .decode in
+    refused (said s) (now (s .args .pool)) (s .args .at) (ContainsInvalidCharacters (c .name-place .result))
+    (judge-bad (line-of s) (b .before .before .before .before .before .before .before .before .before .if2 .left) (sym (d .ensures .digits) ∙ le-ltb _ _ (b .if6 .taken))
+    ∙ ap (λ (place : ℕ). wrong (contains-invalid-characters place)) (sym (c .name-place .ensures ∙ ap named (c .before .first-other .ensures))))
 
 judge-bytes-requires : tie.Need-judge-bytes-requires
 judge-bytes-requires c κs =
@@ -133,6 +143,8 @@ read-with-spec =
     digits-or-requires-3
     returns-5
     decode-requires
+    first-other-requires
+    name-place-requires
     same-length
     returns-6
     judge-bytes-requires

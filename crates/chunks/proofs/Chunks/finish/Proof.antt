@@ -4,6 +4,7 @@ use mathlib.Core.Path.{sym}
 use native.Mathlib.Omega.{arith}
 use borrow.Author.Needs.{needs}
 use denote.Ref.{now}
+use lib.ListN.{length-take}
 use lib.Seq.{length-take-le}
 use Rattle.chunks.proofs.FirstTests.{small-carry, much-used, big-enough, finish-small, finish-done, finish-none, finish-line}
 use Rattle.chunks.proofs.Chunks.finish.Statement.{statement}
@@ -33,6 +34,9 @@ returns-3 c =
     let a = c .before .before .before .before .before .before .before .args in
     finish-done (a .self) (now (a .carry)) (now (a .pool)) (a .at) (c .plain3 .result) (big-enough (a .self) (now (a .carry)) (search needs) (search needs)) (c .before .if3 .taken) (c .plain3 .ensures)
 
+left-out-requires : tie.Need-left-out-requires
+left-out-requires c κs = search needs
+
 with-cr-requires : tie.Need-with-cr-requires
 with-cr-requires c κs = search needs
 
@@ -47,20 +51,21 @@ same-length c = search needs
 
 returns-4 : tie.Need-returns-4
 returns-4 c =
-    let a = c .before .before .before .before .before .before .before .before .before .before .before .before .before .args in
+    let a = c .before .before .before .before .before .before .before .before .before .before .before .before .before .before .args in
     let w = c .before .before .before .before .before .with-cr in
-    finish-none (a .self) (now (a .carry)) (now (a .pool)) (a .at) (w .result) (w .last .0) (search needs) (search needs) (c .before .before .before .before .before .before .before .if3 .left) (w .ensures) (c .before .over .result) (c .plain4 .result) (c .before .before .if4 .taken) (c .before .over .ensures) (c .plain4 .ensures)
+    let l = c .before .before .before .before .before .before .left-out in
+    finish-none (a .self) (now (a .carry)) (now (a .pool)) (a .at) (w .result .used) (w .result .skipped) (w .last .0) (c .before .before .before .before .before .before .before .before .before .before .before .if1 .left) (c .before .before .before .before .before .before .before .before .before .if2 .left) (c .before .before .before .before .before .before .before .before .if3 .left) (rw (l .ensures) at (w .ensures)) (c .before .over .result) (c .plain4 .result) (c .before .before .if4 .taken) (c .before .over .ensures) (c .plain4 .ensures)
 
-slice-reshare-prefix-read-record : tie.Need-slice-reshare-prefix-read-record
-slice-reshare-prefix-read-record c = search needs
+slice-reshare-prefix-read-kept : tie.Need-slice-reshare-prefix-read-kept
+slice-reshare-prefix-read-kept c = search needs
 
-slice-aggregate-read-record : tie.Need-slice-aggregate-read-record
-slice-aggregate-read-record c =
+slice-aggregate-read-kept : tie.Need-slice-aggregate-read-kept
+slice-aggregate-read-kept c =
     let w = c .before .before .before .before .with-cr in
-    sym (length-take-le (w .result) (w .last .0) (omega (arith, w .ensures .within, w .kept .0)))
+    sym (length-take-le (w .result .used) (w .last .0) (omega (arith, w .ensures .within, w .kept .0)))
 
-read-record-requires : tie.Need-read-record-requires
-read-record-requires c κs = search needs
+read-kept-requires : tie.Need-read-kept-requires
+read-kept-requires c κs = simp length-take (omega (arith, c .before .before .before .before .before .with-cr .ensures .within))
 
 number-behind-requires : tie.Need-number-behind-requires
 number-behind-requires c κs = search needs
@@ -76,11 +81,12 @@ same-length-3 c = search needs
 
 returns-5 : tie.Need-returns-5
 returns-5 c =
-    let a = c .before .before .before .before .before .before .before .before .before .before .before .before .before .before .before .before .before .before .args in
+    let a = c .before .before .before .before .before .before .before .before .before .before .before .before .before .before .before .before .before .before .before .args in
     let w = c .before .before .before .before .before .before .before .before .before .before .with-cr in
-    let q = c .before .before .before .before .read-record in
+    let l = c .before .before .before .before .before .before .before .before .before .before .before .left-out in
+    let q = c .before .before .before .before .read-kept in
     let n = c .before .number-behind in
-    finish-line (a .self) (now (a .carry)) (now (a .pool)) (a .at) (w .result) (w .last .0) (c .before .before .before .before .before .before .before .before .before .before .before .before .before .before .before .if1 .left) (c .before .before .before .before .before .before .before .before .before .before .before .before .before .if2 .left) (c .before .before .before .before .before .before .before .before .before .before .before .before .if3 .left) (w .ensures) (q .result) (n .result) (c .settle .result) (q .last .1 .0) (c .before .before .before .before .before .before .before .if4 .left) (w .kept .0) (q .ensures) (n .ensures) (c .settle .ensures)
+    finish-line (a .self) (now (a .carry)) (now (a .pool)) (a .at) (w .result .used) (w .result .skipped) (w .last .0) (c .before .before .before .before .before .before .before .before .before .before .before .before .before .before .before .before .if1 .left) (c .before .before .before .before .before .before .before .before .before .before .before .before .before .before .if2 .left) (c .before .before .before .before .before .before .before .before .before .before .before .before .before .if3 .left) (rw (l .ensures) at (w .ensures)) (q .result) (n .result) (c .settle .result) (q .last .1 .1 .0) (c .before .before .before .before .before .before .before .if4 .left) (w .kept .0) (q .ensures) (n .ensures) (c .settle .ensures)
 
 pub finish-spec : {M : Type 1} → statement M
 finish-spec =
@@ -92,14 +98,15 @@ finish-spec =
     returns-2
     plain-requires-3
     returns-3
+    left-out-requires
     with-cr-requires
     over-requires
     plain-requires-4
     same-length
     returns-4
-    slice-reshare-prefix-read-record
-    slice-aggregate-read-record
-    read-record-requires
+    slice-reshare-prefix-read-kept
+    slice-aggregate-read-kept
+    read-kept-requires
     number-behind-requires
     settle-requires
     same-length-2
