@@ -141,9 +141,9 @@ size_t ihex_shown(uint8_t lies, size_t from, size_t len,
 /* The state of a reader of chunks, and where the line lies that gave a record. It begins with 0 in all but the flags: the stops. */
 struct ihex_chunks {
     size_t position, line, empties, used;
-    uint16_t skipped;
     uint8_t flags;
     uint8_t lies;
+    uint16_t skipped;
     size_t from, len;
 };
 

@@ -737,6 +737,25 @@ static void places_in_chunks(void)
         }
 }
 
+/* each byte in the last place that the carry holds, ahead of one that is no digit: it is left out exactly where it is a digit */
+static void bytes_behind_521(void)
+{
+    static char text[IHEX_CARRY + 2];
+    int c;
+    memset(text, '0', sizeof text);
+    text[0] = ':';
+    text[IHEX_CARRY] = 'G';
+    text[IHEX_CARRY + 1] = '\n';
+    for (c = 0; c < 256; c++) {
+        if (c == '\n')
+            continue;
+        text[IHEX_CARRY - 1] = (char)c;
+        in_chunks(text, sizeof text, IHEX_CARRY, 1, 0);
+        CHECK(expected[0].code == IHEX_REFUSED + IHEX_CONTAINS_INVALID_CHARACTERS &&
+              expected[0].a == (isxdigit(c) ? IHEX_CARRY : IHEX_CARRY - 1));
+    }
+}
+
 /* a CR is the line's at the text's end and ahead of another CR, and the line end's ahead of LF */
 static void places_of_CR(void)
 {
@@ -1022,6 +1041,9 @@ static void shown_places(void)
 static void struct_of_chunks(void)
 {
     size_t k, n = strlen(cut_text);
+    /* the flags stand fifth, also where a state is written in one go */
+    static const struct ihex_chunks begins = {0, 0, 0, 0, IHEX_STOP_AFTER_EOF, 0, 0, 0, 0};
+    CHECK(begins.flags == IHEX_STOP_AFTER_EOF && begins.skipped == 0);
     CHECK(sizeof(struct ihex_chunks) == 7 * sizeof(size_t) && offsetof(struct ihex_chunks, from) == 5 * sizeof(size_t));
     for (k = 1; k < 8; k++)
         stepwise(cut_text, n, k, IHEX_STOP_AFTER_EOF);
@@ -1455,6 +1477,7 @@ int main(void)
     waiting_CR();
     long_lines();
     places_in_chunks();
+    bytes_behind_521();
     places_of_CR();
     counts_of_skipped();
     counts_that_are_made_up();

@@ -14,8 +14,9 @@ use Rattle.record.specs.Common.{if_then_else_}
 use Rattle.record.specs.Refusals.{missing-start-code, contains-invalid-characters, record-too-long}
 use Rattle.record.specs.Digits.{is-digit, all-digits, leading}
 use Rattle.record.specs.Line.{Said, wrong, named, invalid, judge, judge-digits}
-use Rattle.record.proofs.Tests.{and-assoc, split}
+use Rattle.record.proofs.Tests.{both, and-assoc, split}
 use Rattle.record.proofs.Offender.{leading-on, leading-in}
+use Rattle.chunks.specs.Claims.{Left-out-counted, Nothing-behind-counted}
 use Rattle.chunks.specs.Begun.{Kept, none-kept, push, brief, behind-digits, stands-for}
 
 -- a line over 521 bytes: 1, 2 or 4
@@ -225,3 +226,67 @@ judge-brief l =
     ∙ judged-full (drop 522 l) (record { bytes = take 522 l; skipped = 0 }) n
     ∙ ap (λ (t : List ℕ). judge (t ++ drop 522 l)) (all-kept (take 522 l))
     ∙ ap judge (take-append-drop 522 l))
+
+-- ---- what is left out
+
+module _ (x : ℕ) (front : List ℕ) (h : length front ≡ 520) where
+  -- behind a digit that is the last byte kept
+  on-digit : (y n c : ℕ) → is-digit y ≡ true → push (full x front h y n) c ≡ full x front h c (named (suc n))
+  on-digit y n c e = full-push x front h y n c ∙ rw e
+
+  run-counted : (ds : List ℕ) (y n c : ℕ) → is-digit y ≡ true → all-digits ds ≡ true → suc (n + length ds) ≤ 65535
+      → foldl push (full x front h y n) (ds ++ (c ∷ [])) ≡ full x front h c (suc (n + length ds))
+  unfolding all-digits
+  run-counted [] y n c e d k = on-digit y n c e ∙ ap (full x front h c) (omega arith)
+  run-counted (z ∷ ds) y n c e d k =
+      let (f, g) = both (is-digit z) (all-digits ds) d in
+      let one : named (suc n) ≡ suc n = omega arith in
+      ap (λ (k : Kept). foldl push k (ds ++ (c ∷ []))) (on-digit y n z e ∙ ap (full x front h z) one)
+      ∙ run-counted ds z (suc n) c f g (omega arith) ∙ ap (full x front h c) (omega arith)
+
+  -- however many they are, the last byte is kept
+  run-kept : (ds : List ℕ) (y n c : ℕ) → is-digit y ≡ true → all-digits ds ≡ true → (m : ℕ) × (foldl push (full x front h y n) (ds ++ (c ∷ [])) ≡ full x front h c m)
+  unfolding all-digits
+  run-kept [] y n c e d = (named (suc n), on-digit y n c e)
+  run-kept (z ∷ ds) y n c e d =
+      let (f, g) = both (is-digit z) (all-digits ds) d in
+      let (m, k) = run-kept ds z (named (suc n)) c f g in
+      (m, ap (λ (k : Kept). foldl push k (ds ++ (c ∷ []))) (on-digit y n z e) ∙ k)
+
+  -- a byte that is none stays
+  run-stays : (more : List ℕ) (y n : ℕ) → is-digit y ≡ false → foldl push (full x front h y n) more ≡ full x front h y n
+  run-stays [] y n e = refl
+  run-stays (z ∷ more) y n e = ap (λ (k : Kept). foldl push k more) (full-push x front h y n z ∙ rw e) ∙ run-stays more y n e
+
+  -- 522 bytes, and what comes behind them
+  brief-behind : (y : ℕ) (l : List ℕ) → brief ((x ∷ front) ++ (y ∷ l)) ≡ foldl push (full x front h y 0) l
+  brief-behind y l =
+      ap brief (sym (append-assoc (x ∷ front) (y ∷ []) l))
+      ∙ foldl-on ((x ∷ front) ++ (y ∷ [])) l none-kept
+      ∙ ap (λ (k : Kept). foldl push k l) (brief-short ((x ∷ front) ++ (y ∷ [])) (omega (arith, length-append (x ∷ front) (y ∷ []))))
+
+  counted : (ds : List ℕ) (c : ℕ) → all-digits ds ≡ true → length ds ≤ 65535 → brief ((x ∷ front) ++ (ds ++ (c ∷ []))) ≡ full x front h c (length ds)
+  unfolding all-digits
+  counted [] c d k = brief-behind c []
+  counted (y ∷ ds) c d k =
+      let (f, g) = both (is-digit y) (all-digits ds) d in
+      brief-behind y (ds ++ (c ∷ [])) ∙ run-counted ds y 0 c f g (omega arith) ∙ ap (full x front h c) (omega arith)
+
+  behind-other : (ds more : List ℕ) (c : ℕ) → all-digits ds ≡ true → is-digit c ≡ false → brief ((x ∷ front) ++ (ds ++ (c ∷ more))) ≡ brief ((x ∷ front) ++ (ds ++ (c ∷ [])))
+  unfolding all-digits
+  behind-other [] more c d e = brief-behind c more ∙ run-stays more c 0 e ∙ sym (brief-behind c [])
+  behind-other (y ∷ ds) more c d e =
+      let (f, g) = both (is-digit y) (all-digits ds) d in
+      let (m, k) = run-kept ds y 0 c f g in
+      brief-behind y (ds ++ (c ∷ more))
+      ∙ ap (foldl push (full x front h y 0)) (sym (append-assoc ds (c ∷ []) more))
+      ∙ foldl-on (ds ++ (c ∷ [])) more (full x front h y 0)
+      ∙ ap (λ (k : Kept). foldl push k more) k ∙ run-stays more c m e ∙ sym k ∙ sym (brief-behind y (ds ++ (c ∷ [])))
+
+pub left-out-counted : Left-out-counted
+left-out-counted [] digits c h d k = absurd (omega arith)
+left-out-counted (x ∷ front) digits c h d k = counted x front (omega arith) digits c d k
+
+pub nothing-behind-counted : Nothing-behind-counted
+nothing-behind-counted [] digits more c h d e = absurd (omega arith)
+nothing-behind-counted (x ∷ front) digits more c h d e = behind-other x front (omega arith) digits more c d e

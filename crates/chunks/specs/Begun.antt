@@ -33,7 +33,7 @@ is-empty (c ∷ line) = false
 
 -- One byte more of a line. At most 522 are kept, one more than the longest good line has: of a longer line the first 521, and then
 -- its first byte behind them that is no digit, or its last one where all are digits. Those that it takes the place of are counted,
--- as far as a refusal names places.
+-- up to 65,535.
 unfoldable pub push : Kept → ℕ → Kept
 push k c =
     if ltb (length (k .bytes)) 522 then record { bytes = k .bytes ++ (c ∷ []); skipped = k .skipped } else
@@ -49,7 +49,7 @@ unfoldable pub behind-digits : ℕ → List ℕ → List ℕ
 behind-digits n [] = []
 behind-digits n (c ∷ cs) = replicate n 48 ++ (c ∷ cs)
 
--- The line that what is kept stands for: with a zero for each digit that was left out it is judged as the line is (`Judged-as-kept`).
+-- The line that what is kept stands for: with a zero for each digit that was counted it is judged as the line is (`Judged-as-kept`).
 unfoldable pub stands-for : Kept → List ℕ
 unfolding behind-digits
 stands-for k = take 521 (k .bytes) ++ behind-digits (k .skipped) (drop 521 (k .bytes))

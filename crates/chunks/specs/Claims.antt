@@ -11,6 +11,7 @@ use denote.Ref.{RefT}
 use lib.ListN.{length, getD, take}
 use Rattle.record.specs.Common.{if_then_else_, Every, text, pasted}
 use Rattle.record.specs.Refusals.{pool-full, carry-too-small}
+use Rattle.record.specs.Digits.{is-digit, all-digits}
 use Rattle.record.specs.Line.{judge}
 use Rattle.reader.specs.declared.ReaderOptions.{ReaderOptions}
 use Rattle.reader.specs.Told.{Told, gives, refuses, done}
@@ -40,6 +41,18 @@ pub record Examples : Type 0 where
 -- what is kept of a line is judged as the line is
 abbrev pub Judged-as-kept : Type 0
 Judged-as-kept = (line : List ℕ) → judge (stands-for (brief line)) ≡ judge line
+
+-- of a line over 522 bytes whose bytes from the 522nd on are digits, but perhaps the last, all those are left out but the last
+abbrev pub Left-out-counted : Type 0
+Left-out-counted =
+    (front digits : List ℕ) (c : ℕ) → length front ≡ 521 → all-digits digits ≡ true → length digits ≤ 65535
+    → brief (front ++ (digits ++ (c ∷ []))) ≡ record { bytes = front ++ (c ∷ []); skipped = length digits }
+
+-- and what stands behind a byte that is none changes nothing
+abbrev pub Nothing-behind-counted : Type 0
+Nothing-behind-counted =
+    (front digits more : List ℕ) (c : ℕ) → length front ≡ 521 → all-digits digits ≡ true → is-digit c ≡ false
+    → brief (front ++ (digits ++ (c ∷ more))) ≡ brief (front ++ (digits ++ (c ∷ [])))
 
 -- ---- rows of answers
 

@@ -288,6 +288,16 @@ fn tell_step(
 ) -> u32
     ensures { λ r. ⌜ TellStep step r (now (position .exit)) (now (line .exit)) (now (empties .exit)) (now (used .exit)) (now (skipped .exit)) (now (flags .exit)) (now (lies .exit)) (now (from .exit)) (now (len .exit)) (now (a .exit)) (now (b .exit)) (now (c .exit)) ⌝ }
 {
+    let reply = step.reply;
+    let told = code_chunk_reply(reply);
+    *a = told.a;
+    *b = told.b;
+    *c = told.c;
+    let place = step.lies;
+    let spot = spot_of(place);
+    *lies = spot.lies;
+    *from = spot.from;
+    *len = spot.len;
     let state = step.state;
     *position = state.position;
     *line = state.line;
@@ -295,16 +305,6 @@ fn tell_step(
     *used = state.used;
     *skipped = state.skipped;
     *flags = chunk_flags_from(state);
-    let place = step.lies;
-    let spot = spot_of(place);
-    *lies = spot.lies;
-    *from = spot.from;
-    *len = spot.len;
-    let reply = step.reply;
-    let told = code_chunk_reply(reply);
-    *a = told.a;
-    *b = told.b;
-    *c = told.c;
     told.code
 }
 

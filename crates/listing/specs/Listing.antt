@@ -48,7 +48,7 @@ record-entry (start-segment cs ip) = text "X3 " ++ spelt (two-bytes cs ++ two-by
 record-entry (extended-linear number) = text "X4 " ++ spelt (two-bytes number)
 record-entry (start-linear number) = text "X5 " ++ spelt (four-bytes number)
 
--- the values of a refusal: each is a byte, but that of refusal 2 is a place, which takes two
+-- the values of a line's refusal: each is a byte, but that of refusal 2 is a place, which takes two
 unfoldable pub values-shown : Refusal → List ℕ
 unfolding spelt flatMap
 values-shown (refusal number values) = flatMap (λ v. spaced (if eqb number 2 then two-bytes v else v ∷ [])) values

@@ -51,41 +51,43 @@ cells-more : (l : List ℕ) (p : ℕ) → p + 1 < length l
 unfolding cells
 cells-more l p h = ap cells (drop-two l p h)
 
--- where the loop is: p stands before the digits of byte i
-pub record Turn (line : List ℕ) (n : ℕ) (buf : List ℕ) (seen total p i : ℕ) : Type 0 where
-  pub place : p ≡ 1 + 2 * i
+-- where the loop is: this stands before the digits of byte i
+abbrev pub place : ℕ → ℕ
+place i = 1 + 2 * i
+
+pub record Turn (line : List ℕ) (n : ℕ) (buf : List ℕ) (seen total i : ℕ) : Type 0 where
   pub inside : i ≤ n
   pub room : 260 ≤ length buf
   pub small : total < 256
-  pub gathered : ltb seen 16 && all-digits (drop p line) ≡ all-digits (drop 1 line)
-  pub spelt : take i buf ++ cells (drop p line) ≡ cells (drop 1 line)
-  pub summed : (total + sum (cells (drop p line))) % 256 ≡ sum (cells (drop 1 line)) % 256
+  pub gathered : ltb seen 16 && all-digits (drop (place i) line) ≡ all-digits (drop 1 line)
+  pub spelt : take i buf ++ cells (drop (place i) line) ≡ cells (drop 1 line)
+  pub summed : (total + sum (cells (drop (place i) line))) % 256 ≡ sum (cells (drop 1 line)) % 256
 
 module _ (t line : List ℕ) (n : ℕ) (buf₀ : List ℕ) (ready : Decodable t line n buf₀) where
-  pub turn-first : Turn line n buf₀ 0 0 1 0
-  turn-first = record { place = refl; inside = omega arith; room = ready .room; small = omega arith; gathered = refl; spelt = refl; summed = omega arith }
+  pub turn-first : Turn line n buf₀ 0 0 0
+  turn-first = record { inside = omega arith; room = ready .room; small = omega arith; gathered = refl; spelt = refl; summed = omega arith }
 
   -- a turn stores the byte
   stored-more : (xs : List ℕ) (i b : ℕ) (ys : List ℕ) → i < length xs → take (i + 1) (set xs i b) ++ ys ≡ take i xs ++ (b ∷ ys)
   stored-more xs i b ys h = simp (add-one, take-suc-set xs i b h, append-assoc)
 
-  pub turn-more : (buf : List ℕ) (seen total p i high low byte total′ : ℕ)
-      → Turn line n buf seen total p i → i < n
-      → high ≡ digit (getD line p 0) → low ≡ digit (getD line (p + 1) 0)
+  pub turn-more : (buf : List ℕ) (seen total i high low byte total′ : ℕ)
+      → Turn line n buf seen total i → i < n
+      → high ≡ digit (getD line (place i) 0) → low ≡ digit (getD line (place i + 1) 0)
       → byte ≡ (high * 16 + low) % 256 → total′ ≡ (total + byte) % 256
-      → Turn line n (set buf i byte) (bitOr (bitOr seen high) low) total′ (p + 2) (i + 1)
+      → Turn line n (set buf i byte) (bitOr (bitOr seen high) low) total′ (i + 1)
   unfolding sum
-  turn-more buf seen total p i high low byte total′ t h eh el eb et =
+  turn-more buf seen total i high low byte total′ t h eh el eb et =
       let size : length line ≡ 1 + 2 * n = ready .sized in
       let most : n ≤ 260 = ready .most in
-      let pl : p ≡ 1 + 2 * i = t .place in
+      let p : ℕ = place i in
       let p₁ : p < length line = omega arith in
       let p₂ : p + 1 < length line = omega arith in
-      let two : p + 2 ≡ p + 1 + 1 = omega arith in
-      let rest : List ℕ = cells (drop (p + 2) line) in
-      let here : cells (drop p line) ≡ byte ∷ rest = cells-more line p p₂ ∙ rw (eb, eh, el) in
+      let two : place (i + 1) ≡ p + 1 + 1 = omega arith in
+      let next : p + 2 ≡ place (i + 1) = omega arith in
+      let rest : List ℕ = cells (drop (place (i + 1)) line) in
+      let here : cells (drop p line) ≡ byte ∷ rest = cells-more line p p₂ ∙ rw (eb, eh, el, next) in
       record {
-        place = omega arith;
         inside = omega arith;
         room = simp length-set (t .room);
         small = omega arith;
@@ -97,15 +99,16 @@ module _ (t line : List ℕ) (n : ℕ) (buf₀ : List ℕ) (ready : Decodable t 
             omega arith;
       }
 
-  pub turn-last : (buf : List ℕ) (seen total p i : ℕ) → Turn line n buf seen total p i → n ≤ i → Decoded (drop 1 line) n seen total buf
+  pub turn-last : (buf : List ℕ) (seen total i : ℕ) → Turn line n buf seen total i → n ≤ i → Decoded (drop 1 line) n seen total buf
   unfolding sum cells
-  turn-last buf seen total p i t h =
+  turn-last buf seen total i t h =
+      let p : ℕ = place i in
       let size : length line ≡ 1 + 2 * n = ready .sized in
       let e : i ≡ n = omega (arith, t .inside) in
-      let over : length line ≤ p = omega (arith, t .place) in
+      let over : length line ≤ p = omega arith in
       let none : drop p line ≡ [] = drop-of-length-le line over in
       let small : total < 256 = t .small in
-      let spelt : take n buf ≡ cells (drop 1 line) = sym (append-nil (take n buf)) ∙ rw (e, none) at (t .spelt) in
+      let spelt : take n buf ≡ cells (drop 1 line) = sym (append-nil (take n buf)) ∙ rw (none, e) at (t .spelt) in
       let summed : (total + 0) % 256 ≡ sum (cells (drop 1 line)) % 256 = rw none at (t .summed) in
       record {
         digits = sym (gather-end line p seen over) ∙ t .gathered;

@@ -133,16 +133,15 @@ fn decode(t: &[u8; 256], line: &[u8], n: usize, buf: &mut [u8]) -> Scan
 {
     let mut seen: u8 = 0;
     let mut sum: u8 = 0;
-    let mut p = 1;
     let mut i = 0;
     while i < n {
+        let p = 1 + 2 * i;
         let high = value(t, line[p]);
         let low = value(t, line[p + 1]);
         let byte = pair(high, low);
         seen = seen | high | low;
         sum = std::num::wrapping_add_u8(sum, byte);
         buf[i] = byte;
-        p += 2;
         i += 1;
     }
     Scan { seen, sum }

@@ -7,7 +7,7 @@ use native.Mathlib.Omega.{arith}
 use Rattle.record.specs.Refusals.{Refusal, number-of, contains-invalid-characters}
 use Rattle.record.specs.Line.{wrong, named}
 use Rattle.record.specs.Faults.{First-offender, Fault, no-colon, no-digit, short, long, odd, sum-differs, length-differs, type-unknown, size-differs}
-use Rattle.record.specs.Claims.{Admits, Refuses, One-offender, Names-the-offender, Record-type-unique}
+use Rattle.record.specs.Claims.{Admits, Refuses, Named-as, One-offender, Names-the-offender, Record-type-unique}
 use Rattle.record.proofs.Offender.{one-offender}
 use Rattle.record.proofs.Standing.{Stands, stands, admitted, refused}
 
@@ -19,6 +19,9 @@ refuses line r = (λ e. subst (Stands line) e (stands line), refused)
 
 pub record-type-unique : Record-type-unique
 record-type-unique x r r′ a b = a .answer ∙ sym (b .answer)
+
+pub named-as : Named-as
+named-as place = (λ h. omega arith, λ h. omega arith)
 
 pub offender-is-one : One-offender
 offender-is-one line p q f g = one-offender line p q f g

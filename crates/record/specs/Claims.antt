@@ -1,6 +1,6 @@
 -- What is claimed of the definitions, and proved in `proofs/Claims.antt` and `proofs/Writing.antt`.
 -- Assumes nothing.
-use Prim.Native.Nat.{ℕ}
+use Prim.Native.Nat.{ℕ, _≤_}
 use mathlib.Core.Path.{_≡_}
 use mathlib.Core.Logic.{_↔_}
 use mathlib.Core.List.{List}
@@ -22,6 +22,10 @@ Admits =
 -- and refuses every other line, with the refusal that is first in the order
 abbrev pub Refuses : Type 0
 Refuses = (line : List ℕ) (r : Refusal) → (judge line ≡ wrong r) ↔ Fault line r
+
+-- a refusal names a place as it is, and any beyond 65,535 as that
+abbrev pub Named-as : Type 0
+Named-as = (place : ℕ) → (place ≤ 65535 → named place ≡ place) × (65535 ≤ place → named place ≡ 65535)
 
 -- there is one first offender at most, and refusal 2 comes exactly where there is one, and names its place
 abbrev pub One-offender : Type 0

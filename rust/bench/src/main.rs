@@ -206,6 +206,7 @@ mod by_port {
         line: usize,
         empties: usize,
         used: usize,
+        skipped: u16,
         flags: u8,
         sum: u64,
     }
@@ -218,6 +219,7 @@ mod by_port {
                 &mut self.line,
                 &mut self.empties,
                 &mut self.used,
+                &mut self.skipped,
                 &mut self.flags,
             );
             let (mut lies, mut from, mut len) = (0, 0, 0);
@@ -254,6 +256,7 @@ mod by_port {
             line: 0,
             empties: 0,
             used: 0,
+            skipped: 0,
             flags: 3,
             sum: 0,
         };

@@ -11,7 +11,7 @@ fn main() {
     );
     assert_eq!(
         reader.next(),
-        Some(Err(ReaderError::ContainsInvalidCharacters))
+        Some(Err(ReaderError::ContainsInvalidCharacters(11)))
     );
     assert_eq!(reader.next(), Some(Err(ReaderError::MissingStartCode)));
     assert_eq!(reader.next(), Some(Ok(Record::EndOfFile)));
@@ -19,5 +19,5 @@ fn main() {
     assert_eq!(reader.line(), 3);
 
     let line = Record::from_record_bytes(b":\xFF");
-    assert_eq!(line, Err(ReaderError::ContainsInvalidCharacters));
+    assert_eq!(line, Err(ReaderError::ContainsInvalidCharacters(1)));
 }

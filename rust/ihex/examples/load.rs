@@ -17,4 +17,8 @@ fn main() {
     assert_eq!(refused, outside);
     assert_eq!(refused.line(), Some(2));
     assert_eq!(marks, [0, 0, 0, 0, 0, 1, 0, 0]);
+
+    // A character that is no digit, here an l for a 1, has a column too. The colon's is 1.
+    let refused = load(":010005007783\n:0000000lFF\n", 5, &mut page, &mut marks).unwrap_err();
+    assert_eq!((refused.line(), refused.column()), (Some(2), Some(9)));
 }

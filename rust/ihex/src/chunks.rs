@@ -29,6 +29,8 @@ pub struct ChunkReader {
     line: usize,
     empties: usize,
     used: usize,
+    /// How many digits of a line over 522 bytes were left out of the carry.
+    skipped: u16,
     flags: u8,
     shown: Vec<u8>,
 }
@@ -44,6 +46,7 @@ impl ChunkReader {
             line: 0,
             empties: 0,
             used: 0,
+            skipped: 0,
             flags: flags(options),
             shown: Vec::new(),
         }
@@ -102,6 +105,7 @@ impl ChunkReader {
             &mut self.line,
             &mut self.empties,
             &mut self.used,
+            &mut self.skipped,
             &mut self.flags,
         );
         let lies = (&mut told.lies, &mut told.from, &mut told.len);

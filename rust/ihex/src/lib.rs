@@ -1,9 +1,13 @@
 //! Intel HEX read, written and loaded, over the proved library `libihex.a`.
 //!
 //! The names and shapes are those of the crate ihex 3.0.0: a program that uses it changes one line
-//! of its `Cargo.toml`. Beside them stand, and the crate has none of it: reading bytes that are no
-//! UTF-8 ([`ByteReader`], [`Record::from_record_bytes`]), line numbers ([`Reader::numbered`]), a text
-//! that comes in chunks ([`ChunkReader`]), and the loading of a text into a page with marks ([`load`]).
+//! of its `Cargo.toml`. One name has another shape: [`ReaderError::ContainsInvalidCharacters`] carries
+//! a place, and the pattern `ContainsInvalidCharacters { .. }` takes both.
+//!
+//! Beside them stand, and the crate has none of it: reading bytes that are no UTF-8 ([`ByteReader`],
+//! [`Record::from_record_bytes`]), line numbers and columns ([`Reader::numbered`],
+//! [`ReaderError::column`]), a text that comes in chunks ([`ChunkReader`]), and the loading of a text
+//! into a page with marks ([`load`]).
 //!
 //! No function panics, whatever its arguments.
 //!

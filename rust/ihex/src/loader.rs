@@ -42,6 +42,14 @@ impl LoadError {
         }
     }
 
+    /// The column that the line's refusal names, if it names one: see [`ReaderError::column`].
+    pub fn column(&self) -> Option<usize> {
+        match self {
+            LoadError::Line(LineError { error, .. }) => error.column(),
+            _ => None,
+        }
+    }
+
     /// The refusal's number: 1 to 9, 13, 16 or 17.
     pub fn number(&self) -> u32 {
         match self {

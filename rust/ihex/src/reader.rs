@@ -19,8 +19,9 @@ pub enum ReaderError {
     RecordTooLong,
     /// The digits are odd in number.
     RecordNotEvenLength,
-    /// A character behind the colon is no hexadecimal digit.
-    ContainsInvalidCharacters,
+    /// A byte behind the colon is no hexadecimal digit: the place of the first such byte, the colon's being
+    /// 0, and 65,535 for any place beyond that.
+    ContainsInvalidCharacters(u16),
     /// The computed checksum, and the one that the line states.
     ChecksumMismatch(u8, u8),
     /// The length that the line states is not the payload's.
@@ -36,7 +37,7 @@ impl ReaderError {
     pub fn number(&self) -> u32 {
         match self {
             ReaderError::MissingStartCode => 1,
-            ReaderError::ContainsInvalidCharacters => 2,
+            ReaderError::ContainsInvalidCharacters(..) => 2,
             ReaderError::RecordTooShort => 3,
             ReaderError::RecordTooLong => 4,
             ReaderError::RecordNotEvenLength => 5,
@@ -47,11 +48,27 @@ impl ReaderError {
         }
     }
 
+    /// The place of the byte that the refusal names, if it names one: the colon's is 0. 65,535 stands for
+    /// any place beyond that too.
+    pub fn place(&self) -> Option<u16> {
+        match *self {
+            ReaderError::ContainsInvalidCharacters(place) => Some(place),
+            _ => None,
+        }
+    }
+
+    /// The column of that byte, for people: bytes count from 1, the colon's column being 1, so a place p is
+    /// column p + 1. Ahead of it each byte is a character, so an editor shows the same column. 65,536 stands
+    /// for any column beyond that too.
+    pub fn column(&self) -> Option<usize> {
+        self.place().map(|place| usize::from(place) + 1)
+    }
+
     /// The refusal with this code and these values, if it is one of a line.
     pub(crate) fn told(code: u32, a: u64, b: u64) -> Option<Self> {
         Some(match code.wrapping_sub(ihex_sys::REFUSED) {
             1 => ReaderError::MissingStartCode,
-            2 => ReaderError::ContainsInvalidCharacters,
+            2 => ReaderError::ContainsInvalidCharacters(a as u16),
             3 => ReaderError::RecordTooShort,
             4 => ReaderError::RecordTooLong,
             5 => ReaderError::RecordNotEvenLength,
@@ -66,8 +83,9 @@ impl ReaderError {
 
 impl Error for ReaderError {}
 
-/// The texts are the crate's. In that of `ChecksumMismatch` the computed checksum stands first, and
-/// the one that the line states stands behind "expecting".
+/// The texts are the crate's; ahead of that of `ContainsInvalidCharacters` stands the column, as in
+/// "column 17: ". In that of `ChecksumMismatch` the computed checksum stands first, and the one that the
+/// line states stands behind "expecting".
 impl fmt::Display for ReaderError {
     fn fmt(&self, f: &mut fmt::Formatter) -> fmt::Result {
         match self {
@@ -77,8 +95,13 @@ impl fmt::Display for ReaderError {
             ReaderError::RecordNotEvenLength => {
                 write!(f, "record does not contain a whole number of bytes")
             }
-            ReaderError::ContainsInvalidCharacters => {
-                write!(f, "invalid characters encountered in record")
+            ReaderError::ContainsInvalidCharacters(place) => {
+                let column = u32::from(*place) + 1;
+                let beyond = if *place == u16::MAX { " or beyond" } else { "" };
+                write!(
+                    f,
+                    "column {column}{beyond}: invalid characters encountered in record"
+                )
             }
             ReaderError::ChecksumMismatch(computed, stated) => {
                 write!(
@@ -108,9 +131,12 @@ pub struct LineError {
     pub error: ReaderError,
 }
 
+/// The line's number ahead of the refusal's text: "line 3, column 17: " where it names a column, else
+/// "line 3: ".
 impl fmt::Display for LineError {
     fn fmt(&self, f: &mut fmt::Formatter) -> fmt::Result {
-        write!(f, "line {}: {}", self.line, self.error)
+        let behind = self.error.column().map_or(':', |_| ',');
+        write!(f, "line {}{behind} {}", self.line, self.error)
     }
 }
 

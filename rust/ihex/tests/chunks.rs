@@ -77,9 +77,9 @@ fn a_cr_at_a_chunks_end_waits_for_what_follows() {
     assert_eq!(read(&[":00000001FF\r", "\n"]), end);
     assert_eq!(read(&[":00000001FF\r", "", "\n"]), end);
     assert_eq!(read(&[":00000001FF", "\r", "\n"]), end);
-    assert_eq!(read(&[":00000001FF\r"]), refused(1, invalid));
-    assert_eq!(read(&[":00000001FF\r", "\r\n"]), refused(1, invalid));
-    assert_eq!(read(&[":000000\r", "01FF\n"]), refused(1, invalid));
+    assert_eq!(read(&[":00000001FF\r"]), refused(1, invalid(11)));
+    assert_eq!(read(&[":00000001FF\r", "\r\n"]), refused(1, invalid(11)));
+    assert_eq!(read(&[":000000\r", "01FF\n"]), refused(1, invalid(7)));
     assert_eq!(read(&["\r", "\n", "\r", "\n"]), vec![]);
     let start = ReaderError::MissingStartCode;
     assert_eq!(read(&["\r", "\n\n\r"]), refused(3, start));
@@ -92,17 +92,15 @@ fn longest() -> Vec<u8> {
 
 #[test]
 fn long_lines_are_judged_as_they_are() {
-    let (long, invalid) = (
-        ReaderError::RecordTooLong,
-        ReaderError::ContainsInvalidCharacters,
-    );
     for n in [522, 523, 524, 600, 1043, 1044, 70_000] {
         let digits = [b":", &vec![b'0'; n - 1][..]].concat();
-        let mut cases = vec![(digits.clone(), long)];
+        let mut cases = vec![(digits.clone(), ReaderError::RecordTooLong)];
         for place in [1, 520, 521, 522, 523, n - 1] {
+            let place = place.min(n - 1);
             let mut line = digits.clone();
-            line[place.min(n - 1)] = b'G';
-            cases.push((line, invalid));
+            line[place] = b'G';
+            let named = place.min(65_535) as u16;
+            cases.push((line, ReaderError::ContainsInvalidCharacters(named)));
         }
         cases.push((vec![b'0'; n], ReaderError::MissingStartCode));
         for (line, error) in cases {
@@ -131,7 +129,7 @@ fn a_long_line_may_end_the_text() {
     assert_eq!(judged(""), refused(ReaderError::RecordTooLong));
     assert_eq!(
         judged("\r"),
-        refused(ReaderError::ContainsInvalidCharacters)
+        refused(ReaderError::ContainsInvalidCharacters(601))
     );
 }
 

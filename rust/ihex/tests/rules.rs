@@ -34,11 +34,14 @@ fn lines_are_refused_in_order() {
         ("00000001FF", ReaderError::MissingStartCode),
         (" :00000001FF", ReaderError::MissingStartCode),
         (":", ReaderError::RecordTooShort),
-        (":G", ReaderError::ContainsInvalidCharacters),
-        (":00000001FF ", ReaderError::ContainsInvalidCharacters),
-        (":00000001FF\r", ReaderError::ContainsInvalidCharacters),
-        (":0000000\u{661}FF", ReaderError::ContainsInvalidCharacters),
-        (":+0000001FF", ReaderError::ContainsInvalidCharacters),
+        (":G", ReaderError::ContainsInvalidCharacters(1)),
+        (":00000001FF ", ReaderError::ContainsInvalidCharacters(11)),
+        (":00000001FF\r", ReaderError::ContainsInvalidCharacters(11)),
+        (
+            ":0000000\u{661}FF",
+            ReaderError::ContainsInvalidCharacters(8),
+        ),
+        (":+0000001FF", ReaderError::ContainsInvalidCharacters(1)),
         (":0100000", ReaderError::RecordTooShort),
         (":00000001FF0", ReaderError::RecordNotEvenLength),
         (":00000001FE", ReaderError::ChecksumMismatch(0xFF, 0xFE)),
@@ -163,7 +166,7 @@ fn texts_are_cut_at_line_ends() {
     assert_eq!(answers("\r\r\n"), vec![Err(ReaderError::MissingStartCode)]);
     assert_eq!(
         answers(":00000001FF\r"),
-        vec![Err(ReaderError::ContainsInvalidCharacters)]
+        vec![Err(ReaderError::ContainsInvalidCharacters(11))]
     );
     assert_eq!(
         answers(":00000001FF\r\n:00000001FF"),
@@ -287,9 +290,9 @@ fn checksums() {
 const READER_ERRORS: [(ReaderError, u32, &str); 9] = [
     (ReaderError::MissingStartCode, 1, "missing start code ':'"),
     (
-        ReaderError::ContainsInvalidCharacters,
+        ReaderError::ContainsInvalidCharacters(16),
         2,
-        "invalid characters encountered in record",
+        "column 17: invalid characters encountered in record",
     ),
     (ReaderError::RecordTooShort, 3, "too short"),
     (ReaderError::RecordTooLong, 4, "too long"),
@@ -374,9 +377,11 @@ fn errors_print_and_have_numbers() {
     for (error, number, text) in READER_ERRORS {
         assert_eq!((error.number(), error.to_string().as_str()), (number, text));
         let refused = LineError { line: 7, error };
-        assert_eq!(refused.to_string(), format!("line 7: {text}"));
+        let behind = if number == 2 { "," } else { ":" };
+        assert_eq!(refused.to_string(), format!("line 7{behind} {text}"));
         let load = LoadError::Line(refused);
         assert_eq!((load.number(), load.line()), (number, Some(7)));
+        assert_eq!(load.column(), (number == 2).then_some(17));
         assert_eq!(load.to_string(), refused.to_string());
     }
     for (error, number, text) in WRITER_ERRORS {
@@ -384,6 +389,6 @@ fn errors_print_and_have_numbers() {
     }
     for (error, number, line, text) in LOAD_ERRORS {
         assert_eq!((error.number(), error.line()), (number, line));
-        assert_eq!(error.to_string(), text);
+        assert_eq!((error.column(), error.to_string().as_str()), (None, text));
     }
 }

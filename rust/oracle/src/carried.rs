@@ -3,7 +3,7 @@
 
 use ihex_sys::{CARRY, CR_WAITS, DONE, FINISHED, IN_CARRY, IN_CHUNK, NOWHERE, REFUSED, USED_UP};
 
-use crate::domain::as_str;
+use crate::domain::{read, Refusal, LAST_PLACE};
 use crate::lines::in_pool;
 use crate::shrink::{smaller_number, with_each};
 use crate::texts::flags_behind;
@@ -19,6 +19,8 @@ pub struct Standing {
     pub line: usize,
     pub empties: usize,
     pub used: usize,
+    /// How many digits of a line over 522 bytes were left out ahead of the carry's last byte.
+    pub skipped: u16,
     pub flags: u8,
 }
 
@@ -39,6 +41,7 @@ impl Standing {
             line in smaller_number(self.line),
             empties in smaller_number(self.empties),
             used in smaller_number(self.used),
+            skipped in smaller_number(self.skipped.into()).into_iter().map(|n| n as u16),
             flags in fewer.filter(|&flags| flags != self.flags),
         )
     }
@@ -59,12 +62,14 @@ pub struct Outcome {
 }
 
 /// What is kept of a line that is begun: of one over 522 bytes the first 521, and the first behind them
-/// that is no digit, or the last if all are digits.
-fn kept(line: &[u8]) -> Vec<u8> {
+/// that is no digit, or the last if all are digits. And how many digits are left out between the two.
+fn kept(line: &[u8]) -> (Vec<u8>, usize) {
     let (front, behind) = line.split_at(line.len().min(CARRY - 1));
-    let odd = behind.iter().find(|byte| !byte.is_ascii_hexdigit());
-    let one = odd.or_else(|| behind.last());
-    front.iter().chain(one).copied().collect()
+    let last = behind.len().saturating_sub(1);
+    let odd = behind.iter().position(|byte| !byte.is_ascii_hexdigit());
+    let left = odd.unwrap_or(last);
+    let one = behind.get(left..=left).unwrap_or(&[]);
+    ([front, one].concat(), left)
 }
 
 /// The first line that has a byte, from a state on.
@@ -76,8 +81,9 @@ enum Cut {
         line: Vec<u8>,
         next: usize,
     },
-    /// It does not end in the chunk.
+    /// It does not end in the chunk, and begins there at `from` if it is no older.
     Open {
+        from: Option<usize>,
         empties: usize,
         line: Vec<u8>,
         cr: bool,
@@ -100,8 +106,15 @@ fn cut(state: Standing, chunk: &[u8], carry: &[u8]) -> Cut {
         let cr = more.last().map_or(waits, |&byte| byte == b'\r');
         line.extend(more.strip_suffix(b"\r").unwrap_or(more));
         next += match feed {
-            None => return Cut::Open { empties, line, cr },
             Some(feed) => feed + 1,
+            None => {
+                return Cut::Open {
+                    from,
+                    empties,
+                    line,
+                    cr,
+                }
+            }
         };
         if !line.is_empty() {
             return Cut::Whole {
@@ -138,6 +151,14 @@ pub struct Given<'a> {
     pub at: usize,
 }
 
+/// How many digits were left out of a line: none, if it begins in the chunk, or did not fill the carry.
+fn left_out(state: Standing, from: Option<usize>) -> usize {
+    match from {
+        None if state.used == CARRY => state.skipped.into(),
+        _ => 0,
+    }
+}
+
 /// A line is answered, and behind it the next begins at this position.
 fn answered(
     state: Standing,
@@ -146,7 +167,16 @@ fn answered(
     from: Option<usize>,
     behind: Standing,
 ) -> Outcome {
-    let answer = original::Record::from_record_string(&as_str(&line));
+    let mut answer = read(&line);
+    if let Err(Refusal {
+        offender: Some(place),
+        ..
+    }) = &mut answer
+    {
+        if *place >= CARRY - 1 {
+            *place += left_out(state, from);
+        }
+    }
     let told = in_pool(by_crate::answer(&answer, given.at), given.pool, given.at);
     if told == pool_full() {
         return unchanged(told, state, &given.carry[..state.used]);
@@ -159,7 +189,7 @@ fn answered(
     };
     let (place, carried) = match from {
         Some(from) => ((IN_CHUNK, from, line.len()), vec![]),
-        None => ((IN_CARRY, 0, line.len()), kept(&line)),
+        None => ((IN_CARRY, 0, line.len()), kept(&line).0),
     };
     if told.code >= REFUSED {
         return unchanged(told, state, &carried);
@@ -175,13 +205,19 @@ fn answered(
 
 fn next_of(state: Standing, given: &Given, chunk: &[u8]) -> Outcome {
     match cut(state, chunk, given.carry) {
-        Cut::Open { empties, line, cr } => {
-            let carried = kept(&line);
+        Cut::Open {
+            from,
+            empties,
+            line,
+            cr,
+        } => {
+            let (carried, left) = kept(&line);
             let behind = Standing {
                 position: 0,
                 line: state.line,
                 empties,
                 used: carried.len(),
+                skipped: (left_out(state, from) + left).min(LAST_PLACE) as u16,
                 flags: state.flags & 3 | if cr { CR_WAITS } else { 0 },
             };
             unchanged(told(USED_UP, 0, 0, 0), behind, &carried)

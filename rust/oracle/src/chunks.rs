@@ -111,10 +111,12 @@ impl Case for ChunkCase {
 /// A state and a place that are lent, between guards.
 struct Lending {
     places: [usize; 13],
+    words: [u16; 3],
     bytes: [u8; 5],
 }
 
 const PLACE: usize = usize::MAX / 3;
+const WORD: u16 = 0xA55A;
 
 impl Lending {
     fn new(state: Standing) -> Self {
@@ -125,14 +127,17 @@ impl Lending {
         places[7] = state.used;
         Lending {
             places,
+            words: [WORD, state.skipped, WORD],
             bytes: [0xA5, state.flags, 0xA5, 0xA5, 0xA5],
         }
     }
 
     fn lend(&mut self) -> (ihex_sys::Standing<'_>, ihex_sys::Lies<'_>) {
         let [_, position, _, line, _, empties, _, used, _, from, _, len, _] = &mut self.places;
+        let [_, skipped, _] = &mut self.words;
         let [_, flags, _, lies, _] = &mut self.bytes;
-        ((position, line, empties, used, flags), (lies, from, len))
+        let standing = (position, line, empties, used, skipped, flags);
+        (standing, (lies, from, len))
     }
 
     fn state(&self) -> Standing {
@@ -141,6 +146,7 @@ impl Lending {
             line: self.places[3],
             empties: self.places[5],
             used: self.places[7],
+            skipped: self.words[1],
             flags: self.bytes[1],
         }
     }
@@ -151,7 +157,8 @@ impl Lending {
 
     fn is_guarded(&self) -> bool {
         let places = (0..13).step_by(2).all(|i| self.places[i] == PLACE);
-        places && (0..5).step_by(2).all(|i| self.bytes[i] == 0xA5)
+        let words = (self.words[0], self.words[2]) == (WORD, WORD);
+        places && words && (0..5).step_by(2).all(|i| self.bytes[i] == 0xA5)
     }
 }
 

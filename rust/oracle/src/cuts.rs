@@ -1,12 +1,11 @@
-//! The inputs of the chunk reader: texts that are cut, long lines, and states made up by hand.
+//! The inputs of the chunk reader: texts that are cut, and states made up by hand.
 
 use ihex_sys::CARRY;
 
 use crate::carried::Standing;
 use crate::chance::Chance;
 use crate::chunks::{ChunkCase, ShownCase};
-use crate::inputs::{around, damaged, good, pool_for, random, summed, text, TELLING};
-use crate::shrink::{smaller_number, with_each, Case};
+use crate::inputs::{around, damaged, good, late, pool_for, random, summed, text, TELLING};
 
 /// The pieces of a text between cuts, which are in order. Between two that are the same one is empty.
 fn pieces(text: &[u8], cuts: &[usize]) -> Vec<Vec<u8>> {
@@ -106,32 +105,50 @@ pub fn cut_everywhere(chance: &mut Chance) -> Vec<ChunkCase> {
 fn used(chance: &mut Chance) -> usize {
     match chance.under(8) {
         0 => around(CARRY, chance),
-        1 => chance.from_to(CARRY - 2, CARRY + 2),
+        1 => chance.one_of(&[CARRY - 1, CARRY, CARRY + 1, CARRY + 2, usize::MAX]),
         2 => chance.under(CARRY + 1),
         3 => 0,
         _ => chance.under(40),
     }
 }
 
-/// A state that no call need have left, before chunks that may go on with the line in its carry, and a
-/// carry that may be too small.
+/// How many digits were left out of a carry, by hand: often about as many as make a last place.
+fn skipped(chance: &mut Chance) -> u16 {
+    match chance.under(4) {
+        0 => 0,
+        1 => chance.number() as u16,
+        2 => u16::MAX - chance.under(4) as u16,
+        _ => u16::MAX - CARRY as u16 - chance.under(600) as u16 + 64,
+    }
+}
+
+/// A state that no call need have left, before chunks that may go on with the line in its carry, or
+/// before none, and a carry that may be too small.
 pub fn by_hand(chance: &mut Chance) -> ChunkCase {
     let len = chance.one_of(&[0, CARRY - 1, CARRY, CARRY, CARRY, CARRY, CARRY + 1, 600]);
     let mut carry: Vec<u8> = (0..len).map(|_| chance.one_of(&TELLING)).collect();
     let mut text = open_text(chance);
     let mut used = used(chance);
     if chance.once_in(2) {
-        let line = good(chance);
+        let line = if chance.once_in(3) {
+            used = chance.one_of(&[used, CARRY - 1, CARRY, CARRY]);
+            late(chance)
+        } else {
+            good(chance)
+        };
         used = used.min(line.len());
         let front = used.min(len);
         carry[..front].copy_from_slice(&line[..front]);
         text = [&line[used..], b"\n", &text].concat();
     }
-    let chunks = pieces(&text, &cuts(&text, chance));
+    let mut chunks = pieces(&text, &cuts(&text, chance));
     let position = match chance.under(3) {
         0 => around(chunks[0].len(), chance),
         _ => 0,
     };
+    if chance.once_in(16) {
+        chunks.clear();
+    }
     let numbers = [usize::MAX, usize::MAX - 1, usize::MAX - 3, 0, 1, 7];
     ChunkCase {
         chunks,
@@ -142,7 +159,8 @@ pub fn by_hand(chance: &mut Chance) -> ChunkCase {
             line: chance.one_of(&numbers),
             empties: chance.one_of(&numbers),
             used,
-            flags: chance.byte() & chance.one_of(&[0xFF, 0xFB, 0xF3, 11]),
+            skipped: skipped(chance),
+            flags: chance.byte() & chance.one_of(&[0xFF, 0xFF, 0xFB, 0xF3, 11]),
         },
     }
 }
@@ -168,101 +186,4 @@ pub fn place(chance: &mut Chance) -> ShownCase {
         chunk: chance.bytes(chunk),
         carry: chance.bytes(carry),
     }
-}
-
-/// The lengths of long lines: about the longest good one, about twice as long, and much longer.
-pub const LENGTHS: [usize; 20] = [
-    519, 520, 521, 522, 523, 524, 525, 530, 600, 1041, 1042, 1043, 1044, 1045, 1046, 2000, 5000,
-    65_535, 65_536, 70_000,
-];
-
-/// What may stand behind a long line.
-const ENDS: [&str; 7] = ["\n", "\r\n", "\r\r\n", "\n\n", "", "\r", "\r\r"];
-
-/// A long line behind a short one, in chunks of one size; behind a LF one more.
-#[derive(Clone)]
-pub struct LongCase {
-    /// Its first byte, and how many it has, the others being digits.
-    first: u8,
-    length: usize,
-    /// Where another byte stands in place of a digit, if it is no digit.
-    place: usize,
-    byte: u8,
-    end: usize,
-    every: usize,
-    flags: u8,
-}
-
-impl Case for LongCase {
-    fn smaller(&self) -> Vec<Self> {
-        with_each!(
-            self,
-            length in smaller_number(self.length),
-            place in smaller_number(self.place),
-            end in smaller_number(self.end),
-            flags in smaller_number(self.flags.into()).into_iter().map(|n| n as u8),
-        )
-    }
-
-    fn size(&self) -> usize {
-        self.length
-    }
-
-    fn show(&self) -> String {
-        format!(
-            "a line of {} bytes that begins with {:?}, with {:?} at {}, then {:?}, in chunks of {}, flags {}",
-            self.length,
-            char::from(self.first),
-            char::from(self.byte),
-            self.place,
-            ENDS[self.end],
-            self.every,
-            self.flags
-        )
-    }
-}
-
-impl LongCase {
-    /// The chunks that it stands for.
-    pub fn case(&self) -> ChunkCase {
-        let mut line = vec![b'7'; self.length];
-        for (place, byte) in [(self.place, self.byte), (0, self.first)] {
-            if let Some(here) = line.get_mut(place) {
-                *here = byte;
-            }
-        }
-        let (short, end) = (b":0100000041BE\n", ENDS[self.end].as_bytes());
-        let behind = if end.ends_with(b"\n") {
-            &short[..]
-        } else {
-            b""
-        };
-        let text = [short, &line[..], end, behind].concat();
-        ChunkCase {
-            chunks: text.chunks(self.every).map(<[u8]>::to_vec).collect(),
-            pool: 2,
-            carry: vec![b'G'; CARRY],
-            state: Standing::new(self.flags),
-        }
-    }
-}
-
-/// Lines of this length: with each line end, and with a byte that is no digit at places that tell.
-pub fn long(length: usize, chance: &mut Chance) -> Vec<LongCase> {
-    let sizes = [1, 7, 64, 512, 521, 522, 523, 4096, 65_536];
-    let mut found = Vec::new();
-    for end in 0..ENDS.len() {
-        for place in [0, 1, 520, 521, 522, 523, chance.under(length), length - 1] {
-            found.push(LongCase {
-                first: if chance.once_in(8) { b'7' } else { b':' },
-                length,
-                place,
-                byte: chance.one_of(b"G\r:\0\xFF7"),
-                end,
-                every: chance.one_of(&sizes),
-                flags: chance.under(4) as u8,
-            });
-        }
-    }
-    found
 }

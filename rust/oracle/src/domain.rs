@@ -38,9 +38,10 @@ pub fn keeps_last_cr() -> bool {
     "\r".lines().next() == Some("\r")
 }
 
-/// A line with a byte in it: its number, and where the next begins.
+/// A line with a byte in it: its number, where it begins, and where the next does.
 pub struct Place {
     pub line: usize,
+    pub start: usize,
     pub end: usize,
 }
 
@@ -49,9 +50,10 @@ pub fn places(text: &[u8]) -> Vec<Place> {
     let mut found = Vec::new();
     let mut end = 0;
     for (i, piece) in text.split_inclusive(|&byte| byte == b'\n').enumerate() {
+        let (line, start) = (i + 1, end);
         end += piece.len();
         if !matches!(piece, b"\n" | b"\r\n") {
-            found.push(Place { line: i + 1, end });
+            found.push(Place { line, start, end });
         }
     }
     found
@@ -64,8 +66,76 @@ pub fn options(flags: u8) -> ReaderOptions {
     }
 }
 
+/// The greatest place that a refusal names; it stands for any beyond that too.
+pub const LAST_PLACE: usize = 65_535;
+
+/// A refusal of the crate, with the place that it does not name.
+#[derive(Clone, Copy, Debug)]
+pub struct Refusal {
+    pub error: ReaderError,
+    /// Where the crate finds a character that is no digit, the place of the line's first one: that of its
+    /// first byte, the colon's being 0.
+    pub offender: Option<usize>,
+}
+
+/// An answer of the crate to a line.
+pub type Answer = Result<Record, Refusal>;
+
+/// The place of the first character behind a line's colon that is no digit.
+fn offender(line: &str) -> Option<usize> {
+    let mut behind = line.char_indices().skip(1);
+    let (place, _) = behind.find(|(_, character)| !character.is_ascii_hexdigit())?;
+    Some(place)
+}
+
+/// An answer of the crate to a line, with the place. The pattern takes a number too, which there is where
+/// the face stands in for the crate.
+#[allow(clippy::unneeded_struct_pattern)]
+fn judged(answer: Result<Record, ReaderError>, line: &str) -> Answer {
+    answer.map_err(|error| Refusal {
+        error,
+        offender: match error {
+            ReaderError::ContainsInvalidCharacters { .. } => offender(line),
+            _ => None,
+        },
+    })
+}
+
+/// The place of the character that is no digit, where a line is refused for one.
+pub fn offender_of(answer: &Answer) -> Option<usize> {
+    answer.as_ref().err()?.offender
+}
+
+impl Refusal {
+    /// The place as a refusal names it.
+    pub fn named(&self) -> u16 {
+        self.offender
+            .map_or(0, |place| place.min(LAST_PLACE) as u16)
+    }
+
+    /// What people are to read: the crate's text, behind the line where that is known, and the column.
+    pub fn printed(&self, line: Option<usize>) -> String {
+        let line = line.map(|number| format!("line {number}"));
+        let column = self.offender.map(|place| match place {
+            0..=65_534 => format!("column {}", place + 1),
+            _ => "column 65536 or beyond".into(),
+        });
+        let found: Vec<String> = line.into_iter().chain(column).collect();
+        match found.is_empty() {
+            true => self.error.to_string(),
+            false => format!("{}: {}", found.join(", "), self.error),
+        }
+    }
+}
+
+/// The crate's answer to a line.
+pub fn read(line: &[u8]) -> Answer {
+    let string = as_str(line);
+    judged(Record::from_record_string(&string), &string)
+}
+
 /// An answer of the crate, with the place of its line.
-pub type Row = (Result<Record, ReaderError>, Place);
+pub type Row = (Answer, Place);
 
 /// The crate's answers to a text with these stops.
 pub fn rows(text: &[u8], flags: u8) -> Vec<Row> {
@@ -74,7 +144,11 @@ pub fn rows(text: &[u8], flags: u8) -> Vec<Row> {
         // Of the two that now end the last line, the library drops one with the LF.
         string.to_mut().push_str("\r\n");
     }
-    let answers: Vec<_> = Reader::new_with_options(&string, options(flags)).collect();
+    let lines = string.lines().filter(|line| !line.is_empty());
+    let answers: Vec<Answer> = Reader::new_with_options(&string, options(flags))
+        .zip(lines)
+        .map(|(answer, line)| judged(answer, line))
+        .collect();
     let places = places(text);
     assert!(answers.len() <= places.len(), "more answers than lines");
     answers.into_iter().zip(places).collect()

@@ -122,8 +122,25 @@ pub fn summed(chance: &mut Chance) -> Vec<u8> {
     spelt(&bytes)
 }
 
+/// A long line of digits, with one byte that may be none: early, about the 521st, or late.
+pub fn late(chance: &mut Chance) -> Vec<u8> {
+    let n = chance.from_to(515, 1200);
+    let mut line: Vec<u8> = (0..n).map(|_| chance.one_of(b"07Ff")).collect();
+    let at = match chance.under(4) {
+        0 => chance.under(n),
+        1 => chance.from_to(519, 524).min(n - 1),
+        _ => chance.from_to(n / 2, n - 1),
+    };
+    line[at] = chance.one_of(&TELLING);
+    line[0] = b':';
+    line
+}
+
 /// A line of characters by chance.
 pub fn random(chance: &mut Chance) -> Vec<u8> {
+    if chance.once_in(16) {
+        return late(chance);
+    }
     let n = match chance.under(10) {
         0 => chance.from_to(515, 525),
         1 => chance.under(600),

@@ -5,7 +5,7 @@ use ihex_sys::{DONE, IN_CARRY, IN_CHUNK, USED_UP};
 
 use crate::carried::{Place, Standing};
 use crate::chunks::ChunkCase;
-use crate::domain::{rows, Row};
+use crate::domain::{offender_of, rows, Row};
 use crate::port::Port;
 use crate::seen;
 use crate::shrink::shown;
@@ -78,6 +78,7 @@ impl<'a> Reader<'a> {
             &mut state.line,
             &mut state.empties,
             &mut state.used,
+            &mut state.skipped,
             &mut state.flags,
         );
         let lies = (&mut place.0, &mut place.1, &mut place.2);
@@ -187,6 +188,33 @@ fn unlike_text(port: &dyn Port, flags: u8, text: &[u8], steps: &[Step]) -> Optio
     (last.0 != DONE).then(|| format!("no more answers, text reader {last:?}"))
 }
 
+/// Notes the places that are named: for the call that names each, and for where its line is cut.
+fn note_places(case: &ChunkCase, rows: &[Row], steps: &[Step]) {
+    let ends = case.chunks.iter().scan(0, |end, chunk| {
+        *end += chunk.len();
+        Some(*end)
+    });
+    let cuts: Vec<usize> = ends.collect();
+    let read = steps.iter().filter(|step| step.told != pool_full());
+    for ((answer, place), step) in rows.iter().zip(read) {
+        let offender = offender_of(answer);
+        let at = place.start + offender.unwrap_or(0);
+        let some = |from: usize, to: usize| {
+            let next = cuts.partition_point(|&cut| cut < from);
+            cuts.get(next).map_or(false, |&cut| cut < to)
+        };
+        seen::note_place(step.entry, offender);
+        for (row, is) in [
+            (seen::UNCUT, !some(place.start + 1, place.end)),
+            (seen::CUT_AHEAD, some(place.start + 1, at)),
+            (seen::CUT_AT, some(at, at + 1)),
+            (seen::CUT_BEHIND, some(at + 1, place.end)),
+        ] {
+            seen::note_place(row, offender.filter(|_| is));
+        }
+    }
+}
+
 /// What is wrong with the answers to the chunks of a whole text.
 pub fn port(port: &dyn Port, case: &ChunkCase) -> Option<String> {
     let (text, flags) = (case.text(), case.state.flags);
@@ -197,6 +225,7 @@ pub fn port(port: &dyn Port, case: &ChunkCase) -> Option<String> {
     for step in &steps {
         seen::note(step.entry, step.told.code);
     }
-    unlike_crate(&rows(&text, flags), &text, &steps)
-        .or_else(|| unlike_text(port, flags, &text, &steps))
+    let rows = rows(&text, flags);
+    note_places(case, &rows, &steps);
+    unlike_crate(&rows, &text, &steps).or_else(|| unlike_text(port, flags, &text, &steps))
 }

@@ -7,11 +7,12 @@ use std::time::{Duration, Instant};
 
 use crate::chance::Chance;
 use crate::chunks::{self, ChunkCase};
-use crate::cuts::{self, LongCase};
+use crate::cuts;
 use crate::inputs;
 use crate::joined;
 use crate::lines::{self, LineCase};
 use crate::loads;
+use crate::long::{self, LongCase};
 use crate::port::Port;
 use crate::replay::{self, Program};
 use crate::shrink::{shrink, Case};
@@ -193,6 +194,20 @@ fn by_program<'a>(
     })
 }
 
+/// A kind of long lines.
+fn of_long<'a>(
+    name: &'static str,
+    plan: Plan,
+    check: impl Fn(&LongCase) -> Option<String> + Sync + 'a,
+) -> Kind<'a> {
+    let lengths = long::LENGTHS.len() as u64;
+    let blocks = (lengths * plan.times / plan.part_of).max(lengths);
+    let make = move |block, chance: &mut Chance| {
+        long::long(long::LENGTHS[(block % lengths) as usize], chance)
+    };
+    by_block(name, plan, blocks, make, check)
+}
+
 fn random_line(chance: &mut Chance) -> LineCase {
     LineCase::new(if chance.once_in(3) {
         inputs::summed(chance)
@@ -323,6 +338,23 @@ fn writes_and_loads<'a>(port: &'a dyn Port, plan: Plan) -> Vec<Kind<'a>> {
     ]
 }
 
+/// Long lines, each by itself, in a text, and in a text to load.
+fn long_lines<'a>(port: &'a dyn Port, plan: Plan) -> Vec<Kind<'a>> {
+    vec![
+        of_long("lines of 519 to 70,000 bytes", plan, move |case| {
+            lines::port(port, &case.line())
+        }),
+        of_long(
+            "texts with lines of 519 to 70,000 bytes",
+            plan,
+            move |case| texts::port(port, &case.text()),
+        ),
+        of_long("loads of lines of 519 to 70,000 bytes", plan, move |case| {
+            loads::port(port, &case.load())
+        }),
+    ]
+}
+
 /// What is compared with the port, through its C entry points.
 pub fn of_port<'a>(port: &'a dyn Port, plan: Plan) -> Vec<Kind<'a>> {
     let sum = move |case: &SumCase| sums::port(port, case);
@@ -331,13 +363,13 @@ pub fn of_port<'a>(port: &'a dyn Port, plan: Plan) -> Vec<Kind<'a>> {
     kinds.extend(lines_by_chance(port, plan));
     kinds.extend(texts_by_chance(port, plan));
     kinds.extend(writes_and_loads(port, plan));
+    kinds.extend(long_lines(port, plan));
     kinds
 }
 
 /// Texts in chunks, by their answers.
 fn texts_in_chunks<'a>(port: &'a dyn Port, plan: Plan) -> Vec<Kind<'a>> {
     let joined = move |case: &ChunkCase| joined::port(port, case);
-    let lengths = cuts::LENGTHS.len() as u64;
     vec![
         by_chance(
             "texts in chunks, cut by chance",
@@ -353,12 +385,10 @@ fn texts_in_chunks<'a>(port: &'a dyn Port, plan: Plan) -> Vec<Kind<'a>> {
             |_, chance| cuts::cut_everywhere(chance),
             joined,
         ),
-        by_block(
+        of_long(
             "texts in chunks, lines of 519 to 70,000 bytes",
             plan,
-            (lengths * plan.times / plan.part_of).max(lengths),
-            move |block, chance| cuts::long(cuts::LENGTHS[(block % lengths) as usize], chance),
-            move |case: &LongCase| joined::port(port, &case.case()),
+            move |case| joined::port(port, &case.chunks()),
         ),
     ]
 }
@@ -380,6 +410,11 @@ pub fn of_chunks<'a>(port: &'a dyn Port, plan: Plan) -> Vec<Kind<'a>> {
         by_chance("places shown", plan, 20, cuts::place, move |case| {
             chunks::shown_by_port(port, case)
         }),
+        of_long(
+            "texts in chunks, lines of 519 to 70,000 bytes, call by call",
+            plan,
+            move |case| chunks::port(port, &case.chunks()),
+        ),
     ]);
     kinds
 }
@@ -432,6 +467,22 @@ pub fn of_face(plan: Plan) -> Vec<Kind<'static>> {
             writes::object_by_face,
         ),
         by_chance("face: loads", plan, 20, inputs::load, loads::face),
+        of_long("face: lines of 519 to 70,000 bytes", plan, |case| {
+            lines::face(&case.line())
+        }),
+        of_long(
+            "face: texts with lines of 519 to 70,000 bytes",
+            plan,
+            |case| {
+                let in_chunks = || chunks::face(&case.chunks());
+                texts::face(&case.text()).or_else(in_chunks)
+            },
+        ),
+        of_long(
+            "face: loads of lines of 519 to 70,000 bytes",
+            plan,
+            |case| loads::face(&case.load()),
+        ),
     ]);
     kinds
 }

@@ -9,6 +9,18 @@ const fn noise(i: usize) -> u8 {
     (i % PERIOD * 167 / 3) as u8 ^ 0x5A
 }
 
+const fn period() -> [u8; PERIOD] {
+    let mut bytes = [0; PERIOD];
+    let mut i = 0;
+    while i < PERIOD {
+        bytes[i] = noise(i);
+        i += 1;
+    }
+    bytes
+}
+
+static NOISE: [u8; PERIOD] = period();
+
 /// A lent buffer, filled with noise, between guard bytes.
 pub struct Lent {
     bytes: Vec<u8>,
@@ -17,8 +29,7 @@ pub struct Lent {
 impl Lent {
     pub fn new(len: usize) -> Self {
         let whole = len + 2 * GUARD;
-        let period: Vec<u8> = (0..PERIOD).map(noise).collect();
-        let mut bytes = period.repeat(whole / PERIOD + 1);
+        let mut bytes = NOISE.repeat(whole / PERIOD + 1);
         bytes.truncate(whole);
         Lent { bytes }
     }

@@ -13,6 +13,7 @@ pub mod kinds;
 pub mod lent;
 pub mod lines;
 pub mod loads;
+pub mod long;
 pub mod port;
 pub mod replay;
 pub mod seen;

@@ -1,6 +1,6 @@
 //! One line: the crate's record reader against the port's and the face's.
 
-use crate::domain::as_str;
+use crate::domain::{as_str, offender_of, read, Answer};
 use crate::lent::{Lent, Numbers};
 use crate::port::Port;
 use crate::seen;
@@ -58,10 +58,14 @@ pub fn in_pool(answer: Told, pool: usize, at: usize) -> Told {
     answer
 }
 
+/// An answer of the crate, as the case's pool makes it.
+fn told(answer: &Answer, case: &LineCase) -> Told {
+    in_pool(by_crate::answer(answer, case.at), case.pool, case.at)
+}
+
 /// The crate's answer, as the case's pool makes it.
 pub fn answer(case: &LineCase) -> Told {
-    let answer = original::Record::from_record_string(&as_str(&case.line));
-    in_pool(by_crate::answer(&answer, case.at), case.pool, case.at)
+    told(&read(&case.line), case)
 }
 
 /// Puts the payload of an answer into a pool in which it has room.
@@ -93,8 +97,10 @@ pub fn unlike(
 }
 
 pub fn port(port: &dyn Port, case: &LineCase) -> Option<String> {
-    let expected = answer(case);
+    let answer = read(&case.line);
+    let expected = told(&answer, case);
     seen::note(seen::RECORD_READER, expected.code);
+    seen::note_place(seen::RECORD_READER, offender_of(&answer));
     let line = Lent::holding(&case.line);
     let mut pool = Lent::new(case.pool);
     let before = pool.bytes().to_vec();
@@ -104,12 +110,25 @@ pub fn port(port: &dyn Port, case: &LineCase) -> Option<String> {
         .or_else(|| line.unlike("line", &case.line))
 }
 
+/// What the face should print of an answer, for programmers and for people: the crate's texts, with the
+/// place and the column that it does not name.
+fn printed(answer: &Answer) -> (String, Option<String>) {
+    match answer {
+        Ok(record) => (format!("Ok({record:?})"), None),
+        Err(refusal) => {
+            let named = refusal.offender.map(|_| format!("({})", refusal.named()));
+            let debug = format!("Err({:?}{})", refusal.error, named.unwrap_or_default());
+            (debug, Some(refusal.printed(None)))
+        }
+    }
+}
+
 pub fn face(case: &LineCase) -> Option<String> {
     let string = as_str(&case.line);
     let by_bytes = ihex::Record::from_record_bytes(&case.line);
     let by_string = ihex::Record::from_record_string(&string);
     let parsed = string.parse::<ihex::Record>();
-    let answer = original::Record::from_record_string(&string);
+    let answer = read(&case.line);
     if by_bytes != by_string || by_string != parsed {
         return Some(format!("face {by_bytes:?}, {by_string:?}, {parsed:?}"));
     }
@@ -120,6 +139,6 @@ pub fn face(case: &LineCase) -> Option<String> {
         format!("{by_string:?}"),
         by_string.err().map(|e| e.to_string()),
     );
-    let should = (format!("{answer:?}"), answer.err().map(|e| e.to_string()));
-    (texts != should).then(|| format!("face prints {texts:?}, crate {should:?}"))
+    let should = printed(&answer);
+    (texts != should).then(|| format!("face prints {texts:?}, should be {should:?}"))
 }

@@ -6,7 +6,7 @@ use ihex::{LoadError, Loaded};
 use ihex_sys::{REFUSED, STOP_AFTER_EOF, STOP_AFTER_FIRST_ERROR};
 use original::Record;
 
-use crate::domain::rows;
+use crate::domain::{offender_of, rows};
 use crate::lent::{Lent, Numbers};
 use crate::port::Port;
 use crate::seen;
@@ -54,6 +54,8 @@ impl Case for LoadCase {
         )
     }
 }
+
+const BOTH_STOPS: u8 = STOP_AFTER_FIRST_ERROR | STOP_AFTER_EOF;
 
 /// What a load answers: its code and values, and the number of the line.
 pub type Answer = (u32, u64, u64, usize);
@@ -156,7 +158,7 @@ fn stated(rules: Rules, case: &LoadCase) -> Result<(u64, Vec<(usize, u8)>), Answ
     let mut latest = Latest::None;
     let mut records = 0;
     let mut stated = Vec::new();
-    for (answer, place) in rows(&case.text, STOP_AFTER_FIRST_ERROR | STOP_AFTER_EOF) {
+    for (answer, place) in rows(&case.text, BOTH_STOPS) {
         match answer {
             Err(why) => {
                 let told = by_crate::refusal(&why);
@@ -207,8 +209,11 @@ pub fn model(case: &LoadCase, page: &mut [u8], marks: &mut [u8]) -> Answer {
 }
 
 /// Notes the code of a load for each of the three wraps that it rests on: with that one left out, the
-/// text states something else.
+/// text states something else. No other codes are called for there.
 fn note_wraps(case: &LoadCase, code: u32) {
+    if code != 0 && code != REFUSED + 17 {
+        return;
+    }
     let right = stated(RIGHT, case);
     for (i, (_, placing)) in UNWRAPPED.into_iter().enumerate() {
         if stated(Rules { placing, ..RIGHT }, case) != right {
@@ -228,6 +233,13 @@ fn lent(case: &LoadCase) -> (Lent, Lent, Vec<u8>, Vec<u8>, Answer) {
 pub fn port(port: &dyn Port, case: &LoadCase) -> Option<String> {
     let (mut page, mut marks, held, marked, should) = lent(case);
     seen::note(seen::LOADER, should.0);
+    if should.0 == REFUSED + 2 {
+        let last = rows(&case.text, BOTH_STOPS).pop();
+        seen::note_place(
+            seen::LOADER,
+            last.and_then(|(answer, _)| offender_of(&answer)),
+        );
+    }
     note_wraps(case, should.0);
     let text = Lent::holding(&case.text);
     let mut numbers = Numbers::default();

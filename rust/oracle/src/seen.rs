@@ -59,12 +59,35 @@ pub const CHUNK_READER: usize = 5;
 pub const CHUNK_END: usize = 6;
 /// The first of the three wraps, which stand in the order of `loads::UNWRAPPED`.
 pub const WRAPS: usize = 7;
+/// Where the line of a byte that is no digit is cut: nowhere, further ahead of the byte, directly ahead of
+/// it, and behind it.
+pub const UNCUT: usize = 10;
+pub const CUT_AHEAD: usize = 11;
+pub const CUT_AT: usize = 12;
+pub const CUT_BEHIND: usize = 13;
+
+/// The places that are told apart where one is named, by the least of each kind.
+const PLACES: [usize; 10] = [1, 2, 3, 520, 521, 522, 523, 65_534, 65_535, 65_536];
+
+/// The entry points and the cuts, and the least place that can be named there.
+const NAMING: [(usize, &str, usize); 9] = [
+    (RECORD_READER, "record reader", 1),
+    (TEXT_READER, "text reader", 1),
+    (LOADER, "loader", 1),
+    (CHUNK_READER, "chunk reader", 1),
+    (CHUNK_END, "end of a text in chunks", 1),
+    (UNCUT, "chunk reader, in a line that is not cut", 1),
+    (CUT_AHEAD, "chunk reader, with a cut further ahead", 2),
+    (CUT_AT, "chunk reader, with a cut directly ahead", 1),
+    (CUT_BEHIND, "chunk reader, with a cut behind it", 1),
+];
 
 #[allow(clippy::declare_interior_mutable_const)]
 const NONE: AtomicU64 = AtomicU64::new(0);
 #[allow(clippy::declare_interior_mutable_const)]
 const ROW: [AtomicU64; 32] = [NONE; 32];
 static SEEN: [[AtomicU64; 32]; 10] = [ROW; 10];
+static NAMED: [[AtomicU64; 32]; 14] = [ROW; 14];
 
 /// The entry point that is given a chunk, or that ends a text in chunks.
 pub fn entry_of(chunk: Option<&[u8]>) -> usize {
@@ -86,23 +109,58 @@ pub fn note(entry: usize, code: u32) {
     SEEN[entry][place(code)].fetch_add(1, Ordering::Relaxed);
 }
 
-/// Prints how often each answer was called for, and says whether none is missing.
+/// The kind of a place.
+fn kind(place: usize) -> usize {
+    PLACES.partition_point(|&least| least <= place)
+}
+
+/// One more refusal of this entry point, or with this cut, that names this place was called for, if it
+/// names one.
+pub fn note_place(entry: usize, place: Option<usize>) {
+    if let Some(place) = place {
+        NAMED[entry][kind(place)].fetch_add(1, Ordering::Relaxed);
+    }
+}
+
+/// A kind of places: from its least on, ahead of the next kind's.
+fn places(least: usize) -> String {
+    match PLACES.get(kind(least)) {
+        Some(&next) if next == least + 1 => least.to_string(),
+        Some(&next) => format!("{least} to {}", next - 1),
+        None => format!("{least} on"),
+    }
+}
+
+/// Prints how often each of these was called for, and says whether none is missing.
+fn show_row(title: &str, counts: &[(String, u64)]) -> bool {
+    let texts: Vec<String> = counts
+        .iter()
+        .map(|(what, n)| format!("{what}: {n}"))
+        .collect();
+    let whole = counts.iter().all(|&(_, n)| n > 0);
+    let word = if whole { "ok" } else { "FAILED" };
+    println!("{word:6} {title}: {}", texts.join(", "));
+    whole
+}
+
+/// Prints how often each answer and each kind of place was called for, and says whether none is missing.
 pub fn show() -> bool {
     let mut all = true;
     for (row, (name, codes)) in SEEN.iter().zip(ANSWERS) {
-        let count = |&code: &u32| (code, row[place(code)].load(Ordering::Relaxed));
-        let counts: Vec<(u32, u64)> = codes.iter().map(count).collect();
-        let texts: Vec<String> = counts
-            .iter()
-            .map(|(code, n)| format!("{code}: {n}"))
-            .collect();
-        let whole = counts.iter().all(|&(_, n)| n > 0);
-        let word = if whole { "ok" } else { "FAILED" };
-        println!(
-            "{word:6} every answer of the {name} (code: times): {}",
-            texts.join(", ")
+        let count = |&code: &u32| (code.to_string(), row[place(code)].load(Ordering::Relaxed));
+        let counts: Vec<(String, u64)> = codes.iter().map(count).collect();
+        all &= show_row(
+            &format!("every answer of the {name} (code: times)"),
+            &counts,
         );
-        all &= whole;
+    }
+    for (entry, name, first) in NAMING {
+        let row = &NAMED[entry];
+        let count = |&least: &usize| (places(least), row[kind(least)].load(Ordering::Relaxed));
+        let called = PLACES.iter().filter(|&&least| least >= first);
+        let counts: Vec<(String, u64)> = called.map(count).collect();
+        let title = format!("every place of refusal 2 of the {name} (place: times)");
+        all &= show_row(&title, &counts);
     }
     all
 }

@@ -8,9 +8,8 @@ use std::str::{self, Split};
 use std::time::Instant;
 
 use ihex_sys::{DONE, REFUSED, STOP_AFTER_EOF, STOP_AFTER_FIRST_ERROR};
-use original::{ReaderError, Record};
 
-use crate::domain::{rows, Place};
+use crate::domain::{rows, Row};
 use crate::inputs::digits;
 use crate::kinds::Report;
 use crate::lines::{self, in_pool, pour, LineCase};
@@ -286,6 +285,7 @@ fn spelt_long(bytes: &[u8]) -> String {
 
 fn refusal(code: u32, a: u64, b: u64) -> String {
     match code - REFUSED {
+        2 => format!("! 2 {a:04X}"),
         6 => format!("! 6 {a:02X} {b:02X}"),
         8 => format!("! 8 {a:02X}"),
         n @ (12 | 14) => format!("! {n} {a:X}"),
@@ -320,8 +320,8 @@ fn line(case: &LineCase) -> String {
 
 /// The answer to the call behind so many lines that were used up, with room in the pool, and the
 /// number of the line behind which the reader then stands.
-fn call(rows: &[(Result<Record, ReaderError>, Place)], used: usize) -> (Told, usize) {
-    let line = |(_, place): &(_, Place)| place.line;
+fn call(rows: &[Row], used: usize) -> (Told, usize) {
+    let line = |(_, place): &Row| place.line;
     match rows.get(used) {
         Some(row) => (by_crate::answer(&row.0, 0), line(row)),
         None => (told(DONE, 0, 0, 0), rows.last().map_or(0, line)),

@@ -1,8 +1,9 @@
 //! A text: the crate's reader against the port's and the face's, call by call.
 
+use ihex::LineError;
 use ihex_sys::{DONE, FINISHED, STOP_AFTER_EOF, STOP_AFTER_FIRST_ERROR};
 
-use crate::domain::{as_str, options, rows, Row};
+use crate::domain::{as_str, offender_of, options, rows, Answer, Row};
 use crate::lent::{Lent, Numbers};
 use crate::lines::{in_pool, unlike};
 use crate::port::Port;
@@ -171,6 +172,7 @@ pub fn port(port: &dyn Port, case: &TextCase) -> Option<String> {
             line: case.state.line.wrapping_add(place.line),
             flags: flags_behind(state.flags, &expected),
         };
+        seen::note_place(seen::TEXT_READER, offender_of(answer));
         if let Some(why) = calls.call(at, &expected, state) {
             return Some(format!("answer {i}: {why}"));
         }
@@ -190,6 +192,14 @@ pub fn face_options(flags: u8) -> ihex::ReaderOptions {
     }
 }
 
+/// What is wrong with what people read of a refused line, if the crate answers so to it.
+fn misprinted(given: Option<&LineError>, answer: &Answer, line: usize) -> Option<String> {
+    let printed = given.map(LineError::to_string);
+    let refusal = answer.as_ref().err();
+    let should = refusal.map(|refusal| refusal.printed(Some(line)));
+    (printed != should).then(|| format!("face prints {printed:?}, should be {should:?}"))
+}
+
 pub fn face(case: &TextCase) -> Option<String> {
     let stops = face_options(case.state.flags);
     let mut bytes = ihex::ByteReader::new_with_options(&case.text, stops);
@@ -204,7 +214,12 @@ pub fn face(case: &TextCase) -> Option<String> {
                 "answer {i}: face {from_bytes:?}, {from_string:?}, crate {answer:?}"
             ));
         }
-        let with_number = numbered.next().map(|given| match given {
+        let with_line = numbered.next();
+        let printed = with_line.as_ref().and_then(|given| given.as_ref().err());
+        if let Some(why) = misprinted(printed, answer, place.line) {
+            return Some(format!("answer {i}: {why}"));
+        }
+        let with_number = with_line.map(|given| match given {
             Ok((line, record)) => (line, Ok(record)),
             Err(refused) => (refused.line, Err(refused.error)),
         });

@@ -71,9 +71,10 @@ impl Entry {
     }
 }
 
-/// The same functions for the crate and for the Rust face, which have the same shapes.
+/// The same functions for the crate and for the Rust face, which have the same shapes; but the face's
+/// refusals name a place, and the crate's are given one.
 macro_rules! teller {
-    ($name:ident, $from:ident) => {
+    ($name:ident, $from:ident, $refusal:ty, $parts:expr) => {
         pub mod $name {
             use super::{told, Entry, Told};
             use $from::{ReaderError, Record, WriterError};
@@ -96,22 +97,24 @@ macro_rules! teller {
                 }
             }
 
-            pub fn refusal(given: &ReaderError) -> Told {
-                let (n, a, b) = match *given {
+            pub fn refusal(given: &$refusal) -> Told {
+                let parts: fn(&$refusal) -> (ReaderError, u16) = $parts;
+                let (error, place) = parts(given);
+                let (n, a, b) = match error {
                     ReaderError::MissingStartCode => (1, 0, 0),
-                    ReaderError::ContainsInvalidCharacters => (2, 0, 0),
+                    ReaderError::ContainsInvalidCharacters { .. } => (2, place, 0),
                     ReaderError::RecordTooShort => (3, 0, 0),
                     ReaderError::RecordTooLong => (4, 0, 0),
                     ReaderError::RecordNotEvenLength => (5, 0, 0),
-                    ReaderError::ChecksumMismatch(computed, stated) => (6, computed, stated),
+                    ReaderError::ChecksumMismatch(computed, stated) => (6, computed.into(), stated),
                     ReaderError::PayloadLengthMismatch => (7, 0, 0),
-                    ReaderError::UnsupportedRecordType(kind) => (8, kind, 0),
+                    ReaderError::UnsupportedRecordType(kind) => (8, kind.into(), 0),
                     ReaderError::InvalidLengthForType => (9, 0, 0),
                 };
-                told(ihex_sys::REFUSED + n, u64::from(a), u64::from(b), 0)
+                told(ihex_sys::REFUSED + n, a.into(), b.into(), 0)
             }
 
-            pub fn answer(given: &Result<Record, ReaderError>, at: usize) -> Told {
+            pub fn answer(given: &Result<Record, $refusal>, at: usize) -> Told {
                 match given {
                     Ok(read) => record(read, at),
                     Err(refused) => refusal(refused),
@@ -154,5 +157,11 @@ macro_rules! teller {
     };
 }
 
-teller!(by_crate, original);
-teller!(by_face, ihex);
+teller!(by_crate, original, crate::domain::Refusal, |given| (
+    given.error,
+    given.named()
+));
+teller!(by_face, ihex, ReaderError, |given| match *given {
+    ReaderError::ContainsInvalidCharacters(place) => (*given, place),
+    other => (other, 0),
+});

@@ -50,6 +50,40 @@ impl Port for Line {
     }
 }
 
+/// A record reader that names another place of a byte that is no digit: from the line and the right one.
+struct Named(fn(&[u8], u64) -> u64);
+
+impl Port for Named {
+    fn read_record(&self, line: &[u8], pool: &mut [u8], at: usize, (a, b, c): Numbers) -> u32 {
+        let code = Real.read_record(line, pool, at, (a, b, c));
+        if code == REFUSED + 2 {
+            *a = self.0(line, *a);
+        }
+        code
+    }
+}
+
+/// A text reader that names another place: from where the call began in the text, and the right one.
+struct NamedInText(fn(usize, u64) -> u64);
+
+impl Port for NamedInText {
+    fn next(
+        &self,
+        text: &[u8],
+        pool: &mut [u8],
+        at: usize,
+        (position, line, flags): State,
+        (a, b, c): Numbers,
+    ) -> u32 {
+        let before = *position;
+        let code = Real.next(text, pool, at, (position, line, flags), (a, b, c));
+        if code == REFUSED + 2 {
+            *a = self.0(before, *a);
+        }
+        code
+    }
+}
+
 /// A text reader that reads another text.
 struct OtherText(fn(&[u8]) -> &[u8]);
 
@@ -156,6 +190,7 @@ pub fn all() -> Vec<Wrong> {
         sums(),
         lines(),
         digits(),
+        places(),
         pools(),
         texts(),
         records(),
@@ -240,6 +275,47 @@ fn digits() -> Vec<Wrong> {
                 false => code,
             }
         }),
+    ]
+}
+
+/// The places of a line's bytes behind the colon that are no digits.
+fn odd(line: &[u8]) -> impl DoubleEndedIterator<Item = u64> + '_ {
+    let odd = move |&place: &usize| !line[place].is_ascii_hexdigit();
+    (1..line.len()).filter(odd).map(|place| place as u64)
+}
+
+/// Readers that name another place of a byte that is no digit.
+fn places() -> Vec<Wrong> {
+    let named = |name, change| -> Wrong { (name, Box::new(Named(change))) };
+    let in_text = |name, change| -> Wrong { (name, Box::new(NamedInText(change))) };
+    vec![
+        named("names the last byte that is no digit", |line, place| {
+            odd(line).next_back().map_or(place, |last| last.min(65_535))
+        }),
+        named("counts places from 1", |_, place| place + 1),
+        named("does not count the colon", |_, place| place - 1),
+        named("lets a place wrap at 65,536", |line, place| {
+            odd(line).next().map_or(place, |first| first % 65_536)
+        }),
+        named("names a place beyond 65,535", |line, place| {
+            odd(line).next().unwrap_or(place)
+        }),
+        named("takes 65,534 for the last place", |_, place| {
+            place.min(65_534)
+        }),
+        in_text("names no place in a text", |_, _| 0),
+        in_text(
+            "names the place in the text, not in the line",
+            |before, place| (before as u64 + place).min(65_535),
+        ),
+        (
+            "names no place in a load",
+            Box::new(Load(|code, _, _, a| {
+                if code == REFUSED + 2 {
+                    *a = 0;
+                }
+            })),
+        ),
     ]
 }
 
@@ -463,9 +539,12 @@ fn filling<'a>(case: &str, answer: &'a str) -> Option<&'a str> {
 }
 
 /// Answers of `replay` that are wrong: in what, and what is told.
-const ANSWERS: [(&str, Change); 7] = [
+const ANSWERS: [(&str, Change); 8] = [
     ("tells an offset from F000 on one digit off", |_, answer| {
         answer.replace("D F", "D E")
+    }),
+    ("counts places from 0 behind the colon", |_, answer| {
+        answer.replace("! 2 0001", "! 2 0000")
     }),
     (
         "uses up the first line where it finds the pool full",

@@ -8,6 +8,9 @@ use crate::wrong::Wrong;
 
 type Numbers<'a> = (&'a mut u64, &'a mut u64, &'a mut u64);
 
+/// The place of the carry's last byte, in a line of which nothing was left out.
+const LAST_CARRIED: u64 = CARRY as u64 - 1;
+
 /// What a call is given, and what it leaves behind.
 struct Call<'a> {
     /// The chunk, or nothing where the text is to end.
@@ -15,6 +18,8 @@ struct Call<'a> {
     carry: &'a mut [u8],
     state: Standing,
     place: Place,
+    /// The first of the three numbers that are told.
+    first: u64,
 }
 
 impl<'a> Call<'a> {
@@ -24,28 +29,31 @@ impl<'a> Call<'a> {
             line: *standing.1,
             empties: *standing.2,
             used: *standing.3,
-            flags: *standing.4,
+            skipped: *standing.4,
+            flags: *standing.5,
         };
-        let place = (0, 0, 0);
         Call {
             chunk,
             carry,
             state,
-            place,
+            place: (0, 0, 0),
+            first: 0,
         }
     }
 
     /// The right call.
-    fn made(&mut self, pool: &mut [u8], at: usize, numbers: Numbers) -> u32 {
+    fn made(&mut self, pool: &mut [u8], at: usize, (b, c): (&mut u64, &mut u64)) -> u32 {
         let state = &mut self.state;
         let standing = (
             &mut state.position,
             &mut state.line,
             &mut state.empties,
             &mut state.used,
+            &mut state.skipped,
             &mut state.flags,
         );
         let lies = (&mut self.place.0, &mut self.place.1, &mut self.place.2);
+        let numbers = (&mut self.first, b, c);
         match self.chunk {
             Some(chunk) => Real.next_chunk(chunk, self.carry, pool, at, standing, lies, numbers),
             None => Real.finish(self.carry, pool, at, standing, lies, numbers),
@@ -58,7 +66,8 @@ impl<'a> Call<'a> {
         *standing.1 = self.state.line;
         *standing.2 = self.state.empties;
         *standing.3 = self.state.used;
-        *standing.4 = self.state.flags;
+        *standing.4 = self.state.skipped;
+        *standing.5 = self.state.flags;
         *lies.0 = self.place.0;
         *lies.1 = self.place.1;
         *lies.2 = self.place.2;
@@ -68,6 +77,22 @@ impl<'a> Call<'a> {
     fn rest(&self) -> &'a [u8] {
         let chunk = self.chunk.unwrap_or(&[]);
         chunk.get(self.state.position..).unwrap_or(&[])
+    }
+
+    /// Whether a byte that is no digit stands in what is still to be read of the line.
+    fn goes_on_oddly(&self) -> bool {
+        let line = self.rest().split(|&byte| byte == b'\n').next();
+        let line = line.unwrap_or(&[]);
+        let line = line.strip_suffix(b"\r").unwrap_or(line);
+        !line.iter().all(u8::is_ascii_hexdigit)
+    }
+
+    /// Names another place, where one is named behind digits left out of a line that began in an earlier
+    /// chunk.
+    fn rename(&mut self, code: u32, before: Standing, place: fn(u64) -> u64) {
+        if code == REFUSED + 2 && before.used > 0 && self.first > LAST_CARRIED {
+            self.first = place(self.first);
+        }
     }
 }
 
@@ -87,10 +112,12 @@ impl Chunks {
         lies: ihex_sys::Lies,
         numbers: Numbers,
     ) -> u32 {
+        let (a, b, c) = numbers;
         (self.ahead)(&mut call);
         let before = call.state;
-        let code = call.made(pool, at, numbers);
+        let code = call.made(pool, at, (b, c));
         (self.behind)(code, before, &mut call);
+        *a = call.first;
         call.tell(standing, lies);
         code
     }
@@ -146,10 +173,19 @@ fn behind(name: &'static str, behind: fn(u32, Standing, &mut Call)) -> Wrong {
 
 /// Every wrong reader of chunks.
 pub fn all() -> Vec<Wrong> {
-    [cut(), long(), numbers(), full(), shown(), ends(), small()]
-        .into_iter()
-        .flatten()
-        .collect()
+    [
+        cut(),
+        long(),
+        places(),
+        numbers(),
+        full(),
+        shown(),
+        ends(),
+        small(),
+    ]
+    .into_iter()
+    .flatten()
+    .collect()
 }
 
 /// Those that go wrong where a line is cut.
@@ -208,6 +244,54 @@ fn long() -> Vec<Wrong> {
                 call.carry[CARRY - 1] = b'0';
             }
         }),
+    ]
+}
+
+/// Those that name another place of a byte that is no digit, in a line that is too long.
+fn places() -> Vec<Wrong> {
+    vec![
+        behind(
+            "forgets the digits left out, and names 521",
+            |code, before, call| call.rename(code, before, |_| LAST_CARRIED),
+        ),
+        behind(
+            "counts the digits left out one too many",
+            |code, before, call| call.rename(code, before, |place| (place + 1).min(65_535)),
+        ),
+        behind(
+            "forgets between chunks the digits left out",
+            |code, _, call| {
+                if code == USED_UP {
+                    call.state.skipped = 0;
+                }
+            },
+        ),
+        behind("counts a cut as a digit left out", |code, _, call| {
+            if code == USED_UP && call.state.used == CARRY {
+                call.state.skipped = call.state.skipped.saturating_add(1);
+            }
+        }),
+        behind(
+            "counts the digits left out from 0 again at 65,535",
+            |code, _, call| {
+                if code == USED_UP && call.state.skipped == u16::MAX {
+                    call.state.skipped = 0;
+                }
+            },
+        ),
+        ahead("names the last byte behind 521 that is no digit", |call| {
+            if call.state.used == CARRY && call.carry.len() >= CARRY && call.goes_on_oddly() {
+                call.carry[CARRY - 1] = b'0';
+            }
+        }),
+        behind(
+            "keeps the count of digits left out behind the line",
+            |code, before, call| {
+                if code == REFUSED + 2 {
+                    call.state.skipped = before.skipped;
+                }
+            },
+        ),
     ]
 }
 

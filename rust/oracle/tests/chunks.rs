@@ -4,9 +4,10 @@
 use ihex_sys::CARRY;
 use oracle::chance::Chance;
 use oracle::chunks::ChunkCase;
-use oracle::cuts::{by_hand, cut_everywhere, cut_text, long, LENGTHS};
+use oracle::cuts::{by_hand, cut_everywhere, cut_text};
 use oracle::domain::at_hand;
 use oracle::kinds::{of_chunks, Plan};
+use oracle::long::{long, LENGTHS};
 use oracle::port::Real;
 use oracle::wrong_chunks;
 
@@ -64,7 +65,13 @@ fn states_are_made_up() {
     assert!(some(|case| case.state.used == CARRY));
     assert!(some(|case| case.state.used == CARRY + 1));
     assert!(some(|case| case.state.used == usize::MAX));
-    assert!(some(|case| case.state.position > case.chunks[0].len()));
+    assert!(some(|case| case.state.skipped == u16::MAX));
+    assert!(some(
+        |case| case.state.used == CARRY && (1..60_000).contains(&case.state.skipped)
+    ));
+    assert!(some(|case| case.chunks.is_empty() && case.state.skipped > 0));
+    let first = |case: &ChunkCase| case.chunks.first().map_or(usize::MAX, Vec::len);
+    assert!(cases.iter().any(|case| case.state.position > first(case)));
     assert!(some(
         |case| case.state.flags > 15 && case.state.flags & 4 == 0
     ));
@@ -78,7 +85,7 @@ fn lines_are_long() {
     let mut chance = Chance::new(7);
     for length in LENGTHS {
         let cases = long(length, &mut chance);
-        let texts: Vec<Vec<u8>> = cases.iter().map(|one| one.case().text()).collect();
+        let texts: Vec<Vec<u8>> = cases.iter().map(|one| one.text().text).collect();
         for text in &texts {
             let line = text.split(|&byte| byte == b'\n').nth(1);
             let line = line.expect("a line behind the first");

@@ -1,5 +1,6 @@
 //! A program that uses every name of the crate ihex 3.0.0, built against the crate and against the
-//! Rust face: what one takes, the other takes.
+//! Rust face: what one takes, the other takes. `ContainsInvalidCharacters` carries a number in the face
+//! alone, and a pattern that takes both.
 macro_rules! uses {
     ($name:ident, $from:ident, $at_hand:expr) => {
         mod $name {
@@ -41,7 +42,7 @@ macro_rules! uses {
                     | ReaderError::RecordTooShort
                     | ReaderError::RecordTooLong
                     | ReaderError::RecordNotEvenLength
-                    | ReaderError::ContainsInvalidCharacters
+                    | ReaderError::ContainsInvalidCharacters { .. }
                     | ReaderError::PayloadLengthMismatch
                     | ReaderError::InvalidLengthForType => vec![],
                     ReaderError::ChecksumMismatch(computed, stated) => vec![computed, stated],

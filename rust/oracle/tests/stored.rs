@@ -5,12 +5,13 @@ use std::io;
 
 use oracle::stored::{Given, List};
 
-const HEADINGS_AND_CASES: [(&str, &str); 12] = [
+const HEADINGS_AND_CASES: [(&str, &str); 15] = [
     ("# a heading", "# a heading"),
     ("C 01", "FF"),
     ("C", "00"),
     ("L 4 1 3A303130303035303037373833", "D 0005 1 1 | EE77EEEE"),
     ("L 0 0 FF", "! 1 | "),
+    ("L 1 0 3A304780", "! 2 0002 | EE"),
     (
         "T 3 1 3A303030303030303146460A0A30",
         "E @1 | EE; done @1 | EE; done @1",
@@ -18,9 +19,11 @@ const HEADINGS_AND_CASES: [(&str, &str); 12] = [
     ("T 4 1 3A303030303030303146460A0A30", "E | EE"),
     ("T 4 2 0A3A303130303035303037373833", "D 0005 0 1 | 77EE"),
     ("T 4 0 3A303130303035303037373833", "! 10 | "),
+    ("T 1 0 0A3A30300D", "! 2 0003 @2 | ; done @2 | ; done @2"),
     ("W 1 0 0 0 0 C", "W B | 3A30303030303030314646DD"),
     ("O C  1 0 0 0 0", "W C | 3A303030303030303146460A"),
     ("M 0 2 41 3A30303030303030314646", "! 16 @0 | CCCC | AA<41"),
+    ("M 0 1 1 3AC3A90A", "! 2 0001 @1 | CC | AA"),
 ];
 
 /// What `replay` takes another way, or not at all.
@@ -51,11 +54,11 @@ fn right_answers_agree() {
     assert_eq!(outcome.report.smallest, None);
     assert_eq!(
         (outcome.report.inputs, outcome.report.disagreements),
-        (11, 0)
+        (14, 0)
     );
     assert_eq!(
         outcome.told,
-        "2 C, 2 L, 4 T, 1 W, 1 O, 1 M; 1 of them no UTF-8, answered by the rule for bytes; 0 passed over"
+        "2 C, 3 L, 5 T, 1 W, 1 O, 2 M; 2 of them no UTF-8, answered by the rule for bytes; 0 passed over"
     );
 }
 
@@ -84,7 +87,7 @@ fn what_is_no_case_is_passed_over_and_kept() {
     let outcome = list.compare();
     assert_eq!(
         (outcome.report.inputs, outcome.report.disagreements),
-        (11, 0)
+        (14, 0)
     );
     assert!(outcome.told.ends_with("; 10 passed over"));
     assert_eq!(list.answered().answers, list.answers);

@@ -72,6 +72,7 @@ mod c {
             line: *mut usize,
             empties: *mut usize,
             used: *mut usize,
+            skipped: *mut u16,
             flags: *mut u8,
             lies: *mut u8,
             from: *mut usize,
@@ -90,6 +91,7 @@ mod c {
             line: *mut usize,
             empties: *mut usize,
             used: *mut usize,
+            skipped: *mut u16,
             flags: *mut u8,
             lies: *mut u8,
             from: *mut usize,
@@ -192,6 +194,7 @@ pub type Standing<'a> = (
     &'a mut usize,
     &'a mut usize,
     &'a mut usize,
+    &'a mut u16,
     &'a mut u8,
 );
 
@@ -204,7 +207,7 @@ pub fn next_chunk(
     carry: &mut [u8],
     pool: &mut [u8],
     at: usize,
-    (position, line, empties, used, flags): Standing,
+    (position, line, empties, used, skipped, flags): Standing,
     (lies, from, len): Lies,
     a: &mut u64,
     b: &mut u64,
@@ -216,7 +219,7 @@ pub fn next_chunk(
     unsafe {
         c::ihex_next_chunk(
             chunk, chunk_len, carry, carry_len, pool, pool_len, at, position, line, empties, used,
-            flags, lies, from, len, a, b, c,
+            skipped, flags, lies, from, len, a, b, c,
         )
     }
 }
@@ -226,7 +229,7 @@ pub fn finish(
     carry: &mut [u8],
     pool: &mut [u8],
     at: usize,
-    (position, line, empties, used, flags): Standing,
+    (position, line, empties, used, skipped, flags): Standing,
     (lies, from, len): Lies,
     a: &mut u64,
     b: &mut u64,
@@ -236,8 +239,8 @@ pub fn finish(
     let (pool, pool_len) = (pool.as_mut_ptr(), pool.len());
     unsafe {
         c::ihex_finish(
-            carry, carry_len, pool, pool_len, at, position, line, empties, used, flags, lies, from,
-            len, a, b, c,
+            carry, carry_len, pool, pool_len, at, position, line, empties, used, skipped, flags,
+            lies, from, len, a, b, c,
         )
     }
 }

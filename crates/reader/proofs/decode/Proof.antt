@@ -10,15 +10,21 @@ use Rattle.reader.proofs.decode.Statement.{statement}
 use Rattle.reader.proofs.decode.Tie as tie
 
 abbrev Inv-loop : tie.InvT-loop
-Inv-loop t line n buf₀ seen₀ sum₀ p₀ i₀ buf seen sum p i = Turn line n buf seen sum p i × (length buf ≡ length buf₀)
+Inv-loop t line n buf₀ seen₀ sum₀ i₀ buf seen sum i = Turn line n buf seen sum i × (length buf ≡ length buf₀)
 
 abbrev μ-loop : tie.MeasureT-loop
-μ-loop t line n buf₀ seen₀ sum₀ p₀ i₀ buf seen sum p i = n - i
+μ-loop t line n buf₀ seen₀ sum₀ i₀ buf seen sum i = n - i
 
 loop-holds : tie.Need-loop-holds Inv-loop μ-loop
 loop-holds c =
     let a = c .before .before .args in
     (turn-first (now (a .t)) (now (a .line)) (a .n) (now (a .buf)) (c .before .before .pre), refl)
+
+mul-p : tie.Need-mul-p Inv-loop μ-loop
+mul-p c = search needs
+
+add-p : tie.Need-add-p Inv-loop μ-loop
+add-p c = search needs
 
 shared-slice-read-value : tie.Need-shared-slice-read-value Inv-loop μ-loop
 shared-slice-read-value c = search needs
@@ -44,9 +50,6 @@ wrapping-add-u8-requires c κs = search needs
 slice-write-buf : tie.Need-slice-write-buf Inv-loop μ-loop
 slice-write-buf c = search needs
 
-add-p : tie.Need-add-p Inv-loop μ-loop
-add-p c = search needs
-
 add-i : tie.Need-add-i Inv-loop μ-loop
 add-i c = search needs
 
@@ -58,7 +61,7 @@ loop-again c =
     let t = c .before .before .before .before .before .before .before .loop in
     let e = c .before .before .before .before .before .before .before .before .before .before in (
       turn-more (now (e .args .t)) (now (e .args .line)) (e .args .n) (now (e .args .buf)) (e .pre)
-          (t .buf) (t .seen) (t .sum) (t .p) (t .i)
+          (t .buf) (t .seen) (t .sum) (t .i)
           (c .before .before .before .before .value .result) (c .before .before .value2 .result) (c .before .pair .result)
           (c .wrapping-add-u8 .result)
           (t .inv .0) (c .before .before .before .before .before .before .loop-test .taken)
@@ -75,7 +78,7 @@ returns c =
     let t = c .before .loop in
     let e = c .before .before .before .before in
     turn-last (now (e .args .t)) (now (e .args .line)) (e .args .n) (now (e .args .buf)) (e .pre)
-    (t .buf) (t .seen) (t .sum) (t .p) (t .i) (t .inv .0) (c .loop-test .left)
+    (t .buf) (t .seen) (t .sum) (t .i) (t .inv .0) (c .loop-test .left)
 
 pub decode-spec : {M : Type 1} → statement M
 decode-spec =
@@ -84,6 +87,8 @@ decode-spec =
     Inv-loop
     μ-loop
     loop-holds
+    mul-p
+    add-p
     shared-slice-read-value
     value-requires
     add-value
@@ -92,7 +97,6 @@ decode-spec =
     pair-requires
     wrapping-add-u8-requires
     slice-write-buf
-    add-p
     add-i
     loop-less
     loop-again
