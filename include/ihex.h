@@ -34,7 +34,7 @@ extern "C" {
 
 /* The refusals: their numbers, and their values (0 where there is none). */
 #define IHEX_MISSING_START_CODE 1           /* the line's first byte is no colon, or there is none */
-#define IHEX_CONTAINS_INVALID_CHARACTERS 2  /* a byte behind the colon is no digit; a: the place of the first such, up to IHEX_MAX_PLACE */
+#define IHEX_CONTAINS_INVALID_CHARACTERS 2  /* a byte behind the colon is no digit; a: the place of the first such byte, up to IHEX_MAX_PLACE */
 #define IHEX_RECORD_TOO_SHORT 3             /* under 10 digits */
 #define IHEX_RECORD_TOO_LONG 4              /* over 520 digits */
 #define IHEX_RECORD_NOT_EVEN_LENGTH 5       /* an odd number of digits */

@@ -75,7 +75,7 @@ listed('200,000 bytes', b'\n' * 200000, b'input too long\n')
 listed('65,536 bytes in one line without LF', b':' + b'0' * (LIMIT - 1), of(b'! 4'))
 listed('65,536 LF', b'\n' * LIMIT, b'records\n0 answers\n')
 
-# the most lines: one byte and an LF, four characters
+# the most answers: one byte and an LF, four characters
 listed('the most answers', b'x\n' * (LIMIT // 2), b'records\n' + b'! 1\n' * (LIMIT // 2) + b'32768 answers\n')
 listed('the most answers without the last LF', b'x\n' * (LIMIT // 2 - 1) + b'x', b'records\n' + b'! 1\n' * (LIMIT // 2) + b'32768 answers\n')
 

@@ -795,66 +795,88 @@ static int begins(uint32_t r, size_t n, uint16_t out)
     return r == IHEX_USED_UP && used.value == n && skipped.value == out && line.value == 0;
 }
 
+/* a count, one more, and 600 more; the place of the carry's last byte, and of the one behind it */
+struct counted {
+    uint16_t out, one, many;
+    uint64_t last, next;
+};
+
+static char six_hundred[601];
+
+/* a full carry whose last byte is no digit: it stays, and so does its place */
+static void last_is_no_digit(const struct counted *c)
+{
+    make_up(522, 'G', c->out);
+    CHECK(refuses(finish(0, 0), IHEX_CONTAINS_INVALID_CHARACTERS, c->last));
+    make_up(522, 'G', c->out);
+    CHECK(refuses(feed_text("\n", 0, 0), IHEX_CONTAINS_INVALID_CHARACTERS, c->last));
+    make_up(522, 'G', c->out);
+    CHECK(begins(feed_text("0G\r", 0, 0), 522, c->out));
+    CHECK(refuses(feed_text("0\n", 0, 0), IHEX_CONTAINS_INVALID_CHARACTERS, c->last));
+    make_up(522, 'G', c->out);
+    CHECK(begins(feed_text(six_hundred, 0, 0), 522, c->out) && carry()[521] == 'G');
+}
+
+/* it is a digit: the next byte replaces it */
+static void last_is_a_digit(const struct counted *c)
+{
+    make_up(522, '7', c->out);
+    CHECK(begins(feed_text("G", 0, 0), 522, c->one) && carry()[521] == 'G');
+    CHECK(refuses(finish(0, 0), IHEX_CONTAINS_INVALID_CHARACTERS, c->next));
+    make_up(522, '7', c->out);
+    CHECK(refuses(feed_text("GG\n", 0, 0), IHEX_CONTAINS_INVALID_CHARACTERS, c->next));
+    make_up(522, '7', c->out);
+    CHECK(begins(feed_text("8", 0, 0), 522, c->one) && carry()[521] == '8');
+    CHECK(refuses(finish(0, 0), IHEX_RECORD_TOO_LONG, 0));
+    make_up(522, '7', c->out);
+    CHECK(begins(feed_text(six_hundred, 0, 0), 522, c->many) && carry()[521] == '0');
+    make_up(522, '7', c->out);
+    CHECK(refuses(feed_text("\n", 0, 0), IHEX_RECORD_TOO_LONG, 0));
+}
+
+/* a CR that waits is not counted yet */
+static void last_is_a_CR(const struct counted *c)
+{
+    make_up(522, '7', c->out);
+    CHECK(begins(feed_text("\r", 0, 0), 522, c->out) && carry()[521] == '7');
+    CHECK(refuses(finish(0, 0), IHEX_CONTAINS_INVALID_CHARACTERS, c->next));
+    make_up(522, '7', c->out);
+    CHECK(begins(feed_text("\r", 0, 0), 522, c->out) && begins(feed_text("\r", 0, 0), 522, c->one));
+    CHECK(refuses(feed_text("\n", 0, 0), IHEX_CONTAINS_INVALID_CHARACTERS, c->next));
+    make_up(522, '7', c->out);
+    CHECK(begins(feed_text("\r", 0, 0), 522, c->out) && refuses(feed_text("\n", 0, 0), IHEX_RECORD_TOO_LONG, 0));
+}
+
+/* a place ahead of the carry's last byte is the line's own; without a colon there is none */
+static void ahead_of_the_last(const struct counted *c)
+{
+    make_up(522, 'G', c->out);
+    carry()[520] = 'G';
+    CHECK(refuses(finish(0, 0), IHEX_CONTAINS_INVALID_CHARACTERS, 520));
+    make_up(522, '7', c->out);
+    carry()[1] = 'G';
+    CHECK(refuses(feed_text("GG\r\n", 0, 0), IHEX_CONTAINS_INVALID_CHARACTERS, 1));
+    make_up(522, 'G', c->out);
+    carry()[0] = '0';
+    CHECK(refuses(finish(0, 0), IHEX_MISSING_START_CODE, 0));
+}
+
 /* a full carry, and counts up to the greatest */
 static void counts_of_skipped(void)
 {
-    /* the count, one more, and 600 more; the place of the carry's last byte, and of the one behind it */
-    static const struct {
-        uint16_t out, one, many;
-        uint64_t last, next;
-    } counts[] = {
+    static const struct counted counts[] = {
         {0, 1, 600, 521, 522}, {1, 2, 601, 522, 523}, {64934, 64935, 65534, 65455, 65456}, {64935, 64936, 65535, 65456, 65457},
         {65012, 65013, 65535, 65533, 65534}, {65013, 65014, 65535, 65534, 65535}, {65014, 65015, 65535, 65535, 65535},
         {65015, 65016, 65535, 65535, 65535}, {65534, 65535, 65535, 65535, 65535}, {65535, 65535, 65535, 65535, 65535},
     };
-    static char many[601];
     size_t i;
-    memset(many, '0', 600);
+    memset(six_hundred, '0', 600);
     for (i = 0; i < sizeof counts / sizeof counts[0]; i++) {
-        uint16_t out = counts[i].out, one = counts[i].one;
         begin_case();
-        /* the carry's last byte is no digit: it stays, and so does its place */
-        make_up(522, 'G', out);
-        CHECK(refuses(finish(0, 0), IHEX_CONTAINS_INVALID_CHARACTERS, counts[i].last));
-        make_up(522, 'G', out);
-        CHECK(refuses(feed_text("\n", 0, 0), IHEX_CONTAINS_INVALID_CHARACTERS, counts[i].last));
-        make_up(522, 'G', out);
-        CHECK(begins(feed_text("0G\r", 0, 0), 522, out));
-        CHECK(refuses(feed_text("0\n", 0, 0), IHEX_CONTAINS_INVALID_CHARACTERS, counts[i].last));
-        make_up(522, 'G', out);
-        CHECK(begins(feed_text(many, 0, 0), 522, out) && carry()[521] == 'G');
-        /* it is a digit: the next byte takes its place */
-        make_up(522, '7', out);
-        CHECK(begins(feed_text("G", 0, 0), 522, one) && carry()[521] == 'G');
-        CHECK(refuses(finish(0, 0), IHEX_CONTAINS_INVALID_CHARACTERS, counts[i].next));
-        make_up(522, '7', out);
-        CHECK(refuses(feed_text("GG\n", 0, 0), IHEX_CONTAINS_INVALID_CHARACTERS, counts[i].next));
-        make_up(522, '7', out);
-        CHECK(begins(feed_text("8", 0, 0), 522, one) && carry()[521] == '8');
-        CHECK(refuses(finish(0, 0), IHEX_RECORD_TOO_LONG, 0));
-        make_up(522, '7', out);
-        CHECK(begins(feed_text(many, 0, 0), 522, counts[i].many) && carry()[521] == '0');
-        make_up(522, '7', out);
-        CHECK(refuses(feed_text("\n", 0, 0), IHEX_RECORD_TOO_LONG, 0));
-        /* a CR that waits is not counted yet */
-        make_up(522, '7', out);
-        CHECK(begins(feed_text("\r", 0, 0), 522, out) && carry()[521] == '7');
-        CHECK(refuses(finish(0, 0), IHEX_CONTAINS_INVALID_CHARACTERS, counts[i].next));
-        make_up(522, '7', out);
-        CHECK(begins(feed_text("\r", 0, 0), 522, out) && begins(feed_text("\r", 0, 0), 522, one));
-        CHECK(refuses(feed_text("\n", 0, 0), IHEX_CONTAINS_INVALID_CHARACTERS, counts[i].next));
-        make_up(522, '7', out);
-        CHECK(begins(feed_text("\r", 0, 0), 522, out) && refuses(feed_text("\n", 0, 0), IHEX_RECORD_TOO_LONG, 0));
-        /* a place ahead of the carry's last byte is the line's own; without a colon there is none */
-        make_up(522, 'G', out);
-        carry()[520] = 'G';
-        CHECK(refuses(finish(0, 0), IHEX_CONTAINS_INVALID_CHARACTERS, 520));
-        make_up(522, '7', out);
-        carry()[1] = 'G';
-        CHECK(refuses(feed_text("GG\r\n", 0, 0), IHEX_CONTAINS_INVALID_CHARACTERS, 1));
-        make_up(522, 'G', out);
-        carry()[0] = '0';
-        CHECK(refuses(finish(0, 0), IHEX_MISSING_START_CODE, 0));
+        last_is_no_digit(&counts[i]);
+        last_is_a_digit(&counts[i]);
+        last_is_a_CR(&counts[i]);
+        ahead_of_the_last(&counts[i]);
         end_case();
     }
 }
@@ -888,7 +910,11 @@ static void counts_that_are_made_up(void)
         CHECK(refuses(feed_text(spoilt + 1, 0, 0), IHEX_CONTAINS_INVALID_CHARACTERS, n + 600));
         end_case();
     }
-    /* bytes enough that they are taken in one go */
+}
+
+/* the same with bytes enough that they are taken in one go */
+static void counts_taken_in_one_go(void)
+{
     make_up(505, '0', 7);
     CHECK(refuses(feed_text("0123456789ABCDEFG\n", 0, 0), IHEX_CONTAINS_INVALID_CHARACTERS, 521));
     make_up(505, '0', 7);
@@ -897,7 +923,11 @@ static void counts_that_are_made_up(void)
     make_up(505, '0', 7);
     CHECK(begins(feed_text("0123456789ABCDEF\r", 0, 0), 521, 0));
     CHECK(refuses(finish(0, 0), IHEX_CONTAINS_INVALID_CHARACTERS, 521));
-    /* nothing is begun */
+}
+
+/* the same with nothing begun; "done" leaves the count as it was */
+static void counts_with_nothing_begun(void)
+{
     make_up(1, ':', 7);
     used.value = 0;
     CHECK(refuses(feed_text(":0G\n", 0, 0), IHEX_CONTAINS_INVALID_CHARACTERS, 2));
@@ -908,7 +938,6 @@ static void counts_that_are_made_up(void)
     used.value = 0;
     flags.value = IHEX_CR_WAITS;
     CHECK(begins(feed_text("\n\r", 0, 0), 0, 0) && empties.value == 1 && flags.value == IHEX_CR_WAITS);
-    /* "done" leaves it as it was */
     make_up(1, ':', 7);
     used.value = 0;
     CHECK(finish(0, 0) == IHEX_DONE && stands(0, 0, IHEX_FINISHED) && used.value == 0 && skipped.value == 7);
@@ -1481,6 +1510,8 @@ int main(void)
     places_of_CR();
     counts_of_skipped();
     counts_that_are_made_up();
+    counts_taken_in_one_go();
+    counts_with_nothing_begun();
     chunks_with_full_pool();
     small_carry();
     made_up_states();

@@ -1,4 +1,4 @@
--- A line is judged as what is kept of it stands for. Beyond 521 bytes the judge asks only for the colon, whether all else are digits, and
+-- A line is judged as the line that what is kept of it stands for. Beyond 521 bytes the judge asks only for the colon, whether all else are digits, and
 -- how many of them lead; a zero in the place of a digit changes none of it, nor does any byte behind one that is no digit.
 -- Assumes nothing.
 use Prim.Native.Nat.{ℕ, zero, suc, _+_, _-_, _≤_, _<_}
@@ -34,20 +34,20 @@ digits-append (c ∷ a) b = ap (λ (t : Bool). is-digit c && t) (digits-append a
 
 -- ---- long rows that are judged alike
 
--- all or none are digits, and as many lead, as far as a refusal names places
-pub record Alike (ds es : List ℕ) : Type 0 where
+-- both are digits alone, or neither is; and as many digits lead both, as far as places are named
+pub record Judged-alike (ds es : List ℕ) : Type 0 where
   pub all : all-digits ds ≡ all-digits es
   pub place : named (suc (leading ds)) ≡ named (suc (leading es))
 
-judged-alike : (c : ℕ) (ds es : List ℕ) → 520 < length ds → 520 < length es → Alike ds es → judge (c ∷ ds) ≡ judge (c ∷ es)
+judged-alike : (c : ℕ) (ds es : List ℕ) → 520 < length ds → 520 < length es → Judged-alike ds es → judge (c ∷ ds) ≡ judge (c ∷ es)
 judged-alike c ds es h k a =
     judge-over c ds h
     ∙ ap₂ (λ (t : Bool) (p : ℕ). if eqb c 58 then (if t then wrong record-too-long else wrong (contains-invalid-characters p)) else wrong missing-start-code) (a .all) (a .place)
     ∙ sym (judge-over c es k)
 
--- the same front, and behind it what is alike there: n places further, which may be too far to be named
+-- the same front, and behind it rows that as many digits lead, as far as places are named from there
 alike-behind : (front ds es : List ℕ) → all-digits ds ≡ all-digits es
-    → (all-digits front ≡ true → named (suc (length front + leading ds)) ≡ named (suc (length front + leading es))) → Alike (front ++ ds) (front ++ es)
+    → (all-digits front ≡ true → named (suc (length front + leading ds)) ≡ named (suc (length front + leading es))) → Judged-alike (front ++ ds) (front ++ es)
 alike-behind front ds es a p =
     record {
       all = digits-append front ds ∙ ap (λ (t : Bool). all-digits front && t) a ∙ sym (digits-append front es);
@@ -65,7 +65,7 @@ unfolding all-digits
 zeros-digits zero = refl
 zeros-digits (suc n) = zeros-digits n
 
--- digits and then a row: what leads it
+-- zeros ahead of a row
 module _ (n : ℕ) (ds : List ℕ) where
   pub all-behind : all-digits (replicate n 48 ++ ds) ≡ all-digits ds
   all-behind = digits-append (replicate n 48) ds ∙ ap (λ (t : Bool). t && all-digits ds) (zeros-digits n)
@@ -77,7 +77,7 @@ module _ (n : ℕ) (ds : List ℕ) where
 
 -- the last of them is a digit: whatever comes next takes its place, with one zero more ahead of it
 pub counted-in : (front : List ℕ) (n y c : ℕ) (l : List ℕ) → length front ≡ 520 → is-digit y ≡ true
-    → Alike (front ++ (replicate (named (suc n)) 48 ++ (c ∷ l))) (front ++ (replicate n 48 ++ (y ∷ c ∷ l)))
+    → Judged-alike (front ++ (replicate (named (suc n)) 48 ++ (c ∷ l))) (front ++ (replicate n 48 ++ (y ∷ c ∷ l)))
 unfolding all-digits leading
 counted-in front n y c l h e =
     let all : all-digits (y ∷ c ∷ l) ≡ all-digits (c ∷ l) = rw e in
@@ -88,7 +88,7 @@ counted-in front n y c l h e =
 
 -- it is none: what comes next does not matter
 pub passed-by : (front : List ℕ) (n y c : ℕ) (l : List ℕ) → is-digit y ≡ false
-    → Alike (front ++ (replicate n 48 ++ (y ∷ l))) (front ++ (replicate n 48 ++ (y ∷ c ∷ l)))
+    → Judged-alike (front ++ (replicate n 48 ++ (y ∷ l))) (front ++ (replicate n 48 ++ (y ∷ c ∷ l)))
 unfolding all-digits leading
 passed-by front n y c l e =
     let all : all-digits (y ∷ l) ≡ all-digits (y ∷ c ∷ l) = rw e in
@@ -203,9 +203,9 @@ pub brief-short : (l : List ℕ) → length l < 523 → brief l ≡ record { byt
 brief-short l h = short-kept l none-kept (omega arith)
 
 -- and where nothing was left out, it stands for itself
-pub all-kept : (bytes : List ℕ) → stands-for (record { bytes = bytes; skipped = 0 }) ≡ bytes
+pub stands-itself : (bytes : List ℕ) → stands-for (record { bytes = bytes; skipped = 0 }) ≡ bytes
 unfolding stands-for behind-digits
-all-kept bytes = ap (λ (l : List ℕ). take 521 bytes ++ l) (none-ahead (drop 521 bytes)) ∙ take-append-drop 521 bytes
+stands-itself bytes = ap (λ (l : List ℕ). take 521 bytes ++ l) (none-ahead (drop 521 bytes)) ∙ take-append-drop 521 bytes
   where
     none-ahead : (l : List ℕ) → behind-digits 0 l ≡ l
     none-ahead [] = refl
@@ -218,13 +218,13 @@ foldl-on (c ∷ a) b k = foldl-on a b (push k c)
 pub judge-brief : (l : List ℕ) → judge (stands-for (brief l)) ≡ judge l
 judge-brief l =
     split (length l) 522
-    (λ h. ap (λ (k : Kept). judge (stands-for k)) (brief-short l (omega arith)) ∙ ap judge (all-kept l))
+    (λ h. ap (λ (k : Kept). judge (stands-for k)) (brief-short l (omega arith)) ∙ ap judge (stands-itself l))
     (λ h.
     let n : length (take 522 l) ≡ 522 = length-take-le 522 l (omega arith) in
     ap (λ (t : List ℕ). judge (stands-for (brief t))) (sym (take-append-drop 522 l))
     ∙ ap (λ (k : Kept). judge (stands-for k)) (foldl-on (take 522 l) (drop 522 l) none-kept ∙ ap (λ (k : Kept). foldl push k (drop 522 l)) (brief-short (take 522 l) (omega arith)))
     ∙ judged-full (drop 522 l) (record { bytes = take 522 l; skipped = 0 }) n
-    ∙ ap (λ (t : List ℕ). judge (t ++ drop 522 l)) (all-kept (take 522 l))
+    ∙ ap (λ (t : List ℕ). judge (t ++ drop 522 l)) (stands-itself (take 522 l))
     ∙ ap judge (take-append-drop 522 l))
 
 -- ---- what is left out
@@ -265,10 +265,10 @@ module _ (x : ℕ) (front : List ℕ) (h : length front ≡ 520) where
       ∙ foldl-on ((x ∷ front) ++ (y ∷ [])) l none-kept
       ∙ ap (λ (k : Kept). foldl push k l) (brief-short ((x ∷ front) ++ (y ∷ [])) (omega (arith, length-append (x ∷ front) (y ∷ []))))
 
-  counted : (ds : List ℕ) (c : ℕ) → all-digits ds ≡ true → length ds ≤ 65535 → brief ((x ∷ front) ++ (ds ++ (c ∷ []))) ≡ full x front h c (length ds)
+  digits-counted : (ds : List ℕ) (c : ℕ) → all-digits ds ≡ true → length ds ≤ 65535 → brief ((x ∷ front) ++ (ds ++ (c ∷ []))) ≡ full x front h c (length ds)
   unfolding all-digits
-  counted [] c d k = brief-behind c []
-  counted (y ∷ ds) c d k =
+  digits-counted [] c d k = brief-behind c []
+  digits-counted (y ∷ ds) c d k =
       let (f, g) = both (is-digit y) (all-digits ds) d in
       brief-behind y (ds ++ (c ∷ [])) ∙ run-counted ds y 0 c f g (omega arith) ∙ ap (full x front h c) (omega arith)
 
@@ -285,7 +285,7 @@ module _ (x : ℕ) (front : List ℕ) (h : length front ≡ 520) where
 
 pub left-out-counted : Left-out-counted
 left-out-counted [] digits c h d k = absurd (omega arith)
-left-out-counted (x ∷ front) digits c h d k = counted x front (omega arith) digits c d k
+left-out-counted (x ∷ front) digits c h d k = digits-counted x front (omega arith) digits c d k
 
 pub nothing-behind-counted : Nothing-behind-counted
 nothing-behind-counted [] digits more c h d e = absurd (omega arith)

@@ -1,4 +1,4 @@
--- The claims on rows, and that each call has one outcome: a row is the one over the pieces, which are the lines as they are kept; a reply
+-- The claims on rows, and that each call has one outcome: a row is the one over the pieces, which are the lines as what is kept of them stands for; a reply
 -- is found again from its word.
 -- Assumes nothing.
 use Prim.Native.Nat.{ℕ}

@@ -1,4 +1,4 @@
--- The row over the lines: a line is answered and shown as what is kept of it, and without the lines shown the row is the text reader's.
+-- The row over the lines: a line is answered and shown as what is kept of it stands for, and without the lines shown the row is the text reader's.
 -- Assumes nothing.
 use Prim.Native.Nat.{ℕ, suc, _+_, _-_, _≤_, _<_}
 use mathlib.Core.Path.{_≡_, refl, sym, _∙_, ap, ap₂}
@@ -32,7 +32,7 @@ unfoldable pub said-of : List Nth → List Numbered
 said-of [] = []
 said-of (nth n l ∷ ls) = on n (judge l) ∷ said-of ls
 
--- ---- a line is answered and shown as what is kept of it
+-- ---- a line is answered and shown as what is kept of it stands for
 
 module _ (options : ReaderOptions) where
   seen-kept : (n : ℕ) (l : List ℕ) (call : Call) → seen-for (nth n (stands-for (brief l))) call ≡ seen-for (nth n l) call

@@ -1,4 +1,4 @@
--- What is told of the bytes that are kept, moved, is what is told of the line that they stand for.
+-- What is told of the bytes that are kept, told in their line, is what is told of the line that they stand for.
 -- Assumes nothing.
 use Prim.Native.Nat.{ℕ, suc, _+_, _≤_, _<_}
 use mathlib.Core.Path.{_≡_, refl, sym, ap, _∙_}
@@ -21,36 +21,36 @@ use Rattle.reader.specs.declared.Answer.{Answer}
 use Rattle.reader.specs.Told.{Told, gives, refuses, told}
 use Rattle.reader.specs.Answer.{Reads, room, given, answered, poured}
 use Rattle.chunks.specs.Begun.{Kept, behind-digits, stands-for}
-use Rattle.chunks.specs.Helpers.{moved, told-moved}
+use Rattle.chunks.specs.Helpers.{refusal-in-line, told-in-line}
 use Rattle.chunks.proofs.Brief.{judge-over, digits-append, all-behind, leading-behind, full, full-stands, taken-apart}
 
--- ---- what names no byte, or an earlier one, is not moved
+-- ---- what names no byte, or an earlier one, is not refusal-in-line
 
-record-unmoved : (m : ℕ) (x : Meaning) (n at : ℕ) → told-moved m (given x n at) ≡ given x n at
+record-unmoved : (m : ℕ) (x : Meaning) (n at : ℕ) → told-in-line m (given x n at) ≡ given x n at
 unfolding given
 record-unmoved m (data-at offset bytes) n at =
-    both-ways (λ t. let told : Told = if t then gives 0 (offset ∷ at ∷ length bytes ∷ []) else refuses pool-full in told-moved m told ≡ told) (room n at bytes) refl refl
+    both-ways (λ t. let told : Told = if t then gives 0 (offset ∷ at ∷ length bytes ∷ []) else refuses pool-full in told-in-line m told ≡ told) (room n at bytes) refl refl
 record-unmoved m end-of-file n at = refl
 record-unmoved m (extended-segment number) n at = refl
 record-unmoved m (start-segment cs ip) n at = refl
 record-unmoved m (extended-linear number) n at = refl
 record-unmoved m (start-linear number) n at = refl
 
-earlier-unmoved : (m place : ℕ) → place < 521 → moved m (contains-invalid-characters (named place)) ≡ contains-invalid-characters (named place)
+earlier-unmoved : (m place : ℕ) → place < 521 → refusal-in-line m (contains-invalid-characters (named place)) ≡ contains-invalid-characters (named place)
 earlier-unmoved m place h = rw (ne-eqb (named place) 521 (omega arith))
 
 -- a line of at most 521 bytes
-short-unmoved : (m : ℕ) (line : List ℕ) (n at : ℕ) → length line ≤ 521 → told-moved m (answered (judge line) n at) ≡ answered (judge line) n at
+short-unmoved : (m : ℕ) (line : List ℕ) (n at : ℕ) → length line ≤ 521 → told-in-line m (answered (judge line) n at) ≡ answered (judge line) n at
 unfolding answered
 short-unmoved m line n at h = by-said (judge line) refl
   where
-    by-number : (number : ℕ) (values : List ℕ) → judge line ≡ wrong (refusal number values) → (t : Bool) → eqb number 2 ≡ t → moved m (refusal number values) ≡ refusal number values
+    by-number : (number : ℕ) (values : List ℕ) → judge line ≡ wrong (refusal number values) → (t : Bool) → eqb number 2 ≡ t → refusal-in-line m (refusal number values) ≡ refusal number values
     by-number number values e true t =
         let (place, f, is) = names-the-offender line (refusal number values) .0 (e, eqb-true number 2 t) in
-        ap (moved m) is ∙ earlier-unmoved m place (omega (arith, f .inside)) ∙ sym is
+        ap (refusal-in-line m) is ∙ earlier-unmoved m place (omega (arith, f .inside)) ∙ sym is
     by-number number values e false t = rw t
 
-    by-said : (said : Said) → judge line ≡ said → told-moved m (answered said n at) ≡ answered said n at
+    by-said : (said : Said) → judge line ≡ said → told-in-line m (answered said n at) ≡ answered said n at
     by-said (says kind address payload) e = record-unmoved m (meaning kind address payload) n at
     by-said (wrong (refusal number values)) e = ap refuses (by-number number values e (eqb number 2) refl)
 
@@ -64,8 +64,8 @@ short-stands k h =
 -- ---- 522 bytes
 
 -- the colon is seen in both, and whether all are digits
-moved-over : (m n at : ℕ) (c t t′ : Bool) (place place′ : ℕ) → t ≡ t′ → (t ≡ false → moved m (contains-invalid-characters place) ≡ contains-invalid-characters place′)
-    → told-moved m (answered (if c then (if t then wrong record-too-long else wrong (contains-invalid-characters place)) else wrong missing-start-code) n at)
+moved-over : (m n at : ℕ) (c t t′ : Bool) (place place′ : ℕ) → t ≡ t′ → (t ≡ false → refusal-in-line m (contains-invalid-characters place) ≡ contains-invalid-characters place′)
+    → told-in-line m (answered (if c then (if t then wrong record-too-long else wrong (contains-invalid-characters place)) else wrong missing-start-code) n at)
     ≡ answered (if c then (if t′ then wrong record-too-long else wrong (contains-invalid-characters place′)) else wrong missing-start-code) n at
 unfolding answered
 moved-over m n at true true true place place′ s e = refl
@@ -84,10 +84,10 @@ module _ (front : List ℕ) (h : length front ≡ 520) (y m : ℕ) where
   same-all : all-digits bytes-row ≡ all-digits line-row
   same-all = digits-append front (y ∷ []) ∙ ap (λ (t : Bool). all-digits front && t) (sym (all-behind m (y ∷ []))) ∙ sym (digits-append front (replicate m 48 ++ (y ∷ [])))
 
-  moved-row : all-digits bytes-row ≡ false → moved m (contains-invalid-characters (named (suc (leading bytes-row)))) ≡ contains-invalid-characters (named (suc (leading line-row)))
+  moved-row : all-digits bytes-row ≡ false → refusal-in-line m (contains-invalid-characters (named (suc (leading bytes-row)))) ≡ contains-invalid-characters (named (suc (leading line-row)))
   moved-row bad = go (all-digits front) refl
     where
-      go : (t : Bool) → all-digits front ≡ t → moved m (contains-invalid-characters (named (suc (leading bytes-row)))) ≡ contains-invalid-characters (named (suc (leading line-row)))
+      go : (t : Bool) → all-digits front ≡ t → refusal-in-line m (contains-invalid-characters (named (suc (leading bytes-row)))) ≡ contains-invalid-characters (named (suc (leading line-row)))
       go true e =
           let b : all-digits (y ∷ []) ≡ false = sym (ap (λ (t : Bool). t && all-digits (y ∷ [])) e) ∙ sym (digits-append front (y ∷ [])) ∙ bad in
           let l = leads (y ∷ []) b .inside in
@@ -99,20 +99,20 @@ module _ (front : List ℕ) (h : length front ≡ 520) (y m : ℕ) where
           rw (leading-in front (y ∷ []) e, leading-in front (replicate m 48 ++ (y ∷ [])) e) (earlier-unmoved m (suc (leading front)) (omega arith))
 
 full-moved : (x : ℕ) (front : List ℕ) (h : length front ≡ 520) (y m n at : ℕ)
-    → told-moved m (answered (judge ((x ∷ front) ++ (y ∷ []))) n at) ≡ answered (judge (stands-for (full x front h y m))) n at
+    → told-in-line m (answered (judge ((x ∷ front) ++ (y ∷ []))) n at) ≡ answered (judge (stands-for (full x front h y m))) n at
 full-moved x front h y m n at =
-    ap (λ (s : Said). told-moved m (answered s n at)) (judge-over x (bytes-row front h y m) (omega (arith, length-append front (y ∷ []))))
+    ap (λ (s : Said). told-in-line m (answered s n at)) (judge-over x (bytes-row front h y m) (omega (arith, length-append front (y ∷ []))))
     ∙ moved-over m n at (eqb x 58) (all-digits (bytes-row front h y m)) (all-digits (line-row front h y m)) _ _ (same-all front h y m) (moved-row front h y m)
     ∙ sym (ap (λ (l : List ℕ). answered (judge l) n at) (full-stands x front h y m)
     ∙ ap (λ (s : Said). answered s n at) (judge-over x (line-row front h y m) (omega (arith, length-append front (replicate m 48 ++ (y ∷ [])), length-append (replicate m 48) (y ∷ [])))))
 
-moved-told : (k : Kept) (n at : ℕ) → length (k .bytes) ≤ 522 → told-moved (k .skipped) (answered (judge (k .bytes)) n at) ≡ answered (judge (stands-for k)) n at
+moved-told : (k : Kept) (n at : ℕ) → length (k .bytes) ≤ 522 → told-in-line (k .skipped) (answered (judge (k .bytes)) n at) ≡ answered (judge (stands-for k)) n at
 moved-told k n at h =
     split (length (k .bytes)) 521
     (λ g. short-unmoved (k .skipped) (k .bytes) n at g ∙ ap (λ (l : List ℕ). answered (judge l) n at) (sym (short-stands k g)))
     (λ g.
     let f = taken-apart (k .bytes) (omega arith) in
-    ap (λ (l : List ℕ). told-moved (k .skipped) (answered (judge l) n at)) (f .whole)
+    ap (λ (l : List ℕ). told-in-line (k .skipped) (answered (judge l) n at)) (f .whole)
     ∙ full-moved (f .first) (f .front) (f .long) (f .last) (k .skipped) n at
     ∙ ap (λ (l : List ℕ). answered (judge (stands-for (record { bytes = l; skipped = k .skipped }))) n at) (sym (f .whole)))
 
@@ -142,9 +142,9 @@ same-poured k pool at h =
 
 -- so what was read of the bytes is read of their line
 pub reads-line : (k : Kept) (pool : List ℕ) (at : ℕ) (a r : Answer) (pool′ : List ℕ) → length (k .bytes) ≤ 522
-    → Reads (judge (k .bytes)) pool at a pool′ → told r ≡ told-moved (k .skipped) (told a) → Reads (judge (stands-for k)) pool at r pool′
+    → Reads (judge (k .bytes)) pool at a pool′ → told r ≡ told-in-line (k .skipped) (told a) → Reads (judge (stands-for k)) pool at r pool′
 reads-line k pool at a r pool′ h reads e =
     record {
-      answer = e ∙ ap (told-moved (k .skipped)) (reads .answer) ∙ moved-told k (length pool) at h;
+      answer = e ∙ ap (told-in-line (k .skipped)) (reads .answer) ∙ moved-told k (length pool) at h;
       left = reads .left ∙ same-poured k pool at h;
     }

@@ -24,7 +24,7 @@ use Rattle.chunks.specs.declared.ChunkStep.{ChunkStep}
 use Rattle.chunks.specs.Begun.{Begun, nothing, is-empty, brief, stands-for, counted, Sought, ended, unended, seek}
 use Rattle.chunks.specs.Next.{word-of, is-record, number-behind, kept-in, begun, place, at-place, in-carry, of-sought, Meets}
 use Rattle.chunks.specs.Helpers.{held, Grown, Passed, seek-at, WholeLine, OpenLine, Settles, Plain}
-use Rattle.chunks.proofs.Brief.{judge-brief, brief-short, all-kept}
+use Rattle.chunks.proofs.Brief.{judge-brief, brief-short, stands-itself}
 use Rattle.chunks.proofs.InPlace.{settled, at-LF}
 use Rattle.chunks.proofs.Outcomes.{met, record-short, full-kept, record-kept}
 
@@ -92,7 +92,7 @@ fresh-open s chunk position empties from empties′ carry pool at position′ n 
 pub as-it-is : (l : List ℕ) (n at : ℕ) → is-record (answered (judge (stands-for (brief l))) n at) ≡ true → stands-for (brief l) ≡ l
 as-it-is l n at rec =
     let short : length l < 522 = record-short l n at (rw (judge-brief l) at rec) in
-    ap stands-for (brief-short l (omega arith)) ∙ all-kept l
+    ap stands-for (brief-short l (omega arith)) ∙ stands-itself l
 
 -- the place of a record's line
 placed : (chunk : List ℕ) (from len n at : ℕ) → from + len ≤ length chunk

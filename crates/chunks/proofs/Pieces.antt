@@ -92,7 +92,7 @@ unfoldable pub briefs : List Nth → List Nth
 briefs [] = []
 briefs (nth n l ∷ ls) = nth n (stands-for (brief l)) ∷ briefs ls
 
--- the lines that have a byte, as they are kept, with m lines ahead
+-- the lines that have a byte, each as what is kept of it stands for, with m lines ahead
 abbrev all-kept : (m : ℕ) → List ℕ → List Nth
 all-kept m text = briefs (numbered (suc m) (lines text))
 

@@ -32,8 +32,8 @@ is-empty [] = true
 is-empty (c ∷ line) = false
 
 -- One byte more of a line. At most 522 are kept, one more than the longest good line has: of a longer line the first 521, and then
--- its first byte behind them that is no digit, or its last one where all are digits. Those that it takes the place of are counted,
--- up to 65,535.
+-- its first byte behind them that is no digit, or its last one where all are digits. The digits that it replaces are counted, up to
+-- 65,535.
 unfoldable pub push : Kept → ℕ → Kept
 push k c =
     if ltb (length (k .bytes)) 522 then record { bytes = k .bytes ++ (c ∷ []); skipped = k .skipped } else

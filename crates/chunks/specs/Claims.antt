@@ -1,4 +1,4 @@
--- What is claimed of the chunk reader beyond its contracts, and proved in `proofs/Claims.antt` and `proofs/Calls.antt`.
+-- What is claimed of the chunk reader beyond its contracts, and proved in `proofs/Claims.antt`, `proofs/Brief.antt` and `proofs/Calls.antt`.
 -- Assumes nothing.
 use Prim.Native.Nat.{ℕ, _+_, _-_, _^_, _≤_, _<_}
 use Prim.Native.String.{String}
@@ -27,28 +27,28 @@ use Rattle.chunks.specs.Next.{tells, word-of, is-record, new-chunks, at-
 use Rattle.chunks.specs.Rows.{joined, Seen, Fed, numbered, showing}
 
 -- a line that is kept as it is
-abbrev pub whole : String → Kept
-whole s = record { bytes = text s; skipped = 0 }
+abbrev pub kept-whole : String → Kept
+kept-whole s = record { bytes = text s; skipped = 0 }
 
 -- Some cuts. An end record is cut from its LF behind its CR, which waits; the LF comes, and the record has ended; a CR that waited is a byte
 -- of its line where another byte comes; and empty lines are passed and counted; the line behind them begins in this chunk.
 pub record Examples : Type 0 where
-  pub waits : look 0 nothing (text ":00000001FF" ++ (CR ∷ [])) ≡ unended 0 (record { kept = whole ":00000001FF"; cr = true })
-  pub ends : look 0 (record { kept = whole ":00000001FF"; cr = true }) (LF ∷ text ":02") ≡ ended none 0 (whole ":00000001FF") (text ":02")
-  pub belongs : look 0 (record { kept = whole ":"; cr = true }) (text "0" ++ (LF ∷ [])) ≡ ended none 0 (record { bytes = 58 ∷ CR ∷ 48 ∷ []; skipped = 0 }) []
-  pub passes : look 0 nothing (LF ∷ CR ∷ LF ∷ (text ":0" ++ (LF ∷ []))) ≡ ended (some (text ":0" ++ (LF ∷ []))) 2 (whole ":0") []
+  pub waits : look 0 nothing (text ":00000001FF" ++ (CR ∷ [])) ≡ unended 0 (record { kept = kept-whole ":00000001FF"; cr = true })
+  pub ends : look 0 (record { kept = kept-whole ":00000001FF"; cr = true }) (LF ∷ text ":02") ≡ ended none 0 (kept-whole ":00000001FF") (text ":02")
+  pub belongs : look 0 (record { kept = kept-whole ":"; cr = true }) (text "0" ++ (LF ∷ [])) ≡ ended none 0 (record { bytes = 58 ∷ CR ∷ 48 ∷ []; skipped = 0 }) []
+  pub passes : look 0 nothing (LF ∷ CR ∷ LF ∷ (text ":0" ++ (LF ∷ []))) ≡ ended (some (text ":0" ++ (LF ∷ []))) 2 (kept-whole ":0") []
 
 -- what is kept of a line is judged as the line is
 abbrev pub Judged-as-kept : Type 0
 Judged-as-kept = (line : List ℕ) → judge (stands-for (brief line)) ≡ judge line
 
--- of a line over 522 bytes whose bytes from the 522nd on are digits, but perhaps the last, all those are left out but the last
+-- behind 521 bytes, of up to 65,535 digits and one byte more, the digits are left out and counted
 abbrev pub Left-out-counted : Type 0
 Left-out-counted =
     (front digits : List ℕ) (c : ℕ) → length front ≡ 521 → all-digits digits ≡ true → length digits ≤ 65535
     → brief (front ++ (digits ++ (c ∷ []))) ≡ record { bytes = front ++ (c ∷ []); skipped = length digits }
 
--- and what stands behind a byte that is none changes nothing
+-- and what stands behind a byte that is no digit changes nothing
 abbrev pub Nothing-behind-counted : Type 0
 Nothing-behind-counted =
     (front digits more : List ℕ) (c : ℕ) → length front ≡ 521 → all-digits digits ≡ true → is-digit c ≡ false

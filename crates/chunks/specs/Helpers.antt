@@ -67,17 +67,17 @@ CutAt chunk position empties (Whole from len next empties′) = WholeLine chunk 
 CutAt chunk position empties (Open from empties′) = OpenLine chunk position empties from empties′
 
 -- the place in its line of a byte at a place of those that are kept: the last of 522 has so many more ahead of it there
-abbrev pub in-line : (skipped place : ℕ) → ℕ
-in-line n place = if eqb place 521 then named (521 + n) else place
+abbrev pub place-in-line : (skipped place : ℕ) → ℕ
+place-in-line n place = if eqb place 521 then named (521 + n) else place
 
 -- a refusal of the bytes that are kept as one of their line
-abbrev pub moved : (skipped : ℕ) → Refusal → Refusal
-moved n (refusal number values) = if eqb number 2 then contains-invalid-characters (in-line n (getD values 0 0)) else refusal number values
+abbrev pub refusal-in-line : (skipped : ℕ) → Refusal → Refusal
+refusal-in-line n (refusal number values) = if eqb number 2 then contains-invalid-characters (place-in-line n (getD values 0 0)) else refusal number values
 
-abbrev pub told-moved : (skipped : ℕ) → Told → Told
-told-moved n (gives kind numbers) = gives kind numbers
-told-moved n (refuses r) = refuses (moved n r)
-told-moved n done = done
+abbrev pub told-in-line : (skipped : ℕ) → Told → Told
+told-in-line n (gives kind numbers) = gives kind numbers
+told-in-line n (refuses r) = refuses (refusal-in-line n r)
+told-in-line n done = done
 
 -- an answer to a line, with the state that it leaves
 pub record Settles (s : Chunks) (t : Told) (position line : ℕ) (last : Bool) (lies : Place) (r : ChunkStep) : Type 0 where

@@ -17,7 +17,7 @@ ghost use Rattle.reader.specs.Answer.{Reads};
 ghost use Rattle.reader.specs.Text.{default-options};
 ghost use Rattle.chunks.specs.Begun.{seek, stands-for, push as pushed, with-CR, add as added};
 ghost use Rattle.chunks.specs.Next.{kept-in, left-out, begun, holding, past-line, over, number-behind, of-sought, Meets, NextChunk, Finish, NewChunks, PartOf, Shown};
-ghost use Rattle.chunks.specs.Helpers.{held, Grown, Passed, ends-in-CR, seek-at, CutAt, in-line, moved, told-moved, Settles, Plain, Within};
+ghost use Rattle.chunks.specs.Helpers.{held, Grown, Passed, ends-in-CR, seek-at, CutAt, place-in-line, refusal-in-line, told-in-line, Settles, Plain, Within};
 
 // Where a reader of chunks stands.
 pub struct Chunks {
@@ -26,8 +26,8 @@ pub struct Chunks {
     // The number of the line that was answered last, and how many empty lines were passed behind it.
     pub line: usize,
     pub empties: usize,
-    // The line that is begun: so many bytes of the carry, and a CR behind them where `cr` is set. Of a line over 522 bytes so many
-    // digits, 65,535 for any number beyond that, were left out ahead of the last one that the carry holds.
+    // The line that is begun: `used` bytes of the carry, and a CR behind them where `cr` is set. Of a line over 522 bytes `skipped`
+    // digits, 65,535 for any number beyond that, were left out ahead of the last of those bytes.
     pub used: usize,
     pub skipped: u16,
     pub cr: bool,
@@ -144,7 +144,7 @@ fn is_digit(c: u8) -> bool
     c <= 102
 }
 
-// One more, up to the greatest.
+// One more, but 65,535 at most.
 fn one_more(n: u16) -> u16
     ensures { λ r. ⌜ r ≡ named (suc n) ⌝ }
 {
@@ -155,7 +155,7 @@ fn one_more(n: u16) -> u16
 }
 
 // One byte more of the line in the carry. Behind 521 only one is kept: the first that is no digit, or the last. The digits that it
-// takes the place of are counted.
+// replaces are counted.
 fn push(carry: &mut [u8], used: usize, skipped: u16, c: u8) -> Taken
     requires { ⌜ (used ≤ 522) × (522 ≤ length (now carry)) ⌝ }
     ensures { λ r. ⌜ Grown (now (carry .entry)) used (pushed (kept-in (now (carry .entry)) used skipped) c) (r .used) (r .skipped) (now (carry .exit)) ⌝ }
@@ -403,8 +403,8 @@ fn plain(reply: ChunkReply, state: Chunks) -> ChunkStep
 }
 
 // The place in a line of a byte at a place of the carry, with so many left out ahead of the last of 522.
-fn place_from(place: u16, skipped: u16) -> u16
-    ensures { λ r. ⌜ r ≡ in-line skipped place ⌝ }
+fn place_in_line(place: u16, skipped: u16) -> u16
+    ensures { λ r. ⌜ r ≡ place-in-line skipped place ⌝ }
 {
     if place != 521 {
         return place;
@@ -416,12 +416,12 @@ fn place_from(place: u16, skipped: u16) -> u16
 }
 
 // A refusal of what a carry holds, as one of its line: one that names the carry's last byte names its place there.
-fn further(e: ReaderError, skipped: u16) -> ReaderError
-    ensures { λ r. ⌜ refusal-of r ≡ moved skipped (refusal-of e) ⌝ }
+fn refusal_in_line(e: ReaderError, skipped: u16) -> ReaderError
+    ensures { λ r. ⌜ refusal-of r ≡ refusal-in-line skipped (refusal-of e) ⌝ }
 {
     match e {
         ReaderError::ContainsInvalidCharacters(place) => {
-            ReaderError::ContainsInvalidCharacters(place_from(place, skipped))
+            ReaderError::ContainsInvalidCharacters(place_in_line(place, skipped))
         }
         ReaderError::MissingStartCode => e,
         ReaderError::RecordTooShort => e,
@@ -436,11 +436,11 @@ fn further(e: ReaderError, skipped: u16) -> ReaderError
 }
 
 // The answer to what a carry holds, as the answer to its line.
-fn in_line(answer: Answer, skipped: u16) -> Answer
-    ensures { λ r. ⌜ told r ≡ told-moved skipped (told answer) ⌝ }
+fn answer_in_line(answer: Answer, skipped: u16) -> Answer
+    ensures { λ r. ⌜ told r ≡ told-in-line skipped (told answer) ⌝ }
 {
     if let Answer::Refused(e) = answer {
-        return Answer::Refused(further(e, skipped));
+        return Answer::Refused(refusal_in_line(e, skipped));
     }
     answer
 }
@@ -450,7 +450,7 @@ fn read_kept(bytes: &[u8], skipped: u16, pool: &mut [u8], at: usize) -> Answer
     requires { ⌜ length (now bytes) ≤ 522 ⌝ }
     ensures { λ r. ⌜ Reads (judge (stands-for (record { bytes = now (bytes .entry); skipped = skipped }))) (now (pool .entry)) at r (now (pool .exit)) ⌝ }
 {
-    in_line(reader::read_record(bytes, pool, at), skipped)
+    answer_in_line(reader::read_record(bytes, pool, at), skipped)
 }
 
 // The reply to a line that was answered, and the state behind it; PoolFull does not use the line up.

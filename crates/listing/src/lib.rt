@@ -172,7 +172,7 @@ fn put_value(v: u8, out: &mut [u8], at: usize) -> usize
     put_byte(v, out, digits)
 }
 
-// A space and a place of a line, in two bytes.
+// A space and a place of a line, in four digits.
 fn put_place(place: u16, out: &mut [u8], at: usize) -> usize
     requires { ⌜ at + 5 ≤ length (now out) ⌝ }
     ensures { λ r. ⌜ Puts (now (out .entry)) at (spaced (two-bytes place)) r (now (out .exit)) ⌝ }
@@ -181,7 +181,7 @@ fn put_place(place: u16, out: &mut [u8], at: usize) -> usize
     put_word(place, out, digits)
 }
 
-// The numbers of a refusal that has any.
+// The values of a refusal that has any.
 fn put_values(e: ReaderError, out: &mut [u8], at: usize) -> usize
     requires { ⌜ at + length (values-shown (refusal-of e)) ≤ length (now out) ⌝ }
     ensures { λ r. ⌜ Puts (now (out .entry)) at (values-shown (refusal-of e)) r (now (out .exit)) ⌝ }
@@ -203,7 +203,7 @@ fn put_values(e: ReaderError, out: &mut [u8], at: usize) -> usize
     }
 }
 
-// A refusal: its number, then its numbers.
+// A refusal: its number, then its values.
 fn put_refusal(e: ReaderError, out: &mut [u8], at: usize) -> usize
     requires { ⌜ at + length (refusal-entry (refusal-of e)) ≤ length (now out) ⌝ }
     ensures { λ r. ⌜ Puts (now (out .entry)) at (refusal-entry (refusal-of e)) r (now (out .exit)) ⌝ }

@@ -32,7 +32,7 @@ use Rattle.loader.specs.declared.Loading.{Loading}
 use Rattle.loader.specs.declared.Loading.the-variants.{Accepted, Refused}
 use Rattle.loader.specs.Load.{no-records, Verdict, accepted, refused, Decision, by, within, decision, verdict, unfit, placements, steps-of, stopping, load}
 use Rattle.loader.specs.Told.{refusal-by, told}
-use Rattle.loader.specs.Claims.{Window, in-force, data-records, Stops, the-end, no-record, first-outside, Decided, Why, bad-one, no-end, at-line, Reasons, Names-the-offender, Among, Total, Told-apart, Load-unique, Examples}
+use Rattle.loader.specs.Claims.{Window, in-force, data-records, Stops, the-end, no-record, first-outside, Decided, Why, bad-one, no-end, at-line, Reasons, Load-names-the-offender, Among, Total, Told-apart, Load-unique, Examples}
 use Rattle.loader.proofs.Demand3.{good-window, load-answer}
 use Rattle.loader.proofs.Reasons.{Walked, walked}
 
@@ -107,7 +107,7 @@ named-by {text} {inside} {n} {m} {v} {r} d = go (d .stops) refl
         (place, record { line = d .line; before = d .ahead; after = d .later; stands = d .whole; number = sym at-m ∙ same ∙ d .number; first = f }, said)
     go (first-outside before after p e i o) k q two = let is : outside-window (p .address) ≡ r = cc in absurd (omega (arith, ap number-of is))
 
-pub load-names-the-offender : Names-the-offender
+pub load-names-the-offender : Load-names-the-offender
 load-names-the-offender text first page marks r n e two = go (reasons text first page marks) e
   where
     go : {v : Verdict} → Why text first page marks v → v ≡ refused r n → (place : ℕ) × Offends text n place × (r ≡ contains-invalid-characters (named place))

@@ -194,8 +194,8 @@ abbrev pub One-reason : Type 0
 One-reason = (text : List ℕ) (first : ℕ) (page marks : List ℕ) (v v′ : Verdict) → Why text first page marks v → Why text first page marks v′ → v ≡ v′
 
 -- a load that is refused with 2 gives the number of a line that has an offender, and names the first one's place there
-abbrev pub Names-the-offender : Type 0
-Names-the-offender =
+abbrev pub Load-names-the-offender : Type 0
+Load-names-the-offender =
     (text : List ℕ) (first : ℕ) (page marks : List ℕ) (r : Refusal) (n : ℕ) → (load text first page marks) .answer ≡ refused r n → number-of r ≡ 2
     → (place : ℕ) × Offends text n place × (r ≡ contains-invalid-characters (named place))
 

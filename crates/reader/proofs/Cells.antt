@@ -51,10 +51,11 @@ cells-more : (l : List ℕ) (p : ℕ) → p + 1 < length l
 unfolding cells
 cells-more l p h = ap cells (drop-two l p h)
 
--- where the loop is: this stands before the digits of byte i
+-- the place of the first digit of byte i
 abbrev pub place : ℕ → ℕ
 place i = 1 + 2 * i
 
+-- where the loop is, at byte i
 pub record Turn (line : List ℕ) (n : ℕ) (buf : List ℕ) (seen total i : ℕ) : Type 0 where
   pub inside : i ≤ n
   pub room : 260 ≤ length buf

@@ -28,8 +28,8 @@ module _ (l : List ℕ) (i : ℕ) where
   lead-end h = rw (drop-of-length-le l {i = i} h) (omega arith)
 
 -- a search that ends inside the line has found one, and one that ends behind it none
-pub found-none : (l : List ℕ) → suc (leading (drop 1 l)) < length l → all-digits (drop 1 l) ≡ false
-found-none l h = go (all-digits (drop 1 l)) refl
+pub found-other : (l : List ℕ) → suc (leading (drop 1 l)) < length l → all-digits (drop 1 l) ≡ false
+found-other l h = go (all-digits (drop 1 l)) refl
   where
     go : (t : Bool) → all-digits (drop 1 l) ≡ t → all-digits (drop 1 l) ≡ false
     go true e = absurd (omega (arith, leading-all (drop 1 l) e, length-drop 1 l))

@@ -1,4 +1,4 @@
--- What is claimed of the readers beyond their contracts, and proved in `proofs/Claims.antt`, `proofs/Texts.antt` and `proofs/Stays.antt`.
+-- What is claimed of the readers beyond their contracts, and proved in `proofs/Claims.antt`, `proofs/Texts.antt`, `proofs/Naming.antt` and `proofs/Stays.antt`.
 -- Assumes nothing.
 use Prim.Native.Nat.{ℕ, suc, _+_, _^_, _≤_, _<_}
 use Prim.Native.String.{String}

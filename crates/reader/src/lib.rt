@@ -25,7 +25,7 @@ pub enum ReaderError {
     RecordTooShort,
     RecordTooLong,
     RecordNotEvenLength,
-    // The place of the first byte that is no digit, the colon's being 0; 65,535 for any place beyond that.
+    // The place of the first byte behind the colon that is no digit, the colon's being 0; 65,535 for any place beyond that.
     ContainsInvalidCharacters(u16),
     // The computed checksum, and the stated one.
     ChecksumMismatch(u8, u8),

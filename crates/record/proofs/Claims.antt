@@ -8,7 +8,7 @@ use Rattle.record.specs.Refusals.{Refusal, number-of, contains-invalid-c
 use Rattle.record.specs.Line.{wrong, named}
 use Rattle.record.specs.Faults.{First-offender, Fault, no-colon, no-digit, short, long, odd, sum-differs, length-differs, type-unknown, size-differs}
 use Rattle.record.specs.Claims.{Admits, Refuses, Named-as, One-offender, Names-the-offender, Record-type-unique}
-use Rattle.record.proofs.Offender.{one-offender}
+use Rattle.record.proofs.Offender.{same-place}
 use Rattle.record.proofs.Standing.{Stands, stands, admitted, refused}
 
 pub admits : Admits
@@ -23,10 +23,10 @@ record-type-unique x r r′ a b = a .answer ∙ sym (b .answer)
 pub named-as : Named-as
 named-as place = (λ h. omega arith, λ h. omega arith)
 
-pub offender-is-one : One-offender
-offender-is-one line p q f g = one-offender line p q f g
+pub one-offender : One-offender
+one-offender line p q f g = same-place line p q f g
 
--- of the faults only the offender has the number 2
+-- of the faults only `no-digit` has the number 2
 named-by : {line : List ℕ} {r : Refusal} → Fault line r → number-of r ≡ 2 → (place : ℕ) × First-offender line place × (r ≡ contains-invalid-characters (named place))
 named-by (no-colon h) e = absurd (omega arith)
 named-by (no-digit place f) e = (place, f, refl)

@@ -50,8 +50,8 @@ first-offender ds e =
     least l (suc i) h k n =
         split (suc (leading ds)) (suc i) (λ g. g) (λ g. absurd (n (is-hex (getD ds i 0) (l .earlier i (omega arith)))))
 
-pub one-offender : (line : List ℕ) (p q : ℕ) → First-offender line p → First-offender line q → p ≡ q
-one-offender line p q f g = omega (arith, f .least q (g .behind) (g .inside) (g .offends), g .least p (f .behind) (f .inside) (f .offends))
+pub same-place : (line : List ℕ) (p q : ℕ) → First-offender line p → First-offender line q → p ≡ q
+same-place line p q f g = omega (arith, f .least q (g .behind) (g .inside) (g .offends), g .least p (f .behind) (f .inside) (f .offends))
 
 -- a line with an offender: what stands behind its colon
 pub record Offended (line : List ℕ) (place : ℕ) : Type 0 where
@@ -70,7 +70,7 @@ offended (c ∷ ds) (suc i) f =
       digits = ds;
       starts = starts;
       bad = bad;
-      counts = one-offender (58 ∷ ds) (suc i) (suc (leading ds)) (subst (λ (l : List ℕ). First-offender l (suc i)) starts f) (first-offender ds bad);
+      counts = same-place (58 ∷ ds) (suc i) (suc (leading ds)) (subst (λ (l : List ℕ). First-offender l (suc i)) starts f) (first-offender ds bad);
     }
 
 -- ---- what leads two rows of characters, one behind the other

@@ -2,7 +2,8 @@
 //!
 //! The names and shapes are those of the crate ihex 3.0.0: a program that uses it changes one line
 //! of its `Cargo.toml`. One name has another shape: [`ReaderError::ContainsInvalidCharacters`] carries
-//! a place, and the pattern `ContainsInvalidCharacters { .. }` takes both.
+//! a place, and the pattern `ContainsInvalidCharacters { .. }` builds with the
+//! crate and with this.
 //!
 //! Beside them stand, and the crate has none of it: reading bytes that are no UTF-8 ([`ByteReader`],
 //! [`Record::from_record_bytes`]), line numbers and columns ([`Reader::numbered`],

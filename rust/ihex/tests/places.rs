@@ -182,9 +182,9 @@ fn a_cr_that_ends_no_line_is_named() {
 }
 
 #[test]
-fn the_order_of_refusals_stays() {
+fn the_order_of_refusals() {
     let refused = |line: &str| read(line).unwrap_err();
-    // No colon goes before all.
+    // A missing colon goes before all else.
     for line in ["", "G", "0G", " :G", "\u{E9}:G"] {
         assert_eq!(refused(line), ReaderError::MissingStartCode, "{line:?}");
     }

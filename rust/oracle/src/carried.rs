@@ -66,8 +66,8 @@ pub struct Outcome {
 fn kept(line: &[u8]) -> (Vec<u8>, usize) {
     let (front, behind) = line.split_at(line.len().min(CARRY - 1));
     let last = behind.len().saturating_sub(1);
-    let odd = behind.iter().position(|byte| !byte.is_ascii_hexdigit());
-    let left = odd.unwrap_or(last);
+    let offender = behind.iter().position(|byte| !byte.is_ascii_hexdigit());
+    let left = offender.unwrap_or(last);
     let one = behind.get(left..=left).unwrap_or(&[]);
     ([front, one].concat(), left)
 }

@@ -112,7 +112,7 @@ fn used(chance: &mut Chance) -> usize {
     }
 }
 
-/// How many digits were left out of a carry, by hand: often about as many as make a last place.
+/// How many digits were left out of a carry, by hand: often about as many as bring a place to 65,535.
 fn skipped(chance: &mut Chance) -> u16 {
     match chance.under(4) {
         0 => 0,

@@ -209,7 +209,7 @@ pub fn model(case: &LoadCase, page: &mut [u8], marks: &mut [u8]) -> Answer {
 }
 
 /// Notes the code of a load for each of the three wraps that it rests on: with that one left out, the
-/// text states something else. No other codes are called for there.
+/// text states something else. Only accepted loads and 17 are noted.
 fn note_wraps(case: &LoadCase, code: u32) {
     if code != 0 && code != REFUSED + 17 {
         return;

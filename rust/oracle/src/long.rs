@@ -1,4 +1,4 @@
-//! Long lines: of digits, with one byte that is none, in a text, and in chunks.
+//! Long lines: of digits, with one byte that may be none, in a text, and in chunks.
 
 use ihex_sys::CARRY;
 
@@ -17,7 +17,7 @@ pub const LENGTHS: [usize; 20] = [
     65_535, 65_536, 70_000,
 ];
 
-/// What may stand behind a long line: first what ends a line, then what ends a text.
+/// What may stand behind a long line: two that end the line, two that end the text, and others.
 const ENDS: [&str; 7] = ["\n", "\r\n", "", "\r", "\r\r\n", "\n\n", "\r\r"];
 
 /// What stands ahead of a long line.
@@ -141,7 +141,7 @@ fn places(length: usize, chance: &mut Chance) -> Vec<usize> {
     found
 }
 
-/// Lines of this length: with each line end, and with a byte that is no digit at places that tell. Then
+/// Lines of this length: with each line end, and with a byte that is mostly no digit at places that tell. Then
 /// with the first cut a byte ahead of that byte, at it, and behind it, and with none; a LF ends the line,
 /// or the text does.
 pub fn long(length: usize, chance: &mut Chance) -> Vec<LongCase> {

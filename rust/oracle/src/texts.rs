@@ -192,7 +192,7 @@ pub fn face_options(flags: u8) -> ihex::ReaderOptions {
     }
 }
 
-/// What is wrong with what people read of a refused line, if the crate answers so to it.
+/// What is wrong with the text that the face prints for this answer of the crate, if anything is.
 fn misprinted(given: Option<&LineError>, answer: &Answer, line: usize) -> Option<String> {
     let printed = given.map(LineError::to_string);
     let refusal = answer.as_ref().err();

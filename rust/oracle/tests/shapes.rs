@@ -1,6 +1,6 @@
 //! A program that uses every name of the crate ihex 3.0.0, built against the crate and against the
 //! Rust face: what one takes, the other takes. `ContainsInvalidCharacters` carries a number in the face
-//! alone, and a pattern that takes both.
+//! alone; the pattern here takes both forms.
 macro_rules! uses {
     ($name:ident, $from:ident, $at_hand:expr) => {
         mod $name {

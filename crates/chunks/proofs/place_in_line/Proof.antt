@@ -1,10 +1,10 @@
--- `chunks::place_from` meets its contract: another byte than the last, one too far to be named, or the last.
+-- `chunks::place_in_line` meets its contract: another byte than the last, one too far to be named, or the last.
 -- Assumes nothing.
 use native.Mathlib.Omega.{arith}
 use borrow.Author.Needs.{needs}
 use borrow.Author.Tests.{eq-eqb, ne-eqb}
-use Rattle.chunks.proofs.place_from.Statement.{statement}
-use Rattle.chunks.proofs.place_from.Tie as tie
+use Rattle.chunks.proofs.place_in_line.Statement.{statement}
+use Rattle.chunks.proofs.place_in_line.Tie as tie
 
 returns : tie.Need-returns
 returns c = rw (ne-eqb (c .before .args .place) 521 (c .if1 .taken))
@@ -18,5 +18,5 @@ add-result c = search needs
 returns-3 : tie.Need-returns-3
 returns-3 c = rw (eq-eqb (c .before .before .args .place) 521 (c .before .if1 .left)) (omega arith)
 
-pub place-from-spec : {M : Type 1} → statement M
-place-from-spec = tie.close (tie.spec returns returns-2 add-result returns-3)
+pub place-in-line-spec : {M : Type 1} → statement M
+place-in-line-spec = tie.close (tie.spec returns returns-2 add-result returns-3)

@@ -1,19 +1,19 @@
--- `chunks::further` meets its contract: a place is moved, and what names none is not.
+-- `chunks::refusal_in_line` meets its contract: a place is moved, and what names none stays.
 -- Assumes nothing.
 use mathlib.Core.Path.{sym, _∙_, ap}
 use borrow.Author.Needs.{needs}
 use Rattle.record.specs.Refusals.{contains-invalid-characters}
 use Rattle.reader.specs.declared.ReaderError.{ReaderError}
 use Rattle.reader.specs.Told.{refusal-of}
-use Rattle.chunks.specs.Helpers.{moved}
-use Rattle.chunks.proofs.further.Statement.{statement}
-use Rattle.chunks.proofs.further.Tie as tie
+use Rattle.chunks.specs.Helpers.{refusal-in-line}
+use Rattle.chunks.proofs.refusal_in_line.Statement.{statement}
+use Rattle.chunks.proofs.refusal_in_line.Tie as tie
 
 enum-known-e : tie.Need-enum-known-e
 enum-known-e c = search needs
 
-place-from-requires : tie.Need-place-from-requires
-place-from-requires c κs = search needs
+place-in-line-requires : tie.Need-place-in-line-requires
+place-in-line-requires c κs = search needs
 
 enum-told : tie.Need-enum-told
 enum-told c = search needs
@@ -45,7 +45,7 @@ enum-told-9 c = search needs
 returns : tie.Need-returns
 returns c =
     let a = c .before .before .before .before .args in
-    ap contains-invalid-characters (c .place-from .ensures) ∙ sym (ap (λ (e : ReaderError). moved (a .skipped) (refusal-of e)) (c .before .before .e .given .1))
+    ap contains-invalid-characters (c .place-in-line .ensures) ∙ sym (ap (λ (e : ReaderError). refusal-in-line (a .skipped) (refusal-of e)) (c .before .before .e .given .1))
 
 returns-2 : tie.Need-returns-2
 returns-2 c = search needs
@@ -74,12 +74,12 @@ returns-9 c = search needs
 returns-10 : tie.Need-returns-10
 returns-10 c = search needs
 
-pub further-spec : {M : Type 1} → statement M
-further-spec =
+pub refusal-in-line-spec : {M : Type 1} → statement M
+refusal-in-line-spec =
     tie.close
     (tie.spec
     enum-known-e
-    place-from-requires
+    place-in-line-requires
     enum-told
     enum-told-2
     enum-told-3
