@@ -3,7 +3,7 @@
 
 use ihex_sys::{CARRY, CR_WAITS, DONE, FINISHED, IN_CARRY, IN_CHUNK, NOWHERE, REFUSED, USED_UP};
 
-use crate::domain::{read, Refusal, LAST_PLACE};
+use crate::domain::{read, Answer, Refusal, LAST_PLACE};
 use crate::lines::in_pool;
 use crate::shrink::{smaller_number, with_each};
 use crate::texts::flags_behind;
@@ -159,6 +159,21 @@ fn left_out(state: Standing, from: Option<usize>) -> usize {
     }
 }
 
+/// The crate's answer to what is held of a line, with the place of an offender in the whole line.
+fn read_in_line(line: &[u8], left: usize) -> Answer {
+    let mut answer = read(line);
+    if let Err(Refusal {
+        offender: Some(place),
+        ..
+    }) = &mut answer
+    {
+        if *place >= CARRY - 1 {
+            *place += left;
+        }
+    }
+    answer
+}
+
 /// A line is answered, and behind it the next begins at this position.
 fn answered(
     state: Standing,
@@ -167,16 +182,7 @@ fn answered(
     from: Option<usize>,
     behind: Standing,
 ) -> Outcome {
-    let mut answer = read(&line);
-    if let Err(Refusal {
-        offender: Some(place),
-        ..
-    }) = &mut answer
-    {
-        if *place >= CARRY - 1 {
-            *place += left_out(state, from);
-        }
-    }
+    let answer = read_in_line(&line, left_out(state, from));
     let told = in_pool(by_crate::answer(&answer, given.at), given.pool, given.at);
     if told == pool_full() {
         return unchanged(told, state, &given.carry[..state.used]);

@@ -80,7 +80,7 @@ impl<'a> Call<'a> {
     }
 
     /// Whether a byte that is no digit stands in what is still to be read of the line.
-    fn goes_on_oddly(&self) -> bool {
+    fn has_offender_ahead(&self) -> bool {
         let line = self.rest().split(|&byte| byte == b'\n').next();
         let line = line.unwrap_or(&[]);
         let line = line.strip_suffix(b"\r").unwrap_or(line);
@@ -177,6 +177,7 @@ pub fn all() -> Vec<Wrong> {
         cut(),
         long(),
         places(),
+        counts(),
         numbers(),
         full(),
         shown(),
@@ -258,6 +259,17 @@ fn places() -> Vec<Wrong> {
             "counts the digits left out one too many",
             |code, before, call| call.rename(code, before, |place| (place + 1).min(65_535)),
         ),
+        ahead("names the last byte behind 521 that is no digit", |call| {
+            if call.state.used == CARRY && call.carry.len() >= CARRY && call.has_offender_ahead() {
+                call.carry[CARRY - 1] = b'0';
+            }
+        }),
+    ]
+}
+
+/// Those whose count of the digits left out of such a line is another.
+fn counts() -> Vec<Wrong> {
+    vec![
         behind(
             "forgets between chunks the digits left out",
             |code, _, call| {
@@ -279,11 +291,6 @@ fn places() -> Vec<Wrong> {
                 }
             },
         ),
-        ahead("names the last byte behind 521 that is no digit", |call| {
-            if call.state.used == CARRY && call.carry.len() >= CARRY && call.goes_on_oddly() {
-                call.carry[CARRY - 1] = b'0';
-            }
-        }),
         behind(
             "keeps the count of digits left out behind the line",
             |code, before, call| {
