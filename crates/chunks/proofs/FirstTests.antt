@@ -2,7 +2,7 @@
 -- Assumes nothing.
 use Prim.Native.Nat.{ℕ, zero, suc, _≤_, _<_}
 use mathlib.Core.Path.{_≡_, refl, sym, ap, _∙_}
-use mathlib.Core.Bool.{Bool, true, false}
+use mathlib.Core.Bool.{Bool, true, false, _||_}
 use mathlib.Core.Option.{none, some}
 use mathlib.Core.List.{List, [], _∷_}
 use native.Mathlib.Omega.{arith}
@@ -13,7 +13,7 @@ use borrow.Author.Tests.{lt-ltb, le-ltb, ltb-true, ltb-false}
 use Rattle.record.specs.Common.{if_then_else_}
 use Rattle.record.specs.Refusals.{carry-too-small}
 use Rattle.record.specs.Line.{judge}
-use Rattle.record.proofs.Tests.{if-true, if-false, or-true}
+use Rattle.record.proofs.Tests.{if-true, if-false, or-true, or-false}
 use Rattle.reader.specs.declared.Answer.{Answer}
 use Rattle.reader.specs.Told.{refuses, done, told}
 use Rattle.reader.specs.Answer.{Reads, answered}
@@ -26,7 +26,7 @@ use Rattle.chunks.specs.declared.ChunkReply.the-variants.{Done, CarryToo
 use Rattle.chunks.specs.declared.ChunkStep.{ChunkStep}
 use Rattle.chunks.specs.Begun.{Kept, nothing, is-empty, stands-for, with-CR, Sought, seek, look}
 use Rattle.chunks.specs.Next.{tells, word-of, is-record, kept-in, left-out, begun, over, number-behind, place, at-place, in-carry, Outcome, unchanged, answered-line, of-sought, too-small, next-outcome, finish-outcome, Meets}
-use Rattle.chunks.specs.Helpers.{held, Grown, seek-at, Settles, Plain, Within}
+use Rattle.chunks.specs.Helpers.{held, has-line, Grown, seek-at, Settles, Plain, Within}
 use Rattle.chunks.proofs.Waiting.{push-some}
 use Rattle.chunks.proofs.Outcomes.{met, full-kept, record-kept}
 
@@ -140,19 +140,33 @@ module _ (s : Chunks) (chunk carry pool : List ℕ) (at position : ℕ) (r : Chu
       ∙ ap (λ (t : List ℕ). of-sought s (take (s .used) carry) chunk pool at (look (s .empties) (begun s carry) t)) (sym (within-drop chunk (s .position) position w))
       ∙ ap (of-sought s (take (s .used) carry) chunk pool at) e) m
 
-  pub next-kept : 0 < s .used
+  next-kept : 0 < s .used
       → Meets (of-sought s (take (s .used) carry) chunk pool at (seek none (s .empties) (begun s carry) (drop position chunk))) chunk r carry′ pool′ → Meets (next-outcome s chunk carry pool at) chunk r carry′ pool′
   next-kept h m = goes (seek none (s .empties) (begun s carry) (drop position chunk)) (look-kept (s .empties) (s .used) (left-out s) (s .cr) carry (drop position chunk) h (omega arith)) m
 
-  pub next-cr : s .used ≡ 0 → s .cr ≡ true
+  next-cr : s .used ≡ 0 → s .cr ≡ true
       → Meets (of-sought s (take (s .used) carry) chunk pool at (seek none (s .empties) (begun s carry) (drop position chunk))) chunk r carry′ pool′ → Meets (next-outcome s chunk carry pool at) chunk r carry′ pool′
   next-cr z e m = goes (seek none (s .empties) (begun s carry) (drop position chunk)) (look-cr (s .empties) (s .used) (left-out s) (s .cr) carry (drop position chunk) z e) m
 
-  pub next-fresh : s .used ≡ 0 → s .cr ≡ false
+  next-none : s .used ≡ 0 → s .cr ≡ false
       → Meets (of-sought s [] chunk pool at (seek-at chunk position (s .empties))) chunk r carry′ pool′ → Meets (next-outcome s chunk carry pool at) chunk r carry′ pool′
-  next-fresh z e m =
+  next-none z e m =
       goes (seek-at chunk position (s .empties)) (look-fresh (s .empties) (s .used) (left-out s) (s .cr) carry (drop position chunk) z (none-out s z) e)
       (rw (ap (λ (n : ℕ). take n carry) z) m)
+
+  pub next-begun : has-line s ≡ true
+      → Meets (of-sought s (take (s .used) carry) chunk pool at (seek none (s .empties) (begun s carry) (drop position chunk))) chunk r carry′ pool′ → Meets (next-outcome s chunk carry pool at) chunk r carry′ pool′
+  next-begun e m = go (ltb 0 (s .used)) refl e
+    where
+      go : (t : Bool) → ltb 0 (s .used) ≡ t → (t || s .cr) ≡ true → Meets (next-outcome s chunk carry pool at) chunk r carry′ pool′
+      go true u e = next-kept (ltb-true 0 (s .used) u) m
+      go false u e = next-cr (omega (arith, ltb-false 0 (s .used) u)) e m
+
+  pub next-fresh : has-line s ≡ false
+      → Meets (of-sought s [] chunk pool at (seek-at chunk position (s .empties))) chunk r carry′ pool′ → Meets (next-outcome s chunk carry pool at) chunk r carry′ pool′
+  next-fresh e m =
+      let (u, w) = or-false (ltb 0 (s .used)) (s .cr) e in
+      next-none (omega (arith, ltb-false 0 (s .used) u)) w m
 
 -- ---- finish
 

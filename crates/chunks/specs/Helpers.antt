@@ -6,7 +6,7 @@ use mathlib.Core.Logic.{_≢_}
 use mathlib.Core.Bool.{Bool, _||_}
 use mathlib.Core.Option.{Option, some}
 use mathlib.Core.List.{List}
-use lib.Dec.{eqb}
+use lib.Dec.{eqb, ltb}
 use lib.ListN.{length, take, drop, getD}
 use Rattle.record.specs.Common.{if_then_else_}
 use Rattle.record.specs.Refusals.{Refusal, refusal, contains-invalid-characters}
@@ -27,6 +27,10 @@ use Rattle.chunks.specs.Next.{tells, word-of, is-record, kept-in, past-l
 -- what a carry keeps, and a CR that waits
 abbrev pub held : (carry : List ℕ) (used skipped : ℕ) (cr : Bool) → Begun
 held carry used skipped cr = record { kept = kept-in carry used skipped; cr = cr }
+
+-- is a line begun: bytes of it, or a CR that waits?
+abbrev pub has-line : Chunks → Bool
+has-line s = ltb 0 (s .used) || s .cr
 
 -- the carry keeps this now; what it held before is its front, unless it is full
 pub record Grown (carry : List ℕ) (used : ℕ) (kept : Kept) (used′ skipped′ : ℕ) (carry′ : List ℕ) : Type 0 where

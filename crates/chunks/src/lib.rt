@@ -17,7 +17,7 @@ ghost use Rattle.reader.specs.Answer.{Reads};
 ghost use Rattle.reader.specs.Text.{default-options};
 ghost use Rattle.chunks.specs.Begun.{seek, stands-for, push as pushed, with-CR, add as added};
 ghost use Rattle.chunks.specs.Next.{kept-in, left-out, begun, holding, past-line, over, number-behind, of-sought, Meets, NextChunk, Finish, NewChunks, PartOf, Shown};
-ghost use Rattle.chunks.specs.Helpers.{held, Grown, Passed, ends-in-CR, seek-at, CutAt, place-in-line, refusal-in-line, told-in-line, Settles, Plain, Within};
+ghost use Rattle.chunks.specs.Helpers.{held, has-line, Grown, Passed, ends-in-CR, seek-at, CutAt, place-in-line, refusal-in-line, told-in-line, Settles, Plain, Within};
 
 // Where a reader of chunks stands.
 pub struct Chunks {
@@ -587,6 +587,16 @@ fn older(
     )
 }
 
+// Whether a line is begun: bytes of it, or a CR that waits.
+fn has_line(s: Chunks) -> bool
+    ensures { λ r. ⌜ r ≡ has-line s ⌝ }
+{
+    if s.used > 0 {
+        return true;
+    }
+    s.cr
+}
+
 // A place of n bytes, or behind the last.
 fn within(place: usize, n: usize) -> usize
     ensures { λ r. ⌜ Within place n r ⌝ }
@@ -652,10 +662,7 @@ impl Chunks {
             return plain(ChunkReply::Done, self);
         }
         let position = within(self.position, chunk.len());
-        if self.used > 0 {
-            return older(self, chunk, position, carry, pool, at);
-        }
-        if self.cr {
+        if has_line(self) {
             return older(self, chunk, position, carry, pool, at);
         }
         fresh(self, chunk, position, self.empties, carry, pool, at)

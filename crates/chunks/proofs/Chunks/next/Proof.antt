@@ -1,9 +1,9 @@
 -- `chunks::Chunks::next` meets its contract: 18, "done", a line that is begun, or the first line from the position on.
 -- Assumes nothing.
-use native.Mathlib.Omega.{arith}
+use mathlib.Core.Path.{sym, _∙_}
 use borrow.Author.Needs.{needs}
 use denote.Ref.{now}
-use Rattle.chunks.proofs.FirstTests.{small-carry, much-used, big-enough, next-small, next-done, next-kept, next-cr, next-fresh}
+use Rattle.chunks.proofs.FirstTests.{small-carry, much-used, big-enough, next-small, next-done, next-begun, next-fresh}
 use Rattle.chunks.proofs.Chunks.next.Statement.{statement}
 use Rattle.chunks.proofs.Chunks.next.Tie as tie
 
@@ -34,6 +34,9 @@ returns-3 c =
 within-requires : tie.Need-within-requires
 within-requires c κs = search needs
 
+has-line-requires : tie.Need-has-line-requires
+has-line-requires c κs = search needs
+
 older-requires : tie.Need-older-requires
 older-requires c κs = search needs
 
@@ -47,11 +50,12 @@ returns-4 : tie.Need-returns-4
 returns-4 c =
     let a = c .before .before .before .before .before .before .before .before .before .before .before .before .before .before .before .before .before .args in
     let o = c .before .before .before .before .older in
+    let l = c .before .before .before .before .before .before .before .before .has-line in
     let w = c .before .before .before .before .before .before .before .before .before .within in
-    next-kept (a .self) (now (a .chunk)) (now (a .carry)) (now (a .pool)) (a .at) (w .result) (o .result) (o .last .1 .1 .1 .0) (o .last .1 .1 .1 .1 .0) (c .before .before .before .before .before .before .before .before .before .before .before .before .before .if1 .left) (c .before .before .before .before .before .before .before .before .before .before .before .if2 .left) (c .before .before .before .before .before .before .before .before .before .before .if3 .left) (w .ensures) (c .before .before .before .before .before .before .before .if4 .taken) (o .ensures)
+    next-begun (a .self) (now (a .chunk)) (now (a .carry)) (now (a .pool)) (a .at) (w .result) (o .result) (o .last .1 .1 .1 .0) (o .last .1 .1 .1 .1 .0) (c .before .before .before .before .before .before .before .before .before .before .before .before .before .if1 .left) (c .before .before .before .before .before .before .before .before .before .before .before .if2 .left) (c .before .before .before .before .before .before .before .before .before .before .if3 .left) (w .ensures) (sym (l .ensures) ∙ c .before .before .before .before .before .before .before .if4 .taken) (o .ensures)
 
-older-requires-2 : tie.Need-older-requires-2
-older-requires-2 c κs = search needs
+fresh-requires : tie.Need-fresh-requires
+fresh-requires c κs = search needs
 
 same-length-3 : tie.Need-same-length-3
 same-length-3 c = search needs
@@ -61,26 +65,11 @@ same-length-4 c = search needs
 
 returns-5 : tie.Need-returns-5
 returns-5 c =
-    let a = c .before .before .before .before .before .before .before .before .before .before .before .before .before .before .before .before .before .before .args in
-    let o = c .before .before .before .before .older2 in
-    let w = c .before .before .before .before .before .before .before .before .before .before .within in
-    next-cr (a .self) (now (a .chunk)) (now (a .carry)) (now (a .pool)) (a .at) (w .result) (o .result) (o .last .1 .1 .1 .0) (o .last .1 .1 .1 .1 .0) (c .before .before .before .before .before .before .before .before .before .before .before .before .before .before .if1 .left) (c .before .before .before .before .before .before .before .before .before .before .before .before .if2 .left) (c .before .before .before .before .before .before .before .before .before .before .before .if3 .left) (w .ensures) (omega (arith, c .before .before .before .before .before .before .before .before .if4 .left)) (c .before .before .before .before .before .before .before .if5 .taken) (o .ensures)
-
-fresh-requires : tie.Need-fresh-requires
-fresh-requires c κs = search needs
-
-same-length-5 : tie.Need-same-length-5
-same-length-5 c = search needs
-
-same-length-6 : tie.Need-same-length-6
-same-length-6 c = search needs
-
-returns-6 : tie.Need-returns-6
-returns-6 c =
-    let a = c .before .before .before .before .before .before .before .before .before .before .before .before .before .before .before .before .before .before .args in
-    let o = c .before .before .before .before .fresh in
-    let w = c .before .before .before .before .before .before .before .before .before .before .within in
-    next-fresh (a .self) (now (a .chunk)) (now (a .carry)) (now (a .pool)) (a .at) (w .result) (o .result) (o .last .1 .1 .1 .1 .0) (o .last .1 .1 .1 .1 .1 .0) (c .before .before .before .before .before .before .before .before .before .before .before .before .before .before .if1 .left) (c .before .before .before .before .before .before .before .before .before .before .before .before .if2 .left) (c .before .before .before .before .before .before .before .before .before .before .before .if3 .left) (w .ensures) (omega (arith, c .before .before .before .before .before .before .before .before .if4 .left)) (c .before .before .before .before .before .before .before .if5 .left) (o .ensures)
+    let a = c .before .before .before .before .before .before .before .before .before .before .before .before .before .before .before .before .before .args in
+    let f = c .before .before .before .before .fresh in
+    let l = c .before .before .before .before .before .before .before .before .has-line in
+    let w = c .before .before .before .before .before .before .before .before .before .within in
+    next-fresh (a .self) (now (a .chunk)) (now (a .carry)) (now (a .pool)) (a .at) (w .result) (f .result) (f .last .1 .1 .1 .1 .0) (f .last .1 .1 .1 .1 .1 .0) (c .before .before .before .before .before .before .before .before .before .before .before .before .before .if1 .left) (c .before .before .before .before .before .before .before .before .before .before .before .if2 .left) (c .before .before .before .before .before .before .before .before .before .before .if3 .left) (w .ensures) (sym (l .ensures) ∙ c .before .before .before .before .before .before .before .if4 .left) (f .ensures)
 
 pub next-spec : {M : Type 1} → statement M
 next-spec =
@@ -93,15 +82,12 @@ next-spec =
     plain-requires-3
     returns-3
     within-requires
+    has-line-requires
     older-requires
     same-length
     same-length-2
     returns-4
-    older-requires-2
+    fresh-requires
     same-length-3
     same-length-4
-    returns-5
-    fresh-requires
-    same-length-5
-    same-length-6
-    returns-6)
+    returns-5)
