@@ -16,7 +16,7 @@ ghost use Rattle.reader.specs.Told.{refusal-of, told};
 ghost use Rattle.reader.specs.Answer.{Reads};
 ghost use Rattle.reader.specs.Text.{default-options};
 ghost use Rattle.chunks.specs.Begun.{seek, stands-for, push as pushed, with-CR, add as added};
-ghost use Rattle.chunks.specs.Next.{kept-in, left-out, begun, holding, past-line, over, number-behind, of-sought, Meets, NextChunk, Finish, NewChunks, PartOf, Shown};
+ghost use Rattle.chunks.specs.Next.{kept-in, left-out, begun, past-line, over, number-behind, of-sought, Meets, NextChunk, Finish, NewChunks, PartOf, Shown};
 ghost use Rattle.chunks.specs.Helpers.{held, has-line, Grown, Passed, ends-in-CR, seek-at, CutAt, place-in-line, refusal-in-line, told-in-line, Settles, Plain, Within};
 
 // Where a reader of chunks stands.
