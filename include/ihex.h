@@ -51,6 +51,7 @@ extern "C" {
 #define IHEX_BAD_WINDOW 16                  /* page and marks differ in length, or the window is too large */
 #define IHEX_OUTSIDE_WINDOW 17              /* a: the address of a data record's first byte that lies outside */
 #define IHEX_CARRY_TOO_SMALL 18             /* a carry under IHEX_CARRY bytes, or a state that counts more than that used */
+#define IHEX_BAD_MARK 19                    /* a page to be written; value: the place of the first mark that is neither 0 nor 1 */
 
 /* The flags of a state. The other bits are not read, and are 0 at exit; ihex_next has the first three only. */
 #define IHEX_STOP_AFTER_FIRST_ERROR 1 /* after a refused line, only "done" */
@@ -73,8 +74,9 @@ extern "C" {
 #define IHEX_IN_CHUNK 1 /* len bytes of the chunk, from `from` on */
 #define IHEX_IN_CARRY 2 /* the carry's first len bytes; from is 0 */
 
-/* A page has at most so many places. */
+/* A page has at most so many places, and its file at most so many bytes: 7 for each place, and 58. */
 #define IHEX_MAX_PAGE 65536
+#define IHEX_MAX_PAGE_FILE 458810
 
 /* A record in a list. Its 24 bytes, each number low byte first: 0 type, 1 not read, 2 and 3 second, 4 to 7 number,
  * 8 to 15 at, 16 to 23 len; so on a little-endian machine a list is an array of this struct. */
@@ -190,6 +192,24 @@ uint32_t ihex_load(const uint8_t *text, size_t text_len, uint32_t first,
                    uint8_t *page, size_t page_len,
                    uint8_t *marks, size_t marks_len,
                    size_t *line, uint64_t *a, uint64_t *b);
+
+/* How long the file is that ihex_write_page writes: returns 0 and its length as the value, or IHEX_REFUSED and 16 or 19. */
+uint32_t ihex_page_length(uint32_t first,
+                          const uint8_t *page, size_t page_len,
+                          const uint8_t *marks, size_t marks_len,
+                          uint64_t *value);
+
+/* Writes the places of a page whose mark is 1 as Intel HEX, from the output's start on: returns 0 and the length as the value, or
+ * IHEX_REFUSED and the first of 16, 19, 15 that holds, with the value of 19. The place p has the address first + p. Each run of marked
+ * places becomes data records of 16 bytes, the last of them shorter where need be, counted from the run's start and afresh at each
+ * multiple of 65,536, where a record is cut too. A type 04 record stands before the first data record and wherever the upper 16 bits
+ * of the address change; the end record is last, and stands alone where no place is marked. One LF stands behind each line.
+ * Loaded by ihex_load with the same `first` and lengths, the file gives the same marks and the same bytes at them. */
+uint32_t ihex_write_page(uint32_t first,
+                         const uint8_t *page, size_t page_len,
+                         const uint8_t *marks, size_t marks_len,
+                         uint8_t *out, size_t out_len,
+                         uint64_t *value);
 
 #ifdef __cplusplus
 }

@@ -14,7 +14,7 @@ use Rattle.chunks.specs.declared.Place.{Place}
 use Rattle.chunks.specs.Next.{Outcome, too-small, next-outcome, finish-outcome}
 use Rattle.ihex.specs.Codes.{chunks-of, chunk-flags-of, lies-of, from-of, len-of, place-of}
 use Rattle.ihex.specs.Entry.{records-of}
-use Rattle.ihex.specs.Entries.{IhexReadRecord, IhexNext, Chunk-read, IhexShown, IhexToRecordString, IhexCreateObjectFileRepresentation, IhexLoad}
+use Rattle.ihex.specs.Entries.{IhexReadRecord, IhexNext, Chunk-read, IhexShown, IhexToRecordString, IhexCreateObjectFileRepresentation, IhexLoad, IhexPageLength, IhexWritePage}
 
 -- ---- no second answer meets a contract
 
@@ -69,6 +69,16 @@ Ihex-load-unique =
     (text : List ℕ) (first : ℕ) (page marks : List ℕ) (r l a b : ℕ) (p m : List ℕ) (r′ l′ a′ b′ : ℕ) (p′ m′ : List ℕ)
     → IhexLoad text first page marks r l a b p m → IhexLoad text first page marks r′ l′ a′ b′ p′ m′
     → ((r ≡ r′) × (l ≡ l′) × (a ≡ a′) × (b ≡ b′)) × (p ≡ p′) × (m ≡ m′)
+
+abbrev pub Ihex-page-length-unique : Type 0
+Ihex-page-length-unique =
+    (first : ℕ) (page marks : List ℕ) (r v r′ v′ : ℕ) → IhexPageLength first page marks r v → IhexPageLength first page marks r′ v′ → (r ≡ r′) × (v ≡ v′)
+
+abbrev pub Ihex-write-page-unique : Type 0
+Ihex-write-page-unique =
+    (first : ℕ) (page marks out : List ℕ) (r v : ℕ) (o : List ℕ) (r′ v′ : ℕ) (o′ : List ℕ)
+    → IhexWritePage first page marks out r v o → IhexWritePage first page marks out r′ v′ o′
+    → (r ≡ r′) × (v ≡ v′) × (o ≡ o′)
 
 -- ---- a text in chunks
 

@@ -18,6 +18,7 @@ use Rattle.chunks.specs.declared.Chunks.{Chunks}
 use Rattle.chunks.specs.declared.Place.{Place}
 use Rattle.chunks.specs.Next.{Outcome, at-place, next-outcome, finish-outcome}
 use Rattle.loader.specs.Load.{load}
+use Rattle.page.specs.File.{page-text}
 use Rattle.ihex.specs.Codes.{value, Numbers, reading, reading-chunk, writing, loading, line-at, flags-of, chunk-flags-of, Spotted, place-of, buffer-of, start-of}
 use Rattle.ihex.specs.Entry.{record-of, records-of}
 
@@ -96,3 +97,11 @@ pub record IhexLoad (text : List ℕ) (first : ℕ) (page marks : List ℕ) (r l
   pub b-is : b ≡ value (loading (load text first page marks .answer)) 1
   pub page-is : page′ ≡ load text first page marks .page
   pub marks-is : marks′ ≡ load text first page marks .marks
+
+-- how long the text of a page is that is written: an answer in two numbers
+pub record IhexPageLength (first : ℕ) (page marks : List ℕ) (r v : ℕ) : Type 0 where
+  pub code-is : r ≡ writing (some (place-behind (page-text first page marks) 0)) .code
+  pub value-is : v ≡ value (writing (some (place-behind (page-text first page marks) 0))) 0
+
+abbrev pub IhexWritePage : (first : ℕ) (page marks out : List ℕ) (r v : ℕ) (out′ : List ℕ) → Type 0
+IhexWritePage first page marks out r v out′ = Wrote-text (some (page-text first page marks)) out r v out′

@@ -1,39 +1,21 @@
 -- A written object, read again: the same records with the same payloads, then "done".
 -- Assumes nothing.
-use Prim.Native.Nat.{ℕ, suc, _+_, _^_, _≤_, _<_}
+use Prim.Native.Nat.{ℕ, _+_, _^_, _≤_, _<_}
 use mathlib.Core.Path.{_≡_}
 use mathlib.Core.List.{List, [], _∷_}
 use lib.ListN.{length, take}
 use Rattle.record.specs.Common.{Every, Byte}
 use Rattle.record.specs.declared.Record.{Record}
 use Rattle.record.specs.Record.{meant}
-use Rattle.record.specs.Line.{Said, says}
 use Rattle.record.specs.Meaning.{Meaning, data-at, end-of-file, extended-segment, start-segment, extended-linear, start-linear}
-use Rattle.record.specs.Written.{kind-of, address-of, payload-of}
 use Rattle.reader.specs.declared.Answer.the-variants.{Read}
 use Rattle.reader.specs.Told.{done, told}
-use Rattle.reader.specs.Row.{Numbered, on, row}
 use Rattle.reader.specs.Text.{default-options, new-state}
 use Rattle.reader.specs.Calls.{Call, Given, Never-full, Calls}
 use Rattle.writer.specs.declared.Written.the-variants.{Wrote}
 use Rattle.writer.specs.Text.{chars}
 use Rattle.writer.specs.Object.{object, WriteObject}
 use Rattle.writer.specs.Claims.{In-range}
-
--- what a record's line says
-abbrev pub said-of : Meaning → Said
-said-of m = says (kind-of m) (address-of m) (payload-of m)
-
--- what the lines of these records say, numbered from n on
-unfoldable pub spoken : ℕ → List Record → (pool : List ℕ) → List Numbered
-spoken n [] pool = []
-spoken n (r ∷ rs) pool = on n (said-of (meant r pool)) ∷ spoken (suc n) rs pool
-
--- the reader's row over an object's text is its records, each on a line of its own
-abbrev pub Same-row : Type 0
-Same-row =
-    (rs : List Record) (pool cs : List ℕ) → Every In-range rs → Every Byte pool → object rs pool ≡ chars cs
-    → row default-options cs ≡ spoken 1 rs pool
 
 -- calls were given these records, each with the same numbers and payload, and then "done"
 abbrev pub Again : List Record → (pool : List ℕ) → List Call → List Given → Type 0

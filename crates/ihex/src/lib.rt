@@ -5,6 +5,8 @@ use chunks::Chunks;
 use chunks::Place;
 use loader::LoaderError;
 use loader::Loading;
+use page::PageError;
+use page::Paged;
 use reader::Answer;
 use reader::ReaderError;
 use reader::ReaderOptions;
@@ -25,10 +27,11 @@ ghost use Rattle.reader.specs.Text.{told-reply};
 ghost use Rattle.writer.specs.Told.{told as told-written, refusal-of as writer-refusal};
 ghost use Rattle.chunks.specs.Next.{word-of};
 ghost use Rattle.loader.specs.Told.{told as told-loading, refusal-by};
+ghost use Rattle.page.specs.Told.{told as told-page, refusal-of as page-refusal};
 ghost use Rattle.ihex.specs.Codes.{Coded-as, Flag, refused-with, reading, reading-chunk, writing, loading, line-at, state-of, flags-of, chunks-of, chunk-flags-of, place-of, Spot-as, start-of};
 ghost use Rattle.ihex.specs.Entry.{two-at, four-at, eight-at, record-of, record-at, entry-of};
 ghost use Rattle.ihex.specs.Helpers.{Is-list, Good, Surveyed-as, Stepped, TellStep};
-ghost use Rattle.ihex.specs.Entries.{IhexReadRecord, IhexNext, IhexNextChunk, IhexFinish, IhexShown, IhexToRecordString, IhexCreateObjectFileRepresentation, IhexLoad};
+ghost use Rattle.ihex.specs.Entries.{IhexReadRecord, IhexNext, IhexNextChunk, IhexFinish, IhexShown, IhexToRecordString, IhexCreateObjectFileRepresentation, IhexLoad, IhexPageLength, IhexWritePage};
 
 // What is given in numbers is no record.
 const BAD_RECORD: u32 = 1024;
@@ -684,5 +687,50 @@ pub extern "C" fn ihex_load(
     *line = line_at(answer);
     *a = told.a;
     *b = told.b;
+    told.code
+}
+
+fn code_page_error(e: PageError) -> Coded
+    ensures { λ r. ⌜ Coded-as (refused-with (page-refusal e)) r ⌝ }
+{
+    match e {
+        PageError::BadWindow => four(272, 0, 0, 0),
+        PageError::BadMark(place) => four(275, place as u64, 0, 0),
+        PageError::OutputFull => four(271, 0, 0, 0),
+    }
+}
+
+fn code_paged(answer: Paged) -> Coded
+    ensures { λ r. ⌜ Coded-as (writing (some (told-page answer))) r ⌝ }
+{
+    match answer {
+        Paged::Wrote(n) => four(0, n as u64, 0, 0),
+        Paged::Refused(e) => code_page_error(e),
+    }
+}
+
+// The length of the file of a page with marks.
+#[no_mangle]
+pub extern "C" fn ihex_page_length(first: u32, page: &[u8], marks: &[u8], value: &mut u64) -> u32
+    ensures { λ r. ⌜ IhexPageLength first (now (page .entry)) (now (marks .entry)) r (now (value .exit)) ⌝ }
+{
+    let told = code_paged(page::page_length(first, page, marks));
+    *value = told.a;
+    told.code
+}
+
+// The file of a page with marks.
+#[no_mangle]
+pub extern "C" fn ihex_write_page(
+    first: u32,
+    page: &[u8],
+    marks: &[u8],
+    out: &mut [u8],
+    value: &mut u64,
+) -> u32
+    ensures { λ r. ⌜ IhexWritePage first (now (page .entry)) (now (marks .entry)) (now (out .entry)) r (now (value .exit)) (now (out .exit)) ⌝ }
+{
+    let told = code_paged(page::write_page(first, page, marks, out));
+    *value = told.a;
     told.code
 }

@@ -32,7 +32,7 @@ use Rattle.loader.specs.declared.Loading.{Loading}
 use Rattle.loader.specs.declared.Loading.the-variants.{Accepted, Refused}
 use Rattle.loader.specs.Load.{no-records, Verdict, accepted, refused, Decision, by, within, decision, verdict, unfit, placements, steps-of, stopping, load}
 use Rattle.loader.specs.Told.{refusal-by, told}
-use Rattle.loader.specs.Claims.{Window, in-force, data-records, Stops, the-end, no-record, first-outside, Decided, Why, bad-one, no-end, at-line, Reasons, Load-names-the-offender, Among, Total, Told-apart, Load-unique, Examples}
+use Rattle.loader.specs.Claims.{Window, in-force, data-records, Stops, the-end, no-record, first-outside, Decided, Why, bad-one, no-end, at-line, Reasons, Load-names-the-offender, Among, Total, Told-apart, Load-unique, Is-unfit-unique, Unfit-is-no-window, Examples}
 use Rattle.loader.proofs.Demand3.{good-window, load-answer}
 use Rattle.loader.proofs.Reasons.{Walked, walked}
 
@@ -42,7 +42,7 @@ examples = record { sixth-place = refl; below-it = refl; wraps = refl }
 
 -- ---- reasons
 
-no-window : (first : ℕ) (page marks : List ℕ) → unfit first (length page) (length marks) ≡ true → ¬ Window first page marks
+pub no-window : (first : ℕ) (page marks : List ℕ) → unfit first (length page) (length marks) ≡ true → ¬ Window first page marks
 unfolding unfit
 no-window first page marks e w =
     true≢false (sym e ∙ rw (eq-eqb (length page) (length marks) (w .even), le-ltb 65536 (length page) (w .small), le-ltb (2 ^ 32) (first + length page) (w .below)))
@@ -165,3 +165,14 @@ told-apart a b e = sym (told-again a) ∙ ap untold-load e ∙ told-again b
 pub load-unique : Load-unique
 load-unique text first page marks r r′ p p′ m m′ x y =
     (told-apart r r′ (x .answer ∙ sym (y .answer)), x .page ∙ sym (y .page), x .marks ∙ sym (y .marks))
+
+pub is-unfit-unique : Is-unfit-unique
+is-unfit-unique first page marks r r′ x y = x .answer ∙ sym (y .answer)
+
+pub unfit-is-no-window : Unfit-is-no-window
+unfit-is-no-window first page marks r x =
+    (λ e. good-window first page marks (sym (x .answer) ∙ e), λ w. fit (unfit first (length page) (length marks)) refl w)
+  where
+    fit : (b : Bool) → unfit first (length page) (length marks) ≡ b → Window first page marks → r ≡ false
+    fit true e w = absurd (no-window first page marks e w)
+    fit false e w = x .answer ∙ e

@@ -20,7 +20,7 @@ use Rattle.reader.specs.Claims.{Offends}
 use Rattle.loader.specs.declared.Loading.{Loading}
 use Rattle.loader.specs.Placing.{Placement, Base, from-start, segment, linear, stated-by}
 use Rattle.loader.specs.Load.{Tally, Verdict, accepted, refused, by, within, stopping, Loaded, placements, load}
-use Rattle.loader.specs.Told.{told, Load}
+use Rattle.loader.specs.Told.{told, Load, IsUnfit}
 
 -- ---- two loads
 
@@ -225,6 +225,14 @@ abbrev pub Load-unique : Type 0
 Load-unique =
     (text : List ℕ) (first : ℕ) (page marks : List ℕ) (r r′ : Loading) (p p′ m m′ : List ℕ)
     → Load text first page marks r p m → Load text first page marks r′ p′ m′ → (r ≡ r′) × (p ≡ p′) × (m ≡ m′)
+
+abbrev pub Is-unfit-unique : Type 0
+Is-unfit-unique = (first page marks : ℕ) (r r′ : Bool) → IsUnfit first page marks r → IsUnfit first page marks r′ → r ≡ r′
+
+-- it is given exactly where a window is none
+abbrev pub Unfit-is-no-window : Type 0
+Unfit-is-no-window =
+    (first : ℕ) (page marks : List ℕ) (r : Bool) → IsUnfit first (length page) (length marks) r → (r ≡ false) ↔ Window first page marks
 
 -- ---- examples
 

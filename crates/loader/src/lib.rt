@@ -9,8 +9,8 @@ ghost use lib.ListN.{length, replicate};
 ghost use Rattle.record.specs.Record.{meant};
 ghost use Rattle.reader.specs.Text.{new-state, default-options};
 ghost use Rattle.loader.specs.Placing.{byte-address, placed};
-ghost use Rattle.loader.specs.Load.{within, outside, decision, verdict, unfit, no-records, placements, steps-of};
-ghost use Rattle.loader.specs.Told.{told, Load};
+ghost use Rattle.loader.specs.Load.{within, outside, decision, verdict, no-records, placements, steps-of};
+ghost use Rattle.loader.specs.Told.{told, Load, IsUnfit};
 ghost use Rattle.loader.specs.Helpers.{based, reached, Painted, Fitting, stated-by, Lies-in, Behind, Under-way, Few, Met, Judged, Accepts, Ready, Wrote};
 
 // Why a text is not loaded.
@@ -296,9 +296,9 @@ fn clear(marks: &mut [u8])
     }
 }
 
-// Whether the window is refused.
-fn is_unfit(first: u32, page: usize, marks: usize) -> bool
-    ensures { λ r. ⌜ r ≡ unfit first page marks ⌝ }
+// Whether a window is refused: a page and marks of these lengths, from the address `first` on.
+pub fn is_unfit(first: u32, page: usize, marks: usize) -> bool
+    ensures { λ r. ⌜ IsUnfit first page marks r ⌝ }
 {
     if page != marks {
         return true;

@@ -70,3 +70,8 @@ outside-window address = refusal 17 (address ∷ [])
 
 abbrev pub carry-too-small : Refusal
 carry-too-small = refusal 18 []
+
+-- of a page to be written, beside 15 and 16
+
+abbrev pub bad-mark : (place : ℕ) → Refusal
+bad-mark place = refusal 19 (place ∷ [])

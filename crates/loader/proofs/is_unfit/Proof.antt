@@ -9,13 +9,13 @@ use Rattle.loader.proofs.is_unfit.Tie as tie
 
 returns : tie.Need-returns
 unfolding unfit
-returns c = rw (ne-eqb (c .before .args .page) (c .before .args .marks) (c .if1 .taken))
+returns c = record { answer = rw (ne-eqb (c .before .args .page) (c .before .args .marks) (c .if1 .taken)) }
 
 returns-2 : tie.Need-returns-2
 unfolding unfit
 returns-2 c =
     let a = c .before .before .args in
-    rw (eq-eqb (a .page) (a .marks) (omega arith), lt-ltb 65536 (a .page) (c .if2 .taken))
+    record { answer = rw (eq-eqb (a .page) (a .marks) (omega arith), lt-ltb 65536 (a .page) (c .if2 .taken)) }
 
 add-result : tie.Need-add-result
 add-result c = search needs
@@ -24,7 +24,7 @@ returns-3 : tie.Need-returns-3
 unfolding unfit
 returns-3 c =
     let a = c .before .before .args in
-    rw (eq-eqb (a .page) (a .marks) (omega arith), le-ltb 65536 (a .page) (c .if2 .left))
+    record { answer = rw (eq-eqb (a .page) (a .marks) (omega arith), le-ltb 65536 (a .page) (c .if2 .left)) }
 
 pub is-unfit-spec : {M : Type 1} → statement M
 is-unfit-spec = tie.close (tie.spec returns returns-2 add-result returns-3)

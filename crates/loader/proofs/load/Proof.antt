@@ -13,7 +13,7 @@ use Rattle.loader.proofs.load.Tie as tie
 
 -- the window is not refused
 fit : (c : tie.Else1) → let s = c .before .before .before .before .before .args in unfit (s .first) (length (now (s .page))) (length (now (s .marks))) ≡ false
-fit c = sym (c .before .is-unfit .ensures) ∙ c .if1 .left
+fit c = sym (c .before .is-unfit .ensures .answer) ∙ c .if1 .left
 
 is-unfit-requires : tie.Need-is-unfit-requires
 is-unfit-requires c κs = search needs
@@ -21,7 +21,7 @@ is-unfit-requires c κs = search needs
 returns : tie.Need-returns
 returns c =
     let s = c .before .before .before .before .before .args in
-    load-unfit (now (s .text)) (s .first) (now (s .page)) (now (s .marks)) (sym (c .before .is-unfit .ensures) ∙ c .if1 .taken)
+    load-unfit (now (s .text)) (s .first) (now (s .page)) (now (s .marks)) (sym (c .before .is-unfit .ensures .answer) ∙ c .if1 .taken)
 
 judge-text-requires : tie.Need-judge-text-requires
 judge-text-requires c κs = let s = c .before .before .before .before .before .args in good-window (s .first) (now (s .page)) (now (s .marks)) (fit c) .below

@@ -1,0 +1,13 @@
+pub mod Pieces
+pub mod Shape
+pub mod Records
+pub mod Room
+pub mod Marks
+pub mod Walking
+pub mod Loops
+pub mod Spoken
+pub mod Held
+pub mod Files
+pub mod Loading
+pub mod Answers
+pub mod Claims

@@ -1,0 +1,244 @@
+-- The file of a page, loaded again: its row is accepted with one data record for each piece and states the marked places, each with its
+-- byte; so marks and marked bytes are the page's, and the file tells them.
+-- Assumes nothing.
+use Prim.Native.Nat.{ℕ, zero, suc, _+_, _*_, _%_, _^_, _<_, _≤_}
+use mathlib.Core.Path.{_≡_, refl, sym, _∙_, ap, ap₂}
+use mathlib.Core.Logic.{_≢_, inl, inr}
+use mathlib.Core.Bool.{Bool, true, false}
+use mathlib.Core.Option.{Option, none, some, Option·getD}
+use mathlib.Core.List.{List, [], _∷_, _++_, map, map-append}
+use native.Mathlib.Omega.{arith}
+use native.Mathlib.Nat.{add-zero, zero-add}
+use lib.ListN.{length, getD, take, drop, List·getD-eq-default}
+use lib.Seq.{drop-cons, ext-getD}
+use borrow.Author.Tests.{eq-eqb, ne-eqb, eqb-true, le-leb, lt-ltb}
+use Rattle.record.specs.Common.{if_then_else_, Every}
+use Rattle.record.specs.declared.Record.{Record}
+use Rattle.record.specs.declared.Record.the-variants.{ExtendedLinearAddress}
+use Rattle.record.specs.Record.{meant}
+use Rattle.record.specs.Meaning.{Meaning, extended-linear}
+use Rattle.record.specs.Written.{Sayable}
+use Rattle.record.proofs.Tests.{split}
+use Rattle.record.proofs.Choices.{or-else-none}
+use Rattle.record.proofs.Writing.{reads-back}
+use Rattle.reader.specs.Row.{Numbered, on}
+use Rattle.loader.specs.Placing.{Placement, Base, linear, from-start, byte-address, placed, base-behind, step-at, steps, stated}
+use Rattle.loader.specs.Load.{Tally, accepted, by, within, outside, decision, verdict, unfit, last-at, mark, painted, marked, Loaded, placements, stopping, load}
+use Rattle.loader.specs.Claims.{Window}
+use Rattle.loader.proofs.Pages.{painted-at, marked-at, length-painted, length-marked, marked-inside}
+use Rattle.loader.proofs.Demand3.{accepted-load}
+use Rattle.loader.proofs.Claims.{unfit-is-no-window}
+use Rattle.page.specs.Pieces.{Piece, is-marked, pieces}
+use Rattle.page.specs.File.{upper, data-of, is-latest, records, page-records, file}
+use Rattle.page.specs.Shape.{places, held, marked-places}
+use Rattle.page.specs.Spoken.{said-of, spoken}
+use Rattle.page.specs.Claims.{Mark, Restores, Loads-back, Files-tell}
+use Rattle.page.proofs.Spoken.{same-row}
+use Rattle.page.proofs.Shape.{made-so}
+use Rattle.page.proofs.Held.{Good, all-good}
+use Rattle.page.proofs.Files.{in-range, all-sayable, file-is-object}
+
+-- ---- one record
+
+-- the steps at the line of a record that a line can hold
+steps-said : (n : ℕ) (base : Base) (m : Meaning) (rest : List Numbered) → Sayable m
+    → steps base (on n (said-of m) ∷ rest) ≡ step-at n base m ++ steps (base-behind base m) rest
+unfolding steps
+steps-said n base m rest h = ap (λ (x : Meaning). step-at n base x ++ steps (base-behind base x) rest) (reads-back m h .means)
+
+latest-is : (latest : Option ℕ) (u : ℕ) → is-latest latest u ≡ true → latest ≡ some u
+unfolding is-latest
+latest-is none u e = cc
+latest-is (some v) u e = ap some (eqb-true v u e)
+
+-- the byte of a place of the page, at its address
+abbrev placement : (first : ℕ) (page : List ℕ) → ℕ → Placement
+placement first page i = record { address = first + i; byte = getD page i 0 }
+
+abbrev tally : ℕ → Tally
+tally n = record { records = n }
+
+module _ (first : ℕ) (page : List ℕ) (below : first + length page ≤ 2 ^ 32) where
+  placed-run : (u offset i at n : ℕ) → 65536 * u + offset + i ≡ first + at → at + n ≤ length page
+      → placed (linear u) offset i (take n (drop at page)) ≡ map (placement first page) (places at n)
+  unfolding placed places byte-address
+  placed-run u offset i at zero e h = refl
+  placed-run u offset i at (suc n) e h =
+      let z : (65536 * u + offset + i) % 2 ^ 32 ≡ first + at = omega arith in
+      rw (drop-cons page at 0 (omega arith))
+      (ap₂ (λ (a : ℕ) (l : List Placement). record { address = a; byte = getD page at 0 } ∷ l) z
+      (placed-run u offset (suc i) (suc at) n (omega arith) (omega arith)))
+
+  none-outside : (at n : ℕ) → at + n ≤ length page → outside (within first (length page)) (map (placement first page) (places at n)) ≡ none
+  unfolding outside within places
+  none-outside at zero h = refl
+  none-outside at (suc n) h =
+      rw (le-leb first (first + at) (omega arith), lt-ltb (first + at) (first + length page) (omega arith)) (none-outside (suc at) n (omega arith))
+
+  -- ---- all records
+
+  -- from a base and a count, a row is accepted with k data records more, and states these places
+  record Comes-to (base : Base) (count k : ℕ) (rest : List Numbered) (stated-places : List ℕ) : Type 0 where
+    line : ℕ
+    decides : decision (within first (length page)) (tally count) (steps base rest) ≡ some (by line (accepted (tally (count + k))))
+    states : stated (steps base rest) ≡ map (placement first page) stated-places
+
+  module _ (marks : List ℕ) (even : length page ≡ length marks) where
+    comes-data : (n count k : ℕ) (p : Piece) (rest : List Numbered) (later : List ℕ) → Good first marks p → Sayable (meant (data-of first p) page)
+        → Comes-to (linear (upper first p)) (suc count) k rest later
+        → Comes-to (linear (upper first p)) count (suc k) (on n (said-of (meant (data-of first p) page)) ∷ rest) (places (p .place) (p .size) ++ later)
+    unfolding decision stated step-at base-behind
+    comes-data n count k p rest later g s c =
+        let said = steps-said n (linear (upper first p)) (meant (data-of first p) page) rest s in
+        let h : p .place + p .size ≤ length page = omega (arith, g .inside) in
+        let run = placed-run (upper first p) ((first + p .place) % 65536) 0 (p .place) (p .size) (omega arith) h in
+        let one : suc count + k ≡ count + suc k = omega arith in
+        record {
+          line = c .line;
+          decides = rw (said, run, none-outside (p .place) (p .size) h, ← one) (c .decides);
+          states = rw (said, run, map-append (placement first page) (places (p .place) (p .size)) later) (ap (λ (l : List Placement). map (placement first page) (places (p .place) (p .size)) ++ l) (c .states));
+        }
+
+    comes-upper : (n u count k : ℕ) (base : Base) (rest : List Numbered) (later : List ℕ) → Sayable (extended-linear u)
+        → Comes-to (linear u) count k rest later → Comes-to base count k (on n (said-of (extended-linear u)) ∷ rest) later
+    unfolding step-at base-behind
+    comes-upper n u count k base rest later s c =
+        let said = steps-said n base (extended-linear u) rest s in
+        record { line = c .line; decides = rw said (c .decides); states = rw said (c .states) }
+
+    -- the records of pieces, behind the latest upper 16 bits
+    comes : (n count : ℕ) (base : Base) (latest : Option ℕ) (ps : List Piece) → Every (Good first marks) ps
+        → Every (λ r. Sayable (meant r page)) (records first latest ps) → ((u : ℕ) → latest ≡ some u → base ≡ linear u)
+        → Comes-to base count (length ps) (spoken n (records first latest ps) page) (held ps)
+    unfolding records spoken held decision stated steps
+    comes n count base latest [] g s b = record { line = n; decides = rw (add-zero count); states = refl }
+    comes n count base latest (p ∷ ps) (g, gs) s b =
+        go (is-latest latest (upper first p)) refl s
+        (λ m c h. comes m c (linear (upper first p)) (some (upper first p)) ps gs h (λ u e. let z : upper first p ≡ u = cc in ap linear z))
+      where
+        later : List Record
+        later = records first (some (upper first p)) ps
+
+        go : (t : Bool) → is-latest latest (upper first p) ≡ t
+            → Every (λ r. Sayable (meant r page)) ((if t then [] else ExtendedLinearAddress (upper first p) ∷ []) ++ (data-of first p ∷ later))
+            → ((m c : ℕ) → Every (λ r. Sayable (meant r page)) later → Comes-to (linear (upper first p)) c (length ps) (spoken m later page) (held ps))
+            → Comes-to base count (suc (length ps)) (spoken n ((if t then [] else ExtendedLinearAddress (upper first p) ∷ []) ++ (data-of first p ∷ later)) page)
+            (places (p .place) (p .size) ++ held ps)
+        go true e (s, h) ih =
+            rw (b (upper first p) (latest-is latest (upper first p) e)) (comes-data n count (length ps) p _ _ g s (ih (suc n) (suc count) h))
+        go false e (s, (d, h)) ih =
+            comes-upper n (upper first p) count (suc (length ps)) base _ _ s
+            (comes-data (suc n) count (length ps) p _ _ g d (ih (suc (suc n)) (suc count) h))
+
+-- ---- what is stated at a place
+
+-- the byte of a place, if it is marked
+seen : (page : List ℕ) (m i : ℕ) → Option ℕ
+seen page m i = if is-marked m then some (getD page i 0) else none
+
+module _ (first : ℕ) (page : List ℕ) where
+  -- a place of a list says nothing of another
+  past-place : (x place : ℕ) (b : Bool) (rest : List ℕ) → place ≢ x
+      → last-at (first + x) (map (placement first page) (if b then place ∷ rest else rest)) ≡ last-at (first + x) (map (placement first page) rest)
+  unfolding last-at
+  past-place x place true rest n = rw (ne-eqb (first + place) (first + x) (λ e. n (omega arith))) (or-else-none (last-at (first + x) (map (placement first page) rest)))
+  past-place x place false rest n = refl
+
+  before-marked : (x place : ℕ) (marks : List ℕ) → x < place → last-at (first + x) (map (placement first page) (marked-places place marks)) ≡ none
+  unfolding marked-places last-at
+  before-marked x place [] h = refl
+  before-marked x place (m ∷ marks) h =
+      past-place x place (is-marked m) (marked-places (suc place) marks) (λ e. omega arith) ∙ before-marked x (suc place) marks (omega arith)
+
+  at-place : (place : ℕ) (b : Bool) (rest : List ℕ) → last-at (first + place) (map (placement first page) rest) ≡ none
+      → last-at (first + place) (map (placement first page) (if b then place ∷ rest else rest)) ≡ (if b then some (getD page place 0) else none)
+  unfolding last-at
+  at-place place true rest e = rw (e, eq-eqb (first + place) (first + place) refl)
+  at-place place false rest e = e
+
+  last-marked : (place i : ℕ) (marks : List ℕ) → i < length marks
+      → last-at (first + (place + i)) (map (placement first page) (marked-places place marks)) ≡ seen page (getD marks i 0) (place + i)
+  unfolding marked-places seen
+  last-marked place i [] h = absurd (omega arith)
+  last-marked place zero (m ∷ marks) h =
+      rw (add-zero place) (at-place place (is-marked m) (marked-places (suc place) marks) (before-marked place (suc place) marks (omega arith)))
+  last-marked place (suc i) (m ∷ marks) h =
+      let s : suc place + i ≡ place + suc i = omega arith in
+      past-place (place + suc i) place (is-marked m) (marked-places (suc place) marks) (λ e. omega arith)
+      ∙ rw s at (last-marked (suc place) i marks (omega arith))
+
+-- ---- painted and marked again
+
+-- a mark of good marks, and 0 behind them
+pub good-mark : (marks : List ℕ) (i : ℕ) → Every Mark marks → Mark (getD marks i 0)
+good-mark [] i h = inl refl
+good-mark (m ∷ marks) zero (h, hs) = h
+good-mark (m ∷ marks) (suc i) (h, hs) = good-mark marks i hs
+
+mark-seen : (page : List ℕ) (m i : ℕ) → Mark m → mark (seen page m i) ≡ m
+unfolding mark seen
+mark-seen page m i (inl e) = rw e
+mark-seen page m i (inr e) = rw e
+
+module _ (first : ℕ) (page marks old-page old-marks : List ℕ) (even : length page ≡ length marks) (lp : length old-page ≡ length page) (lm : length old-marks ≡ length marks) where
+  abbrev there : List Placement
+  there = map (placement first page) (marked-places 0 marks)
+
+  last-there : (i : ℕ) → i < length marks → last-at (first + i) there ≡ seen page (getD marks i 0) i
+  last-there i h = rw (zero-add i) at (last-marked first page 0 i marks h)
+
+  byte-there : (i : ℕ) → i < length marks → getD (painted first there old-page) i 0 ≡ Option·getD (seen page (getD marks i 0) i) (getD old-page i 0)
+  byte-there i h =
+      painted-at first there old-page i (omega arith) ∙ ap (λ (o : Option ℕ). Option·getD o (getD old-page i 0)) (last-there i h)
+
+  marks-again : Every Mark marks → marked first there old-marks ≡ marks
+  marks-again g =
+      let l = length-marked first there old-marks in
+      ext-getD 0 (marked first there old-marks) marks (l ∙ lm)
+      (λ i k. marked-at first there old-marks i (omega arith) ∙ ap mark (last-there i (omega arith)) ∙ mark-seen page (getD marks i 0) i (good-mark marks i g))
+
+  bytes-again : (i : ℕ) → getD marks i 0 ≡ 1 → getD (painted first there old-page) i 0 ≡ getD page i 0
+  unfolding seen
+  bytes-again i m = byte-there i (marked-inside marks i m) ∙ rw m
+
+  others-again : (i : ℕ) → getD marks i 0 ≡ 0 → getD (painted first there old-page) i 0 ≡ getD old-page i 0
+  unfolding seen
+  others-again i m =
+      split (length marks) i
+      (λ h. let l = length-painted first there old-page in
+      List·getD-eq-default (painted first there old-page) 0 (omega arith) ∙ sym (List·getD-eq-default old-page 0 (omega arith)))
+      (λ h. byte-there i h ∙ rw m)
+
+  -- a text that is accepted with k data records and states the marked places
+  restores : (text : List ℕ) (k : ℕ) → Every Mark marks → verdict (stopping text first old-page old-marks) ≡ accepted (tally k)
+      → placements text ≡ there
+      → let l = load text first old-page old-marks in (l .answer ≡ accepted (tally k)) × Restores page marks old-page l
+  restores text k g v s =
+      rw (accepted-load text first old-page old-marks (tally k) v, s)
+      (refl, record { same-marks = marks-again g; same-bytes = bytes-again; others-kept = others-again })
+
+-- ---- the claims
+
+pub loads-back : Loads-back
+unfolding placements stopping verdict page-records
+loads-back first page marks old-page old-marks P b lp lm =
+    let w = P .window in
+    let ps : List Piece = pieces first 0 none marks in
+    let said = same-row (page-records first marks) page (file first page marks) (in-range first page marks w) b (file-is-object first page marks w) in
+    let c = comes first page (w .below) marks (w .even) 1 0 from-start none ps (all-good first marks) (all-sayable first page marks w b) (λ u e. cc) in
+    let old : Window first old-page old-marks = record { even = lp ∙ w .even ∙ sym lm; small = omega (arith, w .small); below = omega (arith, w .below) } in
+    let fit : unfit first (length old-page) (length old-marks) ≡ false = unfit-is-no-window first old-page old-marks (unfit first (length old-page) (length old-marks)) (record { answer = refl }) .1 old in
+    restores first page marks old-page old-marks (w .even) lp lm (file first page marks) (length ps) (P .marks-good)
+    (rw (fit, lp, said, c .decides) (ap (λ (k : ℕ). accepted (tally k)) (zero-add (length ps))))
+    (rw said (c .states ∙ ap (map (placement first page)) (made-so first marks .holds)))
+
+pub files-tell : Files-tell
+files-tell first page₁ marks₁ page₂ marks₂ P₁ P₂ b₁ b₂ l e =
+    let even : length marks₁ ≡ length marks₂ = sym (P₁ .window .even) ∙ l ∙ P₂ .window .even in
+    let r₁ = loads-back first page₁ marks₁ page₁ marks₁ P₁ b₁ refl refl .1 in
+    let r₂ = loads-back first page₂ marks₂ page₁ marks₁ P₂ b₂ l even .1 in
+    let same : load (file first page₁ marks₁) first page₁ marks₁ ≡ load (file first page₂ marks₂) first page₁ marks₁ = ap (λ (t : List ℕ). load t first page₁ marks₁) e in
+    let marks-same : marks₁ ≡ marks₂ = sym (r₁ .same-marks) ∙ ap (λ (x : Loaded). x .marks) same ∙ r₂ .same-marks in (
+      marks-same,
+      λ i m. sym (r₁ .same-bytes i m) ∙ ap (λ (x : Loaded). getD (x .page) i 0) same ∙ r₂ .same-bytes i (rw marks-same at m),
+    )

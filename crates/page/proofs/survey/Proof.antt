@@ -1,0 +1,66 @@
+-- `page::survey` meets its contract: the survey is that of the records that were given.
+-- Assumes nothing.
+use mathlib.Core.Path.{refl, subst}
+use mathlib.Core.List.{List, [], _∷_, _++_}
+use lib.ListN.{length}
+use denote.Ref.{now}
+use borrow.Author.Needs.{needs}
+use borrow.Author.Tests.{not-true, not-false}
+use Rattle.record.specs.declared.Record.{Record}
+use Rattle.writer.specs.Claims.{Surveys, at-first as no-records, then-add}
+use Rattle.page.specs.Helpers.{left}
+use Rattle.page.proofs.Loops.{Surveying, at-first, under-way, passes-one, fewer-left, passed-all}
+use Rattle.page.proofs.survey.Statement.{statement}
+use Rattle.page.proofs.survey.Tie as tie
+
+abbrev Inv-loop : tie.InvT-loop
+Inv-loop first page marks s₀ w₀ finished₀ s w finished = Surveying first page marks s w finished
+
+abbrev μ-loop : tie.MeasureT-loop
+μ-loop first page marks s₀ w₀ finished₀ s w finished = length (left first marks w)
+
+new-requires : tie.Need-new-requires Inv-loop μ-loop
+new-requires c κs = search needs
+
+begin-requires : tie.Need-begin-requires Inv-loop μ-loop
+begin-requires c κs = search needs
+
+loop-holds : tie.Need-loop-holds Inv-loop μ-loop
+loop-holds c =
+    let a = c .before .before .before .before .args in
+    record { rs = []; passed = at-first (a .first) (now (a .marks)) (c .begin .result) (c .begin .ensures); surveys = no-records (c .before .new .ensures) }
+
+next-record-requires : tie.Need-next-record-requires Inv-loop μ-loop
+next-record-requires c κs =
+    let s = c .before .before .before .before .before .before in
+    let l = c .before .loop in
+    under-way (s .args .first) (now (s .args .marks)) (l .inv .rs) (l .w) (l .finished) (l .inv .passed) (not-true (l .finished) (c .loop-test .taken)) (s .pre)
+
+add-requires : tie.Need-add-requires Inv-loop μ-loop
+add-requires c κs = search needs
+
+loop-less : tie.Need-loop-less Inv-loop μ-loop
+loop-less c =
+    let a = c .before .before .before .before .before .before .before .before .before .args in
+    let n = c .before .before .next-record in
+    fewer-left (a .first) (now (a .marks)) (c .before .before .before .before .loop .w) (n .result) (n .ensures)
+
+loop-again : tie.Need-loop-again Inv-loop μ-loop
+loop-again c =
+    let a = c .before .before .before .before .before .before .before .before .before .args in
+    let l = c .before .before .before .before .loop in
+    let n = c .before .before .next-record in
+    record {
+      rs = l .inv .rs ++ (n .result .given ∷ []);
+      passed = passes-one (a .first) (now (a .marks)) (l .inv .rs) (l .w) (l .finished) (n .result) (l .inv .passed) (n .ensures);
+      surveys = then-add (l .inv .surveys) (c .before .add .ensures) refl;
+    }
+
+returns : tie.Need-returns Inv-loop μ-loop
+returns c =
+    let a = c .before .before .before .before .before .before .args in
+    let l = c .before .loop in
+    subst (λ (rs : List Record). Surveys (now (a .page)) rs (l .s)) (passed-all (a .first) (now (a .marks)) (l .inv .rs) (l .w) (l .finished) (l .inv .passed) (not-false (l .finished) (c .loop-test .left))) (l .inv .surveys)
+
+pub survey-spec : {M : Type 1} → statement M
+survey-spec = tie.close (tie.spec Inv-loop μ-loop new-requires begin-requires loop-holds next-record-requires add-requires loop-less loop-again returns)

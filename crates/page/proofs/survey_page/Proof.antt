@@ -1,0 +1,57 @@
+-- `page::survey_page` meets its contract: 16, then 19, and else the survey.
+-- Assumes nothing.
+use mathlib.Core.Path.{_≡_, sym, _∙_, ap}
+use Prim.Native.Nat.{ℕ}
+use mathlib.Core.Bool.{false}
+use native.Mathlib.Omega.{arith}
+use lib.ListN.{length}
+use denote.Ref.{now}
+use borrow.Author.Needs.{needs}
+use Rattle.record.specs.Refusals.{bad-mark}
+use Rattle.writer.specs.Text.{refused}
+use Rattle.loader.specs.Load.{unfit}
+use Rattle.loader.proofs.Demand3.{good-window}
+use Rattle.page.proofs.Answers.{text-unfit, text-bad, text-good}
+use Rattle.page.proofs.survey_page.Statement.{statement}
+use Rattle.page.proofs.survey_page.Tie as tie
+
+-- the window is not refused
+fit : (c : tie.Else1) → let a = c .before .before .before .before .args in unfit (a .first) (length (now (a .page))) (length (now (a .marks))) ≡ false
+fit c = sym (c .before .is-unfit .ensures .answer) ∙ c .if1 .left
+
+is-unfit-requires : tie.Need-is-unfit-requires
+is-unfit-requires c κs = search needs
+
+returns : tie.Need-returns
+returns c =
+    let a = c .before .before .before .before .args in
+    text-unfit (a .first) (now (a .page)) (now (a .marks)) (sym (c .before .is-unfit .ensures .answer) ∙ c .if1 .taken)
+
+good-marks-requires : tie.Need-good-marks-requires
+good-marks-requires c κs = search needs
+
+returns-2 : tie.Need-returns-2
+returns-2 c =
+    let a = c .before .before .before .before .before .before .args in
+    let g = c .before .good-marks in
+    text-bad (a .first) (now (a .page)) (now (a .marks)) (fit (c .before .before)) (omega (arith, c .if2 .taken, g .ensures))
+    ∙ ap (λ (n : ℕ). refused (bad-mark n)) (sym (g .ensures))
+
+survey-requires : tie.Need-survey-requires
+survey-requires c κs =
+    let a = c .before .before .before .before .before .before .args in
+    let w = good-window (a .first) (now (a .page)) (now (a .marks)) (fit (c .before .before)) in
+    omega (arith, w .even, w .below)
+
+returns-3 : tie.Need-returns-3
+returns-3 c =
+    let a = c .before .before .before .before .before .before .before .args in
+    let f = fit (c .before .before .before) in
+    record {
+      window = good-window (a .first) (now (a .page)) (now (a .marks)) f;
+      text-is = text-good (a .first) (now (a .page)) (now (a .marks)) f (omega (arith, c .before .if2 .left, c .before .before .good-marks .ensures));
+      surveys = c .survey .ensures;
+    }
+
+pub survey-page-spec : {M : Type 1} → statement M
+survey-page-spec = tie.close (tie.spec is-unfit-requires returns good-marks-requires returns-2 survey-requires returns-3)

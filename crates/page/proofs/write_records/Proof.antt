@@ -1,0 +1,69 @@
+-- `page::write_records` meets its contract: the steps are those of the records that were given.
+-- Assumes nothing.
+use mathlib.Core.Path.{refl, _∙_, subst}
+use mathlib.Core.List.{List, [], _∷_, _++_}
+use lib.ListN.{length}
+use denote.Ref.{now}
+use borrow.Author.Needs.{needs}
+use borrow.Author.Tests.{not-true, not-false}
+use Rattle.record.specs.declared.Record.{Record}
+use Rattle.writer.specs.Claims.{Steps, no-step, then-step}
+use Rattle.page.specs.Helpers.{left}
+use Rattle.page.proofs.Loops.{Stepping, at-first, under-way, passes-one, fewer-left, passed-all}
+use Rattle.page.proofs.write_records.Statement.{statement}
+use Rattle.page.proofs.write_records.Tie as tie
+
+abbrev Inv-loop : tie.InvT-loop
+Inv-loop first page marks out₀ done₀ w₀ finished₀ out done w finished = Stepping first page marks out₀ done₀ out done w finished
+
+abbrev μ-loop : tie.MeasureT-loop
+μ-loop first page marks out₀ done₀ w₀ finished₀ out done w finished = length (left first marks w)
+
+begin-requires : tie.Need-begin-requires Inv-loop μ-loop
+begin-requires c κs = search needs
+
+loop-holds : tie.Need-loop-holds Inv-loop μ-loop
+loop-holds c =
+    let a = c .before .before .before .before .args in
+    record { rs = []; passed = at-first (a .first) (now (a .marks)) (c .begin .result) (c .begin .ensures); steps = no-step; same-size = refl }
+
+next-record-requires : tie.Need-next-record-requires Inv-loop μ-loop
+next-record-requires c κs =
+    let s = c .before .before .before .before .before .before in
+    let l = c .before .loop in
+    under-way (s .args .first) (now (s .args .marks)) (l .inv .rs) (l .w) (l .finished) (l .inv .passed) (not-true (l .finished) (c .loop-test .taken)) (s .pre)
+
+write-next-requires : tie.Need-write-next-requires Inv-loop μ-loop
+write-next-requires c κs = search needs
+
+loop-less : tie.Need-loop-less Inv-loop μ-loop
+loop-less c =
+    let a = c .before .before .before .before .before .before .before .before .before .before .before .before .args in
+    let n = c .before .before .before .before .before .next-record in
+    fewer-left (a .first) (now (a .marks)) (c .before .before .before .before .before .before .before .loop .w) (n .result) (n .ensures)
+
+loop-again : tie.Need-loop-again Inv-loop μ-loop
+loop-again c =
+    let a = c .before .before .before .before .before .before .before .before .before .before .before .before .args in
+    let l = c .before .before .before .before .before .before .before .loop in
+    let n = c .before .before .before .before .before .next-record in
+    let w = c .before .before .before .write-next in
+    record {
+      rs = l .inv .rs ++ (n .result .given ∷ []);
+      passed = passes-one (a .first) (now (a .marks)) (l .inv .rs) (l .w) (l .finished) (n .result) (l .inv .passed) (n .ensures);
+      steps = then-step (n .result .given) (w .last .1 .1 .1 .0) (l .inv .steps) (w .ensures) refl;
+      same-size = w .kept .1 .1 .1 .0 ∙ l .inv .same-size;
+    }
+
+same-length : tie.Need-same-length Inv-loop μ-loop
+same-length c = c .before .loop .inv .same-size
+
+returns : tie.Need-returns Inv-loop μ-loop
+returns c =
+    let a = c .before .before .before .before .before .before .args in
+    let l = c .before .loop in
+    subst (λ (rs : List Record). Steps (now (a .page)) (now (a .out)) (a .start) rs (l .done) (l .out))
+    (passed-all (a .first) (now (a .marks)) (l .inv .rs) (l .w) (l .finished) (l .inv .passed) (not-false (l .finished) (c .loop-test .left))) (l .inv .steps)
+
+pub write-records-spec : {M : Type 1} → statement M
+write-records-spec = tie.close (tie.spec Inv-loop μ-loop begin-requires loop-holds next-record-requires write-next-requires loop-less loop-again same-length returns)

@@ -1,0 +1,154 @@
+-- What is claimed of a page written back. What its records are stands in `Shape`. Each claim is proved in `proofs/`: the same name, in small letters.
+-- Assumes nothing.
+use Prim.Native.Nat.{ℕ, _+_, _*_, _<_, _≤_}
+use mathlib.Core.Path.{_≡_}
+use mathlib.Core.Logic.{_⊎_}
+use mathlib.Core.Option.{none, some}
+use mathlib.Core.List.{List, [], _∷_, _++_, map}
+use lib.ListN.{length, getD, take, drop, replicate}
+use Rattle.record.specs.Common.{Every, Byte, text}
+use Rattle.record.specs.Refusals.{output-full, bad-window, bad-mark}
+use Rattle.record.specs.declared.Record.{Record}
+use Rattle.record.specs.Line.{judge}
+use Rattle.record.specs.Written.{rewritten}
+use Rattle.reader.specs.Lines.{LF, lines}
+use Rattle.writer.specs.Told.{Told, wrote, refuses}
+use Rattle.writer.specs.Text.{chars, refused}
+use Rattle.writer.specs.Line.{line}
+use Rattle.writer.specs.Object.{object}
+use Rattle.loader.specs.Load.{accepted, Loaded, load}
+use Rattle.loader.specs.Claims.{Window}
+use Rattle.page.specs.declared.PageError.{PageError}
+use Rattle.page.specs.declared.Paged.{Paged}
+use Rattle.page.specs.declared.Paged.the-variants.{Wrote, Refused}
+use Rattle.page.specs.Pieces.{pieces}
+use Rattle.page.specs.File.{page-records, file, page-text}
+use Rattle.page.specs.Told.{told, PageLength, WritePage}
+
+-- ---- a page that is written
+
+-- a mark is 0 or 1
+abbrev pub Mark : ℕ → Type 0
+Mark m = (m ≡ 0) ⊎ (m ≡ 1)
+
+-- a page that neither 16 nor 19 refuses
+pub record Page (first : ℕ) (page marks : List ℕ) : Type 0 where
+  pub window : Window first page marks
+  pub marks-good : Every Mark marks
+
+-- the text is the object of its records, so each has its line and the one end record is last
+abbrev pub File-is-object : Type 0
+File-is-object = (first : ℕ) (page marks : List ℕ) → Window first page marks → object (page-records first marks) page ≡ chars (file first page marks)
+
+-- its lines are those of the records
+abbrev pub File-lines : Type 0
+File-lines = (first : ℕ) (page marks : List ℕ) → lines (file first page marks) ≡ map (λ (r : Record). line r page) (page-records first marks)
+
+-- each is the line that our writer writes for what it says
+abbrev pub Lines-canonical : Type 0
+Lines-canonical =
+    (first : ℕ) (page marks : List ℕ) → Window first page marks → Every Byte page
+    → Every (λ (l : List ℕ). rewritten (judge l) ≡ some l) (lines (file first page marks))
+
+-- ---- loaded again
+
+-- the load of the file: its marks are the marks, at marked places its bytes are the bytes, and every other place keeps its byte
+pub record Restores (page marks old-page : List ℕ) (l : Loaded) : Type 0 where
+  pub same-marks : l .marks ≡ marks
+  pub same-bytes : (i : ℕ) → getD marks i 0 ≡ 1 → getD (l .page) i 0 ≡ getD page i 0
+  pub others-kept : (i : ℕ) → getD marks i 0 ≡ 0 → getD (l .page) i 0 ≡ getD old-page i 0
+
+-- into the same window, whatever page and marks held, it is accepted with all its data records
+abbrev pub Loads-back : Type 0
+Loads-back =
+    (first : ℕ) (page marks old-page old-marks : List ℕ) → Page first page marks → Every Byte page
+    → length old-page ≡ length page → length old-marks ≡ length marks
+    → let l = load (file first page marks) first old-page old-marks in
+    (l .answer ≡ accepted (record { records = length (pieces first 0 none marks) })) × Restores page marks old-page l
+
+-- ---- two pages
+
+-- for one window, equal marks and equal marked bytes give equal files
+abbrev pub Equal-files : Type 0
+Equal-files =
+    (first : ℕ) (page₁ page₂ marks : List ℕ) → length page₁ ≡ length marks → length page₂ ≡ length marks
+    → ((i : ℕ) → getD marks i 0 ≡ 1 → getD page₁ i 0 ≡ getD page₂ i 0)
+    → file first page₁ marks ≡ file first page₂ marks
+
+-- and nothing else does
+abbrev pub Files-tell : Type 0
+Files-tell =
+    (first : ℕ) (page₁ marks₁ page₂ marks₂ : List ℕ) → Page first page₁ marks₁ → Page first page₂ marks₂ → Every Byte page₁ → Every Byte page₂
+    → length page₁ ≡ length page₂ → file first page₁ marks₁ ≡ file first page₂ marks₂
+    → (marks₁ ≡ marks₂) × ((i : ℕ) → getD marks₁ i 0 ≡ 1 → getD page₁ i 0 ≡ getD page₂ i 0)
+
+-- ---- why a page is answered as it is
+
+-- the first mark that is neither 0 nor 1
+pub record First-bad (marks : List ℕ) (place : ℕ) : Type 0 where
+  pub inside : place < length marks
+  pub bad : ¬ Mark (getD marks place 0)
+  pub none-before : (i : ℕ) → i < place → Mark (getD marks i 0)
+
+-- a reason for an answer, for an output of this much room
+pub data Why (first : ℕ) (page marks : List ℕ) (room : ℕ) : Told → Type 0 where
+  no-window : ¬ Window first page marks → Why first page marks room (refuses bad-window)
+  ill-marked : (place : ℕ) → Window first page marks → First-bad marks place → Why first page marks room (refuses (bad-mark place))
+  no-room : Page first page marks → room < length (file first page marks) → Why first page marks room (refuses output-full)
+  all-written : Page first page marks → length (file first page marks) ≤ room → Why first page marks room (wrote (length (file first page marks)))
+
+-- each answer has one
+abbrev pub Reasons : Type 0
+Reasons = (first : ℕ) (page marks out : List ℕ) (r : Paged) (out′ : List ℕ) → WritePage first page marks out r out′ → Why first page marks (length out) (told r)
+
+-- and no second answer has one
+abbrev pub One-reason : Type 0
+One-reason = (first : ℕ) (page marks : List ℕ) (room : ℕ) (t t′ : Told) → Why first page marks room t → Why first page marks room t′ → t ≡ t′
+
+-- seven bytes for each place and 58 more have room for every file
+abbrev pub Room : Type 0
+Room = (first : ℕ) (page marks : List ℕ) → Window first page marks → length (file first page marks) ≤ 7 * length marks + 58
+
+-- the length that `page_length` tells is the one that `write_page` writes
+abbrev pub Length-written : Type 0
+Length-written =
+    (first : ℕ) (page marks out : List ℕ) (n m : ℕ) (out′ : List ℕ)
+    → PageLength first page marks (Wrote n) → WritePage first page marks out (Wrote m) out′ → n ≡ m
+
+-- ---- the output
+
+abbrev pub Refusal-changes-nothing : Type 0
+Refusal-changes-nothing = (first : ℕ) (page marks out : List ℕ) (e : PageError) (out′ : List ℕ) → WritePage first page marks out (Refused e) out′ → out′ ≡ out
+
+-- the first n bytes are the file, and what lies behind them is as it was
+abbrev pub Rest-untouched : Type 0
+Rest-untouched =
+    (first : ℕ) (page marks out : List ℕ) (n : ℕ) (out′ : List ℕ) → WritePage first page marks out (Wrote n) out′
+    → (take n out′ ≡ file first page marks) × (drop n out′ ≡ drop n out)
+
+-- ---- no second answer meets a contract
+
+abbrev pub Told-apart : Type 0
+Told-apart = (a b : Paged) → told a ≡ told b → a ≡ b
+
+abbrev pub Page-length-unique : Type 0
+Page-length-unique = (first : ℕ) (page marks : List ℕ) (r r′ : Paged) → PageLength first page marks r → PageLength first page marks r′ → r ≡ r′
+
+abbrev pub Write-page-unique : Type 0
+Write-page-unique =
+    (first : ℕ) (page marks out : List ℕ) (r r′ : Paged) (o o′ : List ℕ)
+    → WritePage first page marks out r o → WritePage first page marks out r′ o′ → (r ≡ r′) × (o ≡ o′)
+
+-- ---- examples
+
+pub record Examples : Type 0 where
+  -- nothing is marked: the end record alone
+  pub bare : file 0 (1 ∷ 2 ∷ []) (0 ∷ 0 ∷ []) ≡ text ":00000001FF" ++ (LF ∷ [])
+  -- FFFE to 10011 but for 10010: two bytes, a new upper half, sixteen, and one behind the gap
+  pub across : file 0xFFFE (replicate 20 0xAB) (replicate 18 1 ++ (0 ∷ 1 ∷ []))
+      ≡ text ":020000040000FA" ++ (LF ∷ text ":02FFFE00ABABAB") ++ (LF ∷ text ":020000040001F9")
+      ++ (LF ∷ text ":10000000ABABABABABABABABABABABABABABABAB40") ++ (LF ∷ text ":01001100AB43") ++ (LF ∷ text ":00000001FF") ++ (LF ∷ [])
+  -- the last three places that there are
+  pub top : file 0xFFFFFFFD (1 ∷ 2 ∷ 3 ∷ []) (1 ∷ 1 ∷ 1 ∷ [])
+      ≡ text ":02000004FFFFFC" ++ (LF ∷ text ":03FFFD00010203FB") ++ (LF ∷ text ":00000001FF") ++ (LF ∷ [])
+  pub second-mark-bad : page-text 0 (1 ∷ 2 ∷ []) (1 ∷ 2 ∷ []) ≡ refused (bad-mark 1)

@@ -1,0 +1,68 @@
+-- The file of a page with marks, document 02's fourth request: its records, its text, and what stands in its place.
+-- Assumes nothing.
+use Prim.Native.Nat.{ℕ, suc, _+_, _/_, _%_}
+use mathlib.Core.Bool.{Bool, false}
+use mathlib.Core.Option.{Option, none, some}
+use mathlib.Core.List.{List, [], _∷_, _++_}
+use lib.Dec.{eqb, leb, ltb}
+use lib.ListN.{length}
+use Rattle.record.specs.Common.{if_then_else_}
+use Rattle.record.specs.Refusals.{bad-window, bad-mark}
+use Rattle.record.specs.declared.Record.{Record}
+use Rattle.record.specs.declared.Record.the-variants.{Data, EndOfFile, ExtendedLinearAddress}
+use Rattle.writer.specs.Text.{Text, chars, refused}
+use Rattle.writer.specs.Object.{joined-lines}
+use Rattle.loader.specs.Load.{unfit}
+use Rattle.page.specs.Pieces.{Piece, pieces}
+
+-- ---- the records
+
+abbrev pub address-of : (first : ℕ) → Piece → ℕ
+address-of first p = first + p .place
+
+-- the upper 16 bits of a piece's address
+abbrev pub upper : (first : ℕ) → Piece → ℕ
+upper first p = address-of first p / 65536
+
+-- its data record: the page is the pool that the payload lies in
+abbrev pub data-of : (first : ℕ) → Piece → Record
+data-of first p = Data (address-of first p % 65536) (p .place) (p .size)
+
+unfoldable pub is-latest : Option ℕ → (upper : ℕ) → Bool
+is-latest none u = false
+is-latest (some v) u = eqb v u
+
+-- a type 04 record before the first data record, and wherever the upper 16 bits change
+unfoldable pub extension : (latest : Option ℕ) (upper : ℕ) → List Record
+unfolding is-latest
+extension latest u = if is-latest latest u then [] else ExtendedLinearAddress u ∷ []
+
+-- the records of these pieces behind the latest upper 16 bits, if there are any; the end record is last
+unfoldable pub records : (first : ℕ) (latest : Option ℕ) → List Piece → List Record
+unfolding extension
+records first latest [] = EndOfFile ∷ []
+records first latest (p ∷ ps) = extension latest (upper first p) ++ (data-of first p ∷ records first (some (upper first p)) ps)
+
+unfoldable pub page-records : (first : ℕ) (marks : List ℕ) → List Record
+unfolding records pieces
+page-records first marks = records first none (pieces first 0 none marks)
+
+-- ---- the text
+
+-- each record's line as our writer writes it, with one LF
+unfoldable pub file : (first : ℕ) (page marks : List ℕ) → List ℕ
+unfolding joined-lines page-records
+file first page marks = joined-lines (page-records first marks) page
+
+-- how many marks stand ahead of the first that is neither 0 nor 1
+unfoldable pub good-marks : List ℕ → ℕ
+good-marks [] = 0
+good-marks (m ∷ marks) = if leb m 1 then suc (good-marks marks) else 0
+
+-- 16, then 19, and else the file; 15 comes where an output has no room for it
+unfoldable pub page-text : (first : ℕ) (page marks : List ℕ) → Text
+unfolding unfit good-marks file
+page-text first page marks =
+    if unfit first (length page) (length marks) then refused bad-window else
+    if ltb (good-marks marks) (length marks) then refused (bad-mark (good-marks marks)) else
+    chars (file first page marks)

@@ -1,0 +1,103 @@
+-- What the private functions of the page writer promise each other.
+-- Assumes nothing.
+use Prim.Native.Nat.{ℕ, _+_, _%_, _^_, _≤_, _<_}
+use mathlib.Core.Path.{_≡_}
+use mathlib.Core.Logic.{_≢_, _⊎_}
+use mathlib.Core.Bool.{false}
+use mathlib.Core.Option.{Option, none, some}
+use mathlib.Core.List.{List, [], _∷_}
+use lib.Dec.{ltb}
+use lib.ListN.{length, getD, drop}
+use Rattle.record.specs.Common.{if_then_else_}
+use Rattle.record.specs.Refusals.{Refusal, output-full}
+use Rattle.record.specs.declared.Record.{Record}
+use Rattle.writer.specs.declared.Written.{Written}
+use Rattle.writer.specs.declared.Survey.{Survey}
+use Rattle.writer.specs.Told.{refuses}
+use Rattle.writer.specs.Told as writer
+use Rattle.writer.specs.Text.{refused, chars}
+use Rattle.writer.specs.Claims.{Surveys}
+use Rattle.loader.specs.Claims.{Window}
+use Rattle.page.specs.declared.Walk.{Walk}
+use Rattle.page.specs.declared.Step.{Step}
+use Rattle.page.specs.declared.Surveyed.{Surveyed}
+use Rattle.page.specs.declared.Surveyed.the-variants.{Of, Refused}
+use Rattle.page.specs.declared.Paged.{Paged}
+use Rattle.page.specs.Pieces.{pieces}
+use Rattle.page.specs.File.{records, page-records, file, page-text}
+use Rattle.page.specs.Told.{refusal-of, told}
+
+-- ---- places
+
+-- from one place up to another no place is marked, and the other is, or is the end
+pub record NextMarked (marks : List ℕ) (from r : ℕ) : Type 0 where
+  pub low : from ≤ r
+  pub high : r ≤ length marks
+  pub unmarked : (i : ℕ) → from ≤ i → i < r → getD marks i 0 ≢ 1
+  pub there : (r ≡ length marks) ⊎ (getD marks r 0 ≡ 1)
+
+pub record Least (a b r : ℕ) : Type 0 where
+  pub first : r ≤ a
+  pub second : r ≤ b
+  pub one : (r ≡ a) ⊎ (r ≡ b)
+
+-- how far a piece may reach
+pub record Farthest (address place end r : ℕ) : Type 0 where
+  pub more : place < r
+  pub inside : r ≤ end
+  pub few : r ≤ place + 16
+  pub unbroken : address % 65536 + r ≤ place + 65536
+  pub no-less : (r ≡ end) ⊎ ((r ≡ place + 16) ⊎ (address % 65536 + r ≡ place + 65536))
+
+-- the place behind the piece that starts at a place: it may reach there, all behind its first place is marked, and there it has to end
+pub record PieceEnd (marks : List ℕ) (first start r : ℕ) : Type 0 where
+  pub more : start < r
+  pub inside : r ≤ length marks
+  pub few : r ≤ start + 16
+  pub unbroken : (first + start) % 65536 + r ≤ start + 65536
+  pub marked : (i : ℕ) → start < i → i < r → getD marks i 0 ≡ 1
+  pub ends : (r ≡ length marks) ⊎ ((r ≡ start + 16) ⊎ (((first + start) % 65536 + r ≡ start + 65536) ⊎ (getD marks r 0 ≢ 1)))
+
+-- ---- the walk over the records
+
+-- the upper 16 bits that are in force; 65,536, which they cannot be, stands for none
+unfoldable pub in-force : ℕ → Option ℕ
+in-force latest = if ltb latest 65536 then some latest else none
+
+-- the records that are left
+unfoldable pub left : (first : ℕ) (marks : List ℕ) → Walk → List Record
+unfolding in-force
+left first marks w =
+    if w .finished then [] else
+    records first (in-force (w .latest)) (pieces first (w .place) none (drop (w .place) marks))
+
+pub record Under-way (first : ℕ) (marks : List ℕ) (w : Walk) : Type 0 where
+  pub on : w .finished ≡ false
+  pub inside : w .place ≤ length marks
+  pub below : first + length marks ≤ 2 ^ 32
+
+-- one record further
+pub record Stepped (first : ℕ) (marks : List ℕ) (w : Walk) (r : Step) : Type 0 where
+  pub next : left first marks w ≡ r .given ∷ left first marks (r .walk)
+  pub inside : r .walk .place ≤ length marks
+
+-- ---- the answer
+
+-- a survey of the records of a page that has a file
+pub record Surveyed-whole (first : ℕ) (page marks : List ℕ) (s : Survey) : Type 0 where
+  pub window : Window first page marks
+  pub text-is : page-text first page marks ≡ chars (file first page marks)
+  pub surveys : Surveys page (page-records first marks) s
+
+-- or the refusal that stands in the file's place
+abbrev pub Surveyed-as : (first : ℕ) (page marks : List ℕ) → Surveyed → Type 0
+Surveyed-as first page marks (Of s) = Surveyed-whole first page marks s
+Surveyed-as first page marks (Refused e) = page-text first page marks ≡ refused (refusal-of e)
+
+-- an answer of the writer that can refuse only with 15
+abbrev pub May-be-full : Written → Type 0
+May-be-full w = (r : Refusal) → writer.told w ≡ refuses r → r ≡ output-full
+
+-- the same answer
+abbrev pub As-written : Written → Paged → Type 0
+As-written w r = told r ≡ writer.told w

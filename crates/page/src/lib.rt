@@ -1,0 +1,254 @@
+// A page with marks written back: each run of marked places becomes data records, with the type 04 records that they need and the end record.
+use record::Record;
+use writer::Survey;
+use writer::Written;
+ghost use mathlib.Core.Path.{_≡_};
+ghost use mathlib.Core.Bool.{false};
+ghost use Prim.Native.Nat.{_+_, _^_, _≤_, _<_};
+ghost use lib.ListN.{length};
+ghost use Rattle.writer.specs.Claims.{Surveys, Steps};
+ghost use Rattle.page.specs.File.{page-records, good-marks};
+ghost use Rattle.page.specs.Told.{PageLength, WritePage};
+ghost use Rattle.page.specs.Helpers.{NextMarked, Least, Farthest, PieceEnd, Under-way, Stepped, Surveyed-as, May-be-full, As-written};
+
+// The largest number of a `usize`.
+const MOST: usize = 18446744073709551615;
+
+// What stands for the upper 16 bits before any are in force.
+const NONE: u32 = 65536;
+
+// Why a page is not written.
+pub enum PageError {
+    BadWindow,
+    // The place of the first mark that is neither 0 nor 1.
+    BadMark(usize),
+    OutputFull,
+}
+
+// What a writer of a page answers.
+pub enum Paged {
+    // The length of the file.
+    Wrote(usize),
+    Refused(PageError),
+}
+
+// Where the writing of a page stands: at a place, behind a type 04 record with these upper 16 bits.
+struct Walk {
+    place: usize,
+    latest: u32,
+    finished: bool,
+}
+
+// A record of the file, and where the writing stands behind it.
+struct Step {
+    given: Record,
+    walk: Walk,
+}
+
+// The survey of a page's records, or why there is none.
+enum Surveyed {
+    Of(Survey),
+    Refused(PageError),
+}
+
+// How many marks stand ahead of the first that is neither 0 nor 1.
+fn good_marks(marks: &[u8]) -> usize
+    ensures { λ r. ⌜ r ≡ good-marks (now (marks .entry)) ⌝ }
+{
+    let mut i = 0;
+    while i < marks.len() {
+        if marks[i] > 1 {
+            return i;
+        }
+        i += 1;
+    }
+    i
+}
+
+// The first marked place from a place on, or the end.
+fn next_marked(marks: &[u8], from: usize) -> usize
+    requires { ⌜ from ≤ length (now marks) ⌝ }
+    ensures { λ r. ⌜ NextMarked (now (marks .entry)) from r ⌝ }
+{
+    let mut i = from;
+    while i < marks.len() {
+        if marks[i] == 1 {
+            return i;
+        }
+        i += 1;
+    }
+    i
+}
+
+// The lesser of two.
+fn least(a: usize, b: usize) -> usize
+    ensures { λ r. ⌜ Least a b r ⌝ }
+{
+    if a < b {
+        return a;
+    }
+    b
+}
+
+// How far a piece from a place on may reach: 16 places, the next multiple of 65,536, the end.
+fn farthest(address: u32, place: usize, end: usize) -> usize
+    requires { ⌜ place < end ⌝ }
+    ensures { λ r. ⌜ Farthest address place end r ⌝ }
+{
+    let room = 65536 - (address % 65536) as usize;
+    place + least(least(16, room), end - place)
+}
+
+// The place behind the piece that starts at a marked place.
+fn piece_end(marks: &[u8], first: u32, start: usize) -> usize
+    requires { ⌜ (start < length (now marks)) × (first + length (now marks) ≤ 2 ^ 32) ⌝ }
+    ensures { λ r. ⌜ PieceEnd (now (marks .entry)) first start r ⌝ }
+{
+    let end = farthest(first + (start as u32), start, marks.len());
+    let mut i = start + 1;
+    while i < end {
+        if marks[i] != 1 {
+            return i;
+        }
+        i += 1;
+    }
+    i
+}
+
+// The next record of the file.
+fn next_record(w: Walk, first: u32, marks: &[u8]) -> Step
+    requires { ⌜ Under-way first (now marks) w ⌝ }
+    ensures { λ r. ⌜ Stepped first (now (marks .entry)) w r ⌝ }
+{
+    let start = next_marked(marks, w.place);
+    if start == marks.len() {
+        return Step {
+            given: Record::EndOfFile,
+            walk: Walk {
+                place: start,
+                latest: w.latest,
+                finished: true,
+            },
+        };
+    }
+    let address = first + (start as u32);
+    let upper = address / 65536;
+    if upper != w.latest {
+        return Step {
+            given: Record::ExtendedLinearAddress(upper as u16),
+            walk: Walk {
+                place: start,
+                latest: upper,
+                finished: false,
+            },
+        };
+    }
+    let end = piece_end(marks, first, start);
+    Step {
+        given: Record::Data {
+            offset: (address % 65536) as u16,
+            at: start,
+            len: end - start,
+        },
+        walk: Walk {
+            place: end,
+            latest: upper,
+            finished: false,
+        },
+    }
+}
+
+// Ahead of the first record.
+fn begin() -> Walk
+    ensures { λ r. ⌜ r ≡ record { place = 0; latest = 65536; finished = false } ⌝ }
+{
+    Walk {
+        place: 0,
+        latest: NONE,
+        finished: false,
+    }
+}
+
+// The survey of all records of the file.
+fn survey(first: u32, page: &[u8], marks: &[u8]) -> Survey
+    requires { ⌜ first + length (now marks) ≤ 2 ^ 32 ⌝ }
+    ensures { λ r. ⌜ Surveys (now (page .entry)) (page-records first (now (marks .entry))) r ⌝ }
+{
+    let mut s = Survey::new();
+    let mut w = begin();
+    let mut finished = false;
+    while !finished {
+        let step = next_record(w, first, marks);
+        let given = step.given;
+        s = s.add(given, page);
+        w = step.walk;
+        finished = w.finished;
+    }
+    s
+}
+
+// Each record of the file, from a start on.
+fn write_records(first: u32, page: &[u8], marks: &[u8], out: &mut [u8], start: Written) -> Written
+    requires { ⌜ first + length (now marks) ≤ 2 ^ 32 ⌝ }
+    ensures { λ r. ⌜ Steps (now (page .entry)) (now (out .entry)) start (page-records first (now (marks .entry))) r (now (out .exit)) ⌝ }
+{
+    let mut done = start;
+    let mut w = begin();
+    let mut finished = false;
+    while !finished {
+        let step = next_record(w, first, marks);
+        let given = step.given;
+        done = writer::write_next(done, given, page, out);
+        w = step.walk;
+        finished = w.finished;
+    }
+    done
+}
+
+// The survey of a page that has a file, or why it has none.
+fn survey_page(first: u32, page: &[u8], marks: &[u8]) -> Surveyed
+    ensures { λ r. ⌜ Surveyed-as first (now (page .entry)) (now (marks .entry)) r ⌝ }
+{
+    if loader::is_unfit(first, page.len(), marks.len()) {
+        return Surveyed::Refused(PageError::BadWindow);
+    }
+    let good = good_marks(marks);
+    if good < marks.len() {
+        return Surveyed::Refused(PageError::BadMark(good));
+    }
+    Surveyed::Of(survey(first, page, marks))
+}
+
+// The writer's answer, which refuses only with 15.
+fn as_paged(answer: Written) -> Paged
+    requires { ⌜ May-be-full answer ⌝ }
+    ensures { λ r. ⌜ As-written answer r ⌝ }
+{
+    match answer {
+        Written::Wrote(n) => Paged::Wrote(n),
+        Written::Refused(_) => Paged::Refused(PageError::OutputFull),
+    }
+}
+
+// How long the file of a page with marks is, or why it has none.
+pub fn page_length(first: u32, page: &[u8], marks: &[u8]) -> Paged
+    ensures { λ r. ⌜ PageLength first (now (page .entry)) (now (marks .entry)) r ⌝ }
+{
+    match survey_page(first, page, marks) {
+        Surveyed::Refused(e) => Paged::Refused(e),
+        Surveyed::Of(s) => as_paged(s.answer(MOST)),
+    }
+}
+
+// The file of a page with marks, whose first place has the address `first`, from the output's start on: its length, or why it is not written.
+pub fn write_page(first: u32, page: &[u8], marks: &[u8], out: &mut [u8]) -> Paged
+    ensures { λ r. ⌜ WritePage first (now (page .entry)) (now (marks .entry)) (now (out .entry)) r (now (out .exit)) ⌝ }
+{
+    match survey_page(first, page, marks) {
+        Surveyed::Refused(e) => Paged::Refused(e),
+        Surveyed::Of(s) => {
+            let start = s.begin(out.len());
+            as_paged(write_records(first, page, marks, out, start))
+        }
+    }
+}
