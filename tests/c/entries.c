@@ -42,21 +42,33 @@ static void end_case(void)
 /* ---- what is lent, between guards */
 
 #define MOST 71000
+#define MORE 100 /* the room behind a page's file, where there is more than it takes */
 #define EDGE 64
 #define GUARD 0xA5
 #define OLD 0x5C
 
 struct lent {
-    size_t len;
-    uint8_t all[EDGE + MOST + EDGE];
+    size_t len, room;
+    uint8_t *all;
 };
 
-static struct lent pool_, out_, page_, marks_, text_, list_, carry_;
+#define LENT(name, most)                             \
+    static uint8_t name##room[EDGE + (most) + EDGE]; \
+    static struct lent name = {0, sizeof name##room, name##room}
+
+LENT(pool_, MOST);
+LENT(out_, MOST);
+LENT(page_, MOST);
+LENT(marks_, MOST);
+LENT(text_, MOST);
+LENT(list_, MOST);
+LENT(carry_, MOST);
+LENT(file_, IHEX_MAX_PAGE_FILE + MORE);
 
 /* the place of `len` bytes, each OLD; null where there is none */
 static uint8_t *lend(struct lent *l, size_t len)
 {
-    memset(l->all, GUARD, sizeof l->all);
+    memset(l->all, GUARD, l->room);
     memset(l->all + EDGE, OLD, len);
     l->len = len;
     return len ? l->all + EDGE : NULL;
@@ -71,28 +83,26 @@ static const uint8_t *given(struct lent *l, const void *bytes, size_t len)
     return place;
 }
 
+/* whether each of the bytes is this one */
+static int all_are(uint8_t byte, const uint8_t *bytes, size_t n)
+{
+    return n == 0 || (bytes[0] == byte && memcmp(bytes, bytes + 1, n - 1) == 0);
+}
+
 static int guarded(const struct lent *l)
 {
-    size_t i;
-    for (i = 0; i < EDGE; i++)
-        if (l->all[i] != GUARD)
-            return 0;
-    for (i = EDGE + l->len; i < sizeof l->all; i++)
-        if (l->all[i] != GUARD)
-            return 0;
-    return 1;
+    size_t end = EDGE + l->len;
+    return all_are(GUARD, l->all, EDGE) && all_are(GUARD, l->all + end, l->room - end);
 }
 
 /* the guards stand, and all bytes are as they were but `n` from `at` on, which are these */
 static int holds(const struct lent *l, size_t at, const void *bytes, size_t n)
 {
-    size_t i;
-    if (!guarded(l))
+    const uint8_t *place = l->all + EDGE;
+    size_t end = at + n;
+    if (!guarded(l) || end > l->len || !all_are(OLD, place, at) || !all_are(OLD, place + end, l->len - end))
         return 0;
-    for (i = 0; i < l->len; i++)
-        if ((i < at || i >= at + n) && l->all[EDGE + i] != OLD)
-            return 0;
-    return n == 0 || memcmp(l->all + EDGE + at, bytes, n) == 0;
+    return n == 0 || memcmp(place + at, bytes, n) == 0;
 }
 
 static int untouched(const struct lent *l)
@@ -1490,6 +1500,416 @@ static void full_page(void)
     CHECK(i == sizeof set);
 }
 
+/* ---- a page written back */
+
+#define END_LINE ":00000001FF\n"
+
+/* what is to be written */
+static struct {
+    uint32_t first;
+    size_t page_len, marks_len;
+    uint8_t page[IHEX_MAX_PAGE + 1], marks[IHEX_MAX_PAGE + 1];
+} window;
+
+/* a window with nothing marked, and AB at each place */
+static void open_window(uint32_t first, size_t places)
+{
+    window.first = first;
+    window.page_len = window.marks_len = places;
+    memset(window.page, 0xAB, sizeof window.page);
+    memset(window.marks, 0, sizeof window.marks);
+}
+
+static void mark(size_t at, size_t n)
+{
+    memset(window.marks + at, 1, n);
+}
+
+/* bytes that tell one place from another */
+static void fill_window(void)
+{
+    size_t i;
+    for (i = 0; i < window.page_len; i++)
+        window.page[i] = (uint8_t)(i * 7 + i / 256);
+}
+
+static uint32_t page_length(void)
+{
+    const uint8_t *page = given(&page_, window.page, window.page_len);
+    const uint8_t *marks = given(&marks_, window.marks, window.marks_len);
+    uint32_t r;
+    fresh();
+    r = ihex_page_length(window.first, page, window.page_len, marks, window.marks_len, &a.value);
+    CHECK(fenced() && b.value == EDGES && c.value == EDGES && same(&page_, window.page) && same(&marks_, window.marks));
+    return r;
+}
+
+/* where the file goes: the widest room is for the longest only */
+static struct lent *file;
+
+static uint32_t page_file(size_t out_len)
+{
+    const uint8_t *page = given(&page_, window.page, window.page_len);
+    const uint8_t *marks = given(&marks_, window.marks, window.marks_len);
+    uint8_t *out;
+    uint32_t r;
+    file = out_len <= MOST ? &out_ : &file_;
+    out = lend(file, out_len);
+    fresh();
+    r = ihex_write_page(window.first, page, window.page_len, marks, window.marks_len, out, out_len, &a.value);
+    CHECK(fenced() && b.value == EDGES && c.value == EDGES && same(&page_, window.page) && same(&marks_, window.marks));
+    return r;
+}
+
+/* how many data records a file has: a line's type stands behind its colon, length and address */
+static uint64_t data_records(const char *text, size_t n)
+{
+    uint64_t count = 0;
+    size_t i;
+    for (i = 0; i + 9 < n; i++)
+        if (text[i] == ':' && text[i + 7] == '0' && text[i + 8] == '0')
+            count++;
+    return count;
+}
+
+/* the file that was just written, loaded into the same window: all marks are stated anew, and unmarked bytes are kept */
+static int loads_back(const char *text, size_t n)
+{
+    size_t i, places = window.page_len;
+    uint8_t *page = lend(&page_, places), *marks = lend(&marks_, places);
+    fresh();
+    if (ihex_load(file->all + EDGE, n, window.first, page, places, marks, places, &line.value, &a.value, &b.value) != IHEX_OK)
+        return 0;
+    if (a.value != data_records(text, n) || b.value != 0 || line.value != 0 || !fenced() || !same(&marks_, window.marks))
+        return 0;
+    for (i = 0; i < places; i++)
+        if (page[i] != (window.marks[i] ? window.page[i] : OLD))
+            return 0;
+    return guarded(&page_) && same(file, text);
+}
+
+/* whatever the bytes at unmarked places are */
+static void turn_unmarked(void)
+{
+    size_t i;
+    for (i = 0; i < window.page_len; i++)
+        if (!window.marks[i])
+            window.page[i] = (uint8_t)~window.page[i];
+}
+
+/* one test: the window has this file, with more room, with just enough and with too little */
+static void has_file(const char *text, size_t n)
+{
+    begin_case();
+    CHECK(page_length() == IHEX_OK && a.value == n);
+    CHECK(page_file(n - 1) == IHEX_REFUSED + IHEX_OUTPUT_FULL && a.value == 0 && untouched(file));
+    CHECK(page_file(0) == IHEX_REFUSED + IHEX_OUTPUT_FULL && a.value == 0 && untouched(file));
+    CHECK(page_file(n + MORE) == IHEX_OK && a.value == n && holds(file, 0, text, n));
+    turn_unmarked();
+    CHECK(page_length() == IHEX_OK && a.value == n);
+    CHECK(page_file(n) == IHEX_OK && a.value == n && same(file, text));
+    CHECK(loads_back(text, n));
+    end_case();
+}
+
+/* one test: neither function takes the window, whatever the room is */
+static void has_no_file(uint32_t refusal, uint64_t value)
+{
+    begin_case();
+    CHECK(page_length() == IHEX_REFUSED + refusal && a.value == value);
+    CHECK(page_file(MORE) == IHEX_REFUSED + refusal && a.value == value && untouched(file));
+    CHECK(page_file(0) == IHEX_REFUSED + refusal && a.value == value && untouched(file));
+    end_case();
+}
+
+/* the file that a window should have, made place by place */
+static char wanted[IHEX_MAX_PAGE_FILE];
+static size_t wanted_len;
+
+static void want_byte(uint8_t byte)
+{
+    static const char digits[] = "0123456789ABCDEF";
+    wanted[wanted_len++] = digits[byte / 16];
+    wanted[wanted_len++] = digits[byte % 16];
+}
+
+/* a line with n bytes of payload; none is written for a data record without any */
+static void want_line(uint8_t type, uint32_t offset, const uint8_t *bytes, size_t n)
+{
+    uint8_t head[4], sum = 0;
+    size_t i;
+    if (type == IHEX_DATA && n == 0)
+        return;
+    head[0] = (uint8_t)n;
+    head[1] = (uint8_t)(offset / 256);
+    head[2] = (uint8_t)offset;
+    head[3] = type;
+    wanted[wanted_len++] = ':';
+    for (i = 0; i < 4 + n; i++) {
+        uint8_t byte = i < 4 ? head[i] : bytes[i - 4];
+        want_byte(byte);
+        sum = (uint8_t)(sum + byte);
+    }
+    want_byte((uint8_t)-sum);
+    wanted[wanted_len++] = '\n';
+}
+
+static void want_page(void)
+{
+    uint8_t record[16], upper[2];
+    uint32_t offset = 0, base = UINT32_MAX;
+    size_t p, n = 0;
+    wanted_len = 0;
+    for (p = 0; p < window.page_len; p++) {
+        uint32_t address = window.first + (uint32_t)p;
+        if (n == 16 || !window.marks[p] || address % 65536 == 0) {
+            want_line(IHEX_DATA, offset, record, n);
+            n = 0;
+        }
+        if (!window.marks[p])
+            continue;
+        if (base != address / 65536) {
+            base = address / 65536;
+            upper[0] = (uint8_t)(base / 256);
+            upper[1] = (uint8_t)base;
+            want_line(IHEX_EXTENDED_LINEAR_ADDRESS, 0, upper, 2);
+        }
+        if (n == 0)
+            offset = address % 65536;
+        record[n++] = window.page[p];
+    }
+    want_line(IHEX_DATA, offset, record, n);
+    want_line(IHEX_END_OF_FILE, 0, NULL, 0);
+}
+
+static void has_wanted_file(void)
+{
+    want_page();
+    has_file(wanted, wanted_len);
+}
+
+/* the window has this file, and it is the one that is wanted place by place */
+static void has_text(const char *text)
+{
+    has_file(text, strlen(text));
+    want_page();
+    CHECK(wanted_len == strlen(text) && memcmp(wanted, text, wanted_len) == 0);
+}
+
+#define AB4 "ABABABAB"
+#define AB16 AB4 AB4 AB4 AB4
+
+/* a run across a multiple of 65,536 is cut there, and a gap across it has the type 04 record behind it */
+static void pages_across_a_multiple(void)
+{
+    open_window(0xFFFE, 20);
+    mark(0, 20);
+    window.marks[18] = 0;
+    has_text(":020000040000FA\n:02FFFE00ABABAB\n:020000040001F9\n:10000000" AB16 "40\n:01001100AB43\n" END_LINE);
+    open_window(0xFFF0, 40);
+    mark(8, 25);
+    has_text(":020000040000FA\n:08FFF800" AB4 AB4 "A9\n:020000040001F9\n:10000000" AB16 "40\n:01001000AB44\n" END_LINE);
+    open_window(0xFFFE, 6);
+    mark(0, 1);
+    mark(3, 2);
+    has_text(":020000040000FA\n:01FFFE00AB57\n:020000040001F9\n:02000100ABABA7\n" END_LINE);
+    open_window(0xFFFE, 6);
+    mark(2, 1);
+    has_text(":020000040001F9\n:01000000AB54\n" END_LINE);
+    open_window(0xFFFE, 6);
+    mark(1, 1);
+    has_text(":020000040000FA\n:01FFFF00AB56\n" END_LINE);
+    open_window(0x7FFFFFFF, 2);
+    mark(0, 2);
+    has_text(":020000047FFF7C\n:01FFFF00AB56\n:0200000480007A\n:01000000AB54\n" END_LINE);
+}
+
+/* records are counted from the run's start, not from a multiple of 16 */
+static void pages_cut_into_records(void)
+{
+    open_window(0, 40);
+    mark(3, 32);
+    has_text(":020000040000FA\n:10000300" AB16 "3D\n:10001300" AB16 "2D\n" END_LINE);
+    open_window(0, 40);
+    mark(3, 5);
+    mark(9, 17);
+    has_text(":020000040000FA\n:05000300" AB4 "ABA1\n:10000900" AB16 "37\n:01001900AB3B\n" END_LINE);
+    open_window(0xFFFFFFFF, 1);
+    mark(0, 1);
+    has_text(":02000004FFFFFC\n:01FFFF00AB56\n" END_LINE);
+}
+
+/* the end record stands alone */
+static void pages_without_marks(void)
+{
+    static const size_t lengths[] = {0, 1, 17, IHEX_MAX_PAGE};
+    static const uint32_t firsts[] = {0, 0x8001, 0xFFFF0000};
+    size_t i, k;
+    for (i = 0; i < sizeof lengths / sizeof *lengths; i++)
+        for (k = 0; k < sizeof firsts / sizeof *firsts; k++) {
+            open_window(firsts[k], lengths[i]);
+            has_text(END_LINE);
+        }
+    open_window(0xFFFFFFFF, 0);
+    has_text(END_LINE);
+    open_window(0xFFFFFFFF, 1);
+    has_text(END_LINE);
+}
+
+/* one run in a window that it fills, and in one with a place on either side */
+static void runs_in_pages(void)
+{
+    static const size_t runs[] = {1, 2, 15, 16, 17, 31, 32, 33, 255, 256, 257, 65534, 65535, 65536};
+    static const uint32_t firsts[] = {0, 1, 0xFFF8, 0xFFFF, 0x10000, 0x18001, 0x7FFF8000, 0xFFFEFFFF, 0xFFFF0000};
+    size_t i, k;
+    for (i = 0; i < sizeof runs / sizeof *runs; i++)
+        for (k = 0; k < sizeof firsts / sizeof *firsts; k++) {
+            open_window(firsts[k], runs[i]);
+            fill_window();
+            mark(0, runs[i]);
+            has_wanted_file();
+            if (firsts[k] % 65536 == 0)
+                CHECK(wanted_len == 16 + 2 * runs[i] + 12 * ((runs[i] + 15) / 16) + 12);
+            if (runs[i] + 2 > IHEX_MAX_PAGE)
+                continue;
+            open_window(firsts[k], runs[i] + 2);
+            fill_window();
+            mark(1, runs[i]);
+            has_wanted_file();
+        }
+}
+
+/* page and marks of two lengths, too many places, an end beyond 2^32: ahead of marks and room */
+static void pages_in_bad_windows(void)
+{
+    static const struct {
+        uint32_t first;
+        size_t page_len, marks_len;
+    } bad[] = {
+        {0, 0, 1}, {0, 1, 0}, {0, 2, 3}, {0, 3, 2}, {0, IHEX_MAX_PAGE, IHEX_MAX_PAGE + 1}, {0, IHEX_MAX_PAGE + 1, IHEX_MAX_PAGE},
+        {0, IHEX_MAX_PAGE + 1, IHEX_MAX_PAGE + 1}, {0xFFFFFFFF, 2, 2}, {0xFFFFFFF0, 17, 17},
+        {0xFFFF0001, IHEX_MAX_PAGE, IHEX_MAX_PAGE}, {0xFFFFFFFF, IHEX_MAX_PAGE, IHEX_MAX_PAGE},
+    };
+    static const uint8_t marks[] = {0, 1, 2};
+    size_t i, k;
+    for (i = 0; i < sizeof bad / sizeof *bad; i++)
+        for (k = 0; k < sizeof marks; k++) {
+            open_window(bad[i].first, bad[i].page_len);
+            window.marks_len = bad[i].marks_len;
+            memset(window.marks, marks[k], sizeof window.marks);
+            has_no_file(IHEX_BAD_WINDOW, 0);
+        }
+}
+
+/* windows that end at 2^32, or hold all places that one may have */
+static void pages_in_last_windows(void)
+{
+    static const struct {
+        uint32_t first;
+        size_t places;
+    } last[] = {{0xFFFFFFFF, 1}, {0xFFFFFFF0, 16}, {0xFFFFFFEF, 17}, {0xFFFF0000, 65536}, {0, 65536}, {0x8000, 65536}};
+    size_t i, p;
+    for (i = 0; i < sizeof last / sizeof *last; i++) {
+        open_window(last[i].first, last[i].places);
+        fill_window();
+        mark(0, last[i].places);
+        has_wanted_file();
+        for (p = 0; p < last[i].places; p += 3)
+            window.marks[p] = 0;
+        has_wanted_file();
+        open_window(last[i].first, last[i].places);
+        mark(last[i].places - 1, 1);
+        has_wanted_file();
+    }
+}
+
+/* the first mark that is neither 0 nor 1 is named, ahead of any want of room */
+static void pages_with_bad_marks(void)
+{
+    static const uint8_t bad[] = {2, 3, 127, 128, 254, 255};
+    static const size_t lengths[] = {1, 2, 40, IHEX_MAX_PAGE};
+    size_t i, k, n;
+    for (i = 0; i < sizeof bad; i++)
+        for (k = 0; k < sizeof lengths / sizeof *lengths; k++) {
+            n = lengths[k];
+            open_window(0x8000, n);
+            mark(n / 2, n - n / 2);
+            window.marks[n - 1] = bad[i];
+            has_no_file(IHEX_BAD_MARK, n - 1);
+            window.marks[n / 2] = bad[i];
+            has_no_file(IHEX_BAD_MARK, n / 2);
+            window.marks[n / 2] = (uint8_t)(257 - bad[i]);
+            has_no_file(IHEX_BAD_MARK, n / 2);
+            window.marks[0] = bad[i];
+            has_no_file(IHEX_BAD_MARK, 0);
+        }
+}
+
+/* a whole window with every second place marked, but two side by side at a multiple of 65,536: no file is longer */
+static void greatest_files(void)
+{
+    static const size_t before[] = {1, 3, 32769, 65535};
+    size_t i, p;
+    CHECK(IHEX_MAX_PAGE_FILE == 7 * IHEX_MAX_PAGE + 58);
+    for (i = 0; i < sizeof before / sizeof *before; i++) {
+        open_window((uint32_t)(0x20000 - before[i]), IHEX_MAX_PAGE);
+        fill_window();
+        for (p = 0; p < IHEX_MAX_PAGE; p++)
+            window.marks[p] = p < before[i] ? p % 2 == 0 : p % 2 == 1;
+        has_wanted_file();
+        CHECK(wanted_len == IHEX_MAX_PAGE_FILE);
+        window.marks[before[i]] = 0;
+        has_wanted_file();
+        CHECK(wanted_len == IHEX_MAX_PAGE_FILE - 14 - (before[i] == 65535 ? 16 : 0));
+    }
+}
+
+/* a number below the limit, from a fixed sequence */
+static uint32_t draw(uint32_t limit)
+{
+    static uint32_t drawn = 4;
+    drawn = drawn * 1664525u + 1013904223u;
+    return (uint32_t)((uint64_t)drawn * limit >> 32);
+}
+
+/* a window that mostly crosses a multiple of 65,536 or ends close to 2^32, with runs and gaps of up to `longest` places */
+static void draw_window(void)
+{
+    static const uint32_t longest[] = {2, 5, 20, 70};
+    uint32_t places = draw(300), most = longest[draw(4)];
+    size_t p = 0, n;
+    open_window(draw(65536) << 16 | draw(65536), places);
+    if (draw(4) > 0)
+        window.first = (draw(65535) + 1) * 65536 - draw(places + 2);
+    else if (draw(2) == 0)
+        window.first = 0 - (places + draw(3));
+    if (places > 0 && window.first > 0 - places)
+        window.first = 0 - places;
+    for (n = 0; n < places; n++)
+        window.page[n] = (uint8_t)draw(256);
+    while (p < places) {
+        n = 1 + draw(most);
+        if (n > places - p)
+            n = places - p;
+        mark(p, draw(2) ? n : 0);
+        p += n + draw(2);
+    }
+}
+
+static void drawn_pages(void)
+{
+    size_t i;
+    for (i = 0; i < 4000; i++) {
+        draw_window();
+        has_wanted_file();
+        if (i % 8 == 0 && window.page_len > 0) {
+            size_t bad = draw((uint32_t)window.page_len);
+            window.marks[bad] = (uint8_t)(2 + draw(254));
+            has_no_file(IHEX_BAD_MARK, bad);
+        }
+    }
+}
+
 int main(void)
 {
     checksums();
@@ -1530,6 +1950,15 @@ int main(void)
     places_in_loads();
     windows();
     full_page();
+    pages_across_a_multiple();
+    pages_cut_into_records();
+    pages_without_marks();
+    runs_in_pages();
+    pages_in_bad_windows();
+    pages_in_last_windows();
+    pages_with_bad_marks();
+    greatest_files();
+    drawn_pages();
     printf("%d passed, %d failed\n", passed, failed);
     return failed != 0;
 }

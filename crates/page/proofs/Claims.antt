@@ -2,7 +2,7 @@
 -- Assumes nothing.
 use Prim.Native.Nat.{ℕ, zero, suc, _+_, _<_, _≤_}
 use mathlib.Core.Path.{_≡_, refl, sym, _∙_, ap}
-use mathlib.Core.Logic.{inl, inr}
+use mathlib.Core.Logic.{_⊎_, inl, inr}
 use mathlib.Core.Bool.{Bool, true, false}
 use mathlib.Core.List.{List, [], _∷_}
 use native.Mathlib.Omega.{arith}
@@ -28,7 +28,7 @@ use Rattle.page.specs.declared.Paged.{Paged}
 use Rattle.page.specs.declared.Paged.the-variants.{Wrote, Refused}
 use Rattle.page.specs.File.{file, good-marks, page-text}
 use Rattle.page.specs.Told.{refusal-of, told}
-use Rattle.page.specs.Claims.{Mark, Page, First-bad, Why, no-window, ill-marked, no-room, all-written, Reasons, One-reason, Length-written, Refusal-changes-nothing, Rest-untouched, Told-apart, Page-length-unique, Write-page-unique, Examples}
+use Rattle.page.specs.Claims.{Mark, Page, First-bad, Why, no-window, ill-marked, no-room, all-written, Reasons, One-reason, Length-as-written, Refusal-changes-nothing, Rest-untouched, Told-apart, Page-length-unique, Write-page-unique, Examples}
 use Rattle.page.proofs.Loading.{good-mark}
 
 -- ---- marks
@@ -126,21 +126,6 @@ one-reason first page marks room _ _ (all-written g l) (all-written g′ l′) =
 
 -- ---- the output
 
--- an answer with room is the answer that was measured
-with-room : (t : Told) (room n : ℕ) → wrote n ≡ if-room t room → t ≡ wrote n
-with-room (wrote p) room n e = go (leb p room) e
-  where
-    go : (b : Bool) → wrote n ≡ (if b then wrote p else refuses output-full) → wrote p ≡ wrote n
-    go true e = sym e
-    go false e = let z : _≡_ {A = ℕ} 0 1 = cc in absurd (omega arith)
-with-room (refuses r) room n e = sym e
-
-pub length-written : Length-written
-length-written first page marks out n m out′ l w =
-    let e = l .answer in
-    let f = with-room (place-behind (page-text first page marks) 0) (length out) m (w .answer) in
-    cc
-
 pub refusal-changes-nothing : Refusal-changes-nothing
 refusal-changes-nothing first page marks out e out′ w = go (page-text first page marks) (w .answer) (w .left)
   where
@@ -185,6 +170,19 @@ untold-told (Refused e) = ap Refused (error-again e)
 
 pub told-apart : Told-apart
 told-apart a b e = sym (untold-told a) ∙ ap untold e ∙ untold-told b
+
+pub length-as-written : Length-as-written
+length-as-written first page marks out r r′ out′ l w = go (page-text first page marks) (l .answer) (w .answer)
+  where
+    by-room : (n : ℕ) (b : Bool) → leb n (length out) ≡ b → told r ≡ wrote n → told r′ ≡ (if b then wrote n else refuses output-full)
+        → (r ≡ r′) ⊎ ((r′ ≡ Refused OutputFull) × ((n : ℕ) × (r ≡ Wrote n) × (length out < n)))
+    by-room n true e x y = inl (told-apart r r′ (x ∙ sym y))
+    by-room n false e x y = inr (told-apart r′ (Refused OutputFull) y, (n, told-apart r (Wrote n) x, leb-false n (length out) e))
+
+    go : (t : Text) → told r ≡ place-behind t 0 → told r′ ≡ if-room (place-behind t 0) (length out)
+        → (r ≡ r′) ⊎ ((r′ ≡ Refused OutputFull) × ((n : ℕ) × (r ≡ Wrote n) × (length out < n)))
+    go (chars cs) x y = by-room (0 + length cs) (leb (0 + length cs) (length out)) refl x y
+    go (refused e) x y = inl (told-apart r r′ (x ∙ sym y))
 
 pub page-length-unique : Page-length-unique
 page-length-unique first page marks r r′ x y = told-apart r r′ (x .answer ∙ sym (y .answer))

@@ -19,6 +19,7 @@ use Rattle.writer.specs.Object.{object}
 use Rattle.loader.specs.Load.{accepted, Loaded, load}
 use Rattle.loader.specs.Claims.{Window}
 use Rattle.page.specs.declared.PageError.{PageError}
+use Rattle.page.specs.declared.PageError.the-variants.{OutputFull}
 use Rattle.page.specs.declared.Paged.{Paged}
 use Rattle.page.specs.declared.Paged.the-variants.{Wrote, Refused}
 use Rattle.page.specs.Pieces.{pieces}
@@ -109,11 +110,11 @@ One-reason = (first : ℕ) (page marks : List ℕ) (room : ℕ) (t t′ : Told) 
 abbrev pub Room : Type 0
 Room = (first : ℕ) (page marks : List ℕ) → Window first page marks → length (file first page marks) ≤ 7 * length marks + 58
 
--- the length that `page_length` tells is the one that `write_page` writes
-abbrev pub Length-written : Type 0
-Length-written =
-    (first : ℕ) (page marks out : List ℕ) (n m : ℕ) (out′ : List ℕ)
-    → PageLength first page marks (Wrote n) → WritePage first page marks out (Wrote m) out′ → n ≡ m
+-- `page_length` answers as `write_page` does, but that the latter may lack the room
+abbrev pub Length-as-written : Type 0
+Length-as-written =
+    (first : ℕ) (page marks out : List ℕ) (r r′ : Paged) (out′ : List ℕ) → PageLength first page marks r → WritePage first page marks out r′ out′
+    → (r ≡ r′) ⊎ ((r′ ≡ Refused OutputFull) × ((n : ℕ) × (r ≡ Wrote n) × (length out < n)))
 
 -- ---- the output
 

@@ -1,0 +1,254 @@
+"""Pages written by ihex_write_page and loaded by other readers, and pages written by those and loaded by ihex_load.
+
+    interop.py COMMAND..    the words that start the program pagefile of tests/c
+
+Each page is one test for each reader and one for each writer. Each must have exactly the marked places, with their bytes. Files that a
+tool does not take, and tools that are not there, are passed over and count nothing. The last line is 'N passed, M failed'.
+"""
+import collections
+import io
+import os
+import random
+import shutil
+import subprocess
+import sys
+import tempfile
+
+from programs import end, told
+
+try:
+    import intelhex
+except ImportError:
+    intelhex = None
+
+PAGE = 65536
+TOP = 1 << 32
+
+Case = collections.namedtuple('Case', 'name first page marks')
+
+
+# ---- pages
+
+def filled(n):
+    return bytes((i * 7 + i // 256) % 256 for i in range(n))
+
+
+def runs(n, *pairs):
+    """Marks with runs from a place on, of a length."""
+    marks = bytearray(n)
+    for at, length in pairs:
+        marks[at:at + length] = b'\1' * length
+    return bytes(marks)
+
+
+# Marks that tell, by name; at an address from which they end beyond 2^32 they are left out.
+SHAPES = [
+    ('one place', b'\1'),
+    ('nothing', bytes(1)),
+    ('nothing in 300', bytes(300)),
+    ('run of 15', runs(20, (2, 15))),
+    ('run of 16', runs(16, (0, 16))),
+    ('run of 17', runs(40, (1, 17))),
+    ('run from 3', runs(40, (3, 32))),
+    ('two runs', runs(20, (0, 18), (19, 1))),
+    ('ends', runs(300, (0, 1), (299, 1))),
+    ('every second', b'\1\0' * 100),
+    ('every third not', b'\1\1\0' * 100),
+    ('gap of 270', runs(300, (0, 15), (285, 15))),
+]
+
+# A segment's and a linear base's end, the ends of 2, 3 and 4 address bytes, and where a signed address turns negative.
+FIRSTS = [0, 1, 0xFFEF, 0xFFF8, 0xFFFF, 0x10000, 0x10001, 0x12345, 0xFFFF8, 0x100000, 0x10FFEF, 0xFFFFF8, 0x1000000,
+          0x7FFFFFF0, 0x80000000, 0xFFFEFFF7, 0xFFFF0000, 0xFFFFFED4, 0xFFFFFFF0, 0xFFFFFFFF]
+
+
+def whole(before):
+    """Every second place of a whole window, but two side by side behind `before` places: the longest file."""
+    return bytes((p % 2 == 0) == (p < before) for p in range(PAGE))
+
+
+def large():
+    yield 'whole page', 0, b'\1' * PAGE
+    yield 'whole page', 0x18001, b'\1' * PAGE
+    yield 'whole page', 0x7FFF8003, b'\1' * PAGE
+    yield 'whole page', 0xFFFF0000, b'\1' * PAGE
+    yield 'nothing in a whole page', 0x8000, bytes(PAGE)
+    yield 'ends of a whole page', 0xFFFF0000, runs(PAGE, (0, 1), (PAGE - 1, 1))
+    yield 'longest file', 0x20000 - 32769, whole(32769)
+    yield 'longest file', 0xFFFF0000 - 1, whole(1)
+
+
+def drawn():
+    """Pages by a fixed sequence, with runs and gaps of several lengths."""
+    chance = random.Random(4)
+    for number in range(60):
+        n, most = chance.randrange(1, 700), chance.choice([2, 5, 20, 70])
+        marks = b''
+        while len(marks) < n:
+            marks += bytes([chance.randrange(2)]) * chance.randrange(1, most)
+        first = min(TOP - n, max(0, chance.randrange(0x10001) * PAGE - chance.randrange(n)))
+        yield Case('drawn %d' % number, first, bytes(chance.randrange(256) for _ in range(n)), marks[:n])
+
+
+def cases():
+    for first in FIRSTS:
+        for name, marks in SHAPES:
+            if first + len(marks) <= TOP:
+                yield Case(name, first, filled(len(marks)), marks)
+    for name, first, marks in large():
+        yield Case(name, first, filled(PAGE), marks)
+    yield from drawn()
+
+
+def stated(case):
+    """The address of each marked place, with its byte."""
+    return {case.first + p: case.page[p] for p, mark in enumerate(case.marks) if mark}
+
+
+# ---- S-records
+
+ADDRESS_BYTES = {0: 2, 1: 2, 2: 3, 3: 4, 5: 2, 6: 3, 7: 4, 8: 3, 9: 2}
+
+
+def srecord(kind, address, data=b''):
+    body = address.to_bytes(ADDRESS_BYTES[kind], 'big') + data
+    body = bytes([len(body) + 1]) + body
+    return 'S%d%s%02X\n' % (kind, body.hex().upper(), ~sum(body) & 255)
+
+
+def to_srecords(places):
+    lines, begun, data = [srecord(0, 0)], 0, b''
+    for address in sorted(places):
+        if data and (len(data) == 32 or address != begun + len(data)):
+            lines.append(srecord(3, begun, data))
+            data = b''
+        if not data:
+            begun = address
+        data += bytes([places[address]])
+    if data:
+        lines.append(srecord(3, begun, data))
+    return ''.join(lines) + srecord(7, 0)
+
+
+def of_srecords(text):
+    """The address of each byte stated, with it; a line that is no S-record, a wrong count and a place stated twice raise an error."""
+    places, count = {}, 0
+    for line in text.split():
+        kind, body = int(line[1]), bytes.fromhex(line[2:])
+        if line[0] != 'S' or body[0] != len(body) - 1 or sum(body) % 256 != 255:
+            raise ValueError('no S-record: ' + line)
+        size = ADDRESS_BYTES[kind]
+        address, data = int.from_bytes(body[1:1 + size], 'big'), body[1 + size:-1]
+        if kind in (5, 6) and address != count:
+            raise ValueError('another count: ' + line)
+        if kind not in (1, 2, 3):
+            continue
+        count += 1
+        for i, byte in enumerate(data):
+            if address + i in places:
+                raise ValueError('stated twice: %X' % (address + i))
+            places[address + i] = byte
+    return places
+
+
+# ---- the tools
+
+def run(words, given=b''):
+    ended = subprocess.run(words, input=given, stdout=subprocess.PIPE, stderr=subprocess.PIPE, timeout=300)
+    if ended.returncode != 0:
+        raise ValueError('%s: %s' % (words[0], ended.stderr.decode(errors='replace').strip()))
+    return ended.stdout
+
+
+def turned(text, words):
+    """What a tool makes of a text; in its words < stands for the file that it reads, > for the one that it writes."""
+    with tempfile.TemporaryDirectory() as work:
+        names = {'<': os.path.join(work, 'in'), '>': os.path.join(work, 'out')}
+        with open(names['<'], 'w') as file:
+            file.write(text)
+        run([names.get(word, word) for word in words])
+        with open(names['>']) as file:
+            return file.read()
+
+
+class Objcopy:
+    name, package = 'objcopy', 'binutils'
+    there = shutil.which('objcopy') is not None
+    takes_nothing = False  # "the input file has no sections"
+
+    def read(self, text):
+        return of_srecords(turned(text, 'objcopy -I ihex -O srec < >'.split()))
+
+    def write(self, places):
+        return turned(to_srecords(places), 'objcopy -I srec -O ihex < >'.split())
+
+
+class SrecCat:
+    name, package = 'srec_cat', 'srecord'
+    there = shutil.which('srec_cat') is not None
+    takes_nothing = False  # "file contains no data"
+
+    def read(self, text):
+        return of_srecords(turned(text, 'srec_cat < -intel -o > -motorola'.split()))
+
+    def write(self, places):
+        return turned(to_srecords(places), 'srec_cat < -motorola -o > -intel'.split())
+
+
+class Intelhex:
+    name, package = 'intelhex', 'python3-intelhex'
+    there = intelhex is not None
+    takes_nothing = True
+
+    def read(self, text):
+        read = intelhex.IntelHex(io.StringIO(text))
+        return {address: read[address] for address in read.addresses()}
+
+    def write(self, places):
+        text = io.StringIO()
+        intelhex.IntelHex(places).write_hex_file(text)
+        return text.getvalue()
+
+
+# ---- the comparison
+
+def page_file(case):
+    return run(PAGEFILE + ['write', '%X' % case.first], case.page + case.marks).decode()
+
+
+def loaded(case, text):
+    """The places that ihex_load marks in the case's window, with their bytes."""
+    n = len(case.marks)
+    both = run(PAGEFILE + ['load', '%X' % case.first, str(n)], text.encode())
+    return stated(Case(case.name, case.first, both[:n], both[n:]))
+
+
+def compare(name, case, gives):
+    """One test: what is given states the marked places of the case, and nothing else. Whatever a tool raises is a failure."""
+    try:
+        same, why = gives() == stated(case), 'other places or bytes'
+    except Exception as error:
+        same, why = False, str(error)
+    told('%s, %s at %X' % (name, case.name, case.first), same, why)
+
+
+def compare_all(tool):
+    over = 0
+    for case in CASES:
+        if not tool.takes_nothing and not any(case.marks):
+            over += 1
+            continue
+        compare(tool.name + ' reads', case, lambda: tool.read(page_file(case)))
+        compare(tool.name + ' writes', case, lambda: loaded(case, tool.write(stated(case))))
+    if over:
+        print('-- %s: %d pages without a mark passed over, as it refuses a file without data' % (tool.name, over))
+
+
+PAGEFILE = sys.argv[1:]
+CASES = list(cases())
+for each in (Objcopy(), SrecCat(), Intelhex()):
+    if each.there:
+        compare_all(each)
+    else:
+        print('-- %s: passed over, as the package %s cannot be had' % (each.name, each.package))
+end()
