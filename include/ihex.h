@@ -26,7 +26,7 @@ extern "C" {
 #define IHEX_START_LINEAR_ADDRESS 5     /* a: EIP */
 
 /* The other codes that are returned. */
-#define IHEX_OK 0             /* a writer wrote all, a load was accepted */
+#define IHEX_OK 0             /* a writer wrote all or a length is told, a load was accepted */
 #define IHEX_REFUSED 256      /* and the number of a refusal, below */
 #define IHEX_DONE 512         /* the text has no more answers */
 #define IHEX_USED_UP 513      /* the chunk has no more answers: the next one is wanted, or ihex_finish; no values */
@@ -48,7 +48,7 @@ extern "C" {
 #define IHEX_MISSING_END_OF_FILE_RECORD 13  /* the list's last record is no end; the text has no end record */
 #define IHEX_MULTIPLE_END_OF_FILE_RECORDS 14 /* a, or value: how many end records the list has */
 #define IHEX_OUTPUT_FULL 15                 /* the whole result is longer than the output */
-#define IHEX_BAD_WINDOW 16                  /* page and marks differ in length, or the window is too large */
+#define IHEX_BAD_WINDOW 16                  /* page and marks differ in length, have over IHEX_MAX_PAGE places, or end beyond 2^32 */
 #define IHEX_OUTSIDE_WINDOW 17              /* a: the address of a data record's first byte that lies outside */
 #define IHEX_CARRY_TOO_SMALL 18             /* a carry under IHEX_CARRY bytes, or a state that counts more than that used */
 #define IHEX_BAD_MARK 19                    /* a page to be written; value: the place of the first mark that is neither 0 nor 1 */
@@ -193,18 +193,20 @@ uint32_t ihex_load(const uint8_t *text, size_t text_len, uint32_t first,
                    uint8_t *marks, size_t marks_len,
                    size_t *line, uint64_t *a, uint64_t *b);
 
-/* How long the file is that ihex_write_page writes: returns 0 and its length as the value, or IHEX_REFUSED and 16 or 19. */
+/* How long the file is that ihex_write_page writes: returns 0 and its length as the value, or IHEX_REFUSED and the first of 16, 19 that
+ * holds, with the value of 19; the value of 16 is 0. Of the page only the length counts. */
 uint32_t ihex_page_length(uint32_t first,
                           const uint8_t *page, size_t page_len,
                           const uint8_t *marks, size_t marks_len,
                           uint64_t *value);
 
 /* Writes the places of a page whose mark is 1 as Intel HEX, from the output's start on: returns 0 and the length as the value, or
- * IHEX_REFUSED and the first of 16, 19, 15 that holds, with the value of 19. The place p has the address first + p. Each run of marked
- * places becomes data records of 16 bytes, the last of them shorter where need be, counted from the run's start and afresh at each
- * multiple of 65,536, where a record is cut too. A type 04 record stands before the first data record and wherever the upper 16 bits
- * of the address change; the end record is last, and stands alone where no place is marked. One LF stands behind each line.
- * Loaded by ihex_load with the same `first` and lengths, the file gives the same marks and the same bytes at them. */
+ * IHEX_REFUSED and the first of 16, 19, 15 that holds, with the value of 19; that of the others is 0. Place p has the address
+ * first + p. Each run of marked places becomes data records of 16 bytes, the last of them shorter where need be, counted from the
+ * run's start and afresh at each multiple of 65,536, where a record is cut too. A type 04 record stands before the first data record
+ * and wherever the upper 16 bits of the address change; the end record is last, and stands alone where no place is marked. One LF
+ * stands behind each line. No byte of the output behind the length changes. Loaded by ihex_load with the same `first` and lengths, the
+ * file gives the same marks and the same bytes at them. */
 uint32_t ihex_write_page(uint32_t first,
                          const uint8_t *page, size_t page_len,
                          const uint8_t *marks, size_t marks_len,

@@ -1,4 +1,4 @@
-/* The floor: plain loops over lines that are good, with the tests that a reader cannot do without.
+/* The floor: plain loops over lines that are good, with the tests that a reader or a writer cannot do without.
  * Nothing is proved of them. */
 #include <stddef.h>
 #include <stdint.h>
@@ -141,4 +141,51 @@ size_t floor_write_object(const uint8_t *pool, size_t n, size_t records, uint8_t
     length += floor_write_record(1, 0, pool, 0, out + length);
     out[length++] = '\n';
     return length;
+}
+
+/* How many places one record takes from i on, which is marked: at most 16, and none beyond a multiple of 65,536. */
+static size_t taken(uint32_t first, const uint8_t *marks, size_t size, size_t i)
+{
+    size_t n = 1;
+    while (n < 16 && i + n < size && marks[i + n] == 1 && (uint16_t)(first + i + n) != 0)
+        n++;
+    return n;
+}
+
+/* A record's line with its LF, and what stands behind it. */
+static uint8_t *put_line(uint8_t *out, uint8_t kind, uint16_t address, const uint8_t *payload, size_t n)
+{
+    out += floor_write_record(kind, address, payload, n, out);
+    *out = '\n';
+    return out + 1;
+}
+
+/* The marked places of a page, and an end record; the text's length, or 0. Judges first, then writes. */
+size_t floor_write_page(uint32_t first, const uint8_t *page, const uint8_t *marks, size_t size, uint8_t *out, size_t room)
+{
+    uint8_t *end = out;
+    size_t length = 12;
+    for (int write = 0; write < 2; write++) {
+        uint32_t upper = 65536;
+        for (size_t i = 0, n; i < size; i += n) {
+            n = 1;
+            if (marks[i] == 0)
+                continue;
+            if (marks[i] > 1)
+                return 0;
+            n = taken(first, marks, size, i);
+            uint32_t address = first + i;
+            uint8_t base[2] = {address >> 24, address >> 16};
+            if (write && upper != address >> 16)
+                end = put_line(end, 4, 0, base, 2);
+            if (write)
+                end = put_line(end, 0, address, page + i, n);
+            else
+                length += 12 + 2 * n + (upper != address >> 16 ? 16 : 0);
+            upper = address >> 16;
+        }
+        if (length > room)
+            return 0;
+    }
+    return put_line(end, 1, 0, page, 0) - out;
 }

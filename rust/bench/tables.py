@@ -32,6 +32,9 @@ LOADS = {
     "linear": "behind a type 04",
     "across": "each across the end of segment 0",
 }
+# Pages of 65,536 places by which of them are marked: the multiples of a number.
+PLACES = 65_536
+PAGES = {1: "all", 2: "every second", PLACES: "one"}
 REPETITIONS = 2
 
 
@@ -149,6 +152,17 @@ def show_loads(reading):
     return max(n for n, _ in found.values())
 
 
+def show_pages(who):
+    print(f"Instructions a place, of a page of {PLACES:,} that is written; the crate is given the records, made before:\n")
+    rows = []
+    for every, marked in PAGES.items():
+        found = [instructions(one, "page", 16, FULL, every) for one in who]
+        if len({result for _, result in found}) != 1:
+            sys.exit(f"pages, {marked} marked: the results differ, {found}")
+        rows.append([marked] + [f"{n * FULL / PLACES:,.2f}" for n, _ in found] + [f"{int(found[0][1]):,}"])
+    table(["Marked places"] + who + ["bytes of the file"], rows)
+
+
 def in_chunks():
     """Instructions a record of 16 bytes by the size of a chunk, 0 for the whole text; all must come to the same results."""
     whole_text = instructions("port", "text", 16, FULL)
@@ -194,6 +208,7 @@ def main():
         show_times(who)
     show_growth()
     loading = show_loads(count["port", "text", 16])
+    show_pages(who)
     chunks = in_chunks()
     show_chunks(chunks)
     show_bars(who, count, loading, chunks)

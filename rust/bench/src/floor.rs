@@ -20,6 +20,14 @@ mod c {
         ) -> usize;
         pub fn floor_write_object(pool: *const u8, n: usize, records: usize, out: *mut u8)
             -> usize;
+        pub fn floor_write_page(
+            first: u32,
+            page: *const u8,
+            marks: *const u8,
+            size: usize,
+            out: *mut u8,
+            room: usize,
+        ) -> usize;
     }
 }
 
@@ -50,4 +58,11 @@ pub fn write_object(pool: &[u8], n: usize, out: &mut [u8]) -> usize {
         return 0;
     }
     unsafe { c::floor_write_object(pool.as_ptr(), n, records, out.as_mut_ptr()) }
+}
+
+/// The marked places of a page, and an end record, if the output has room for them.
+pub fn write_page(first: u32, page: &[u8], marks: &[u8], out: &mut [u8]) -> usize {
+    let size = page.len().min(marks.len());
+    let (page, marks) = (page.as_ptr(), marks.as_ptr());
+    unsafe { c::floor_write_page(first, page, marks, size, out.as_mut_ptr(), out.len()) }
 }

@@ -3,12 +3,14 @@
 //!     bench WHO WHAT BYTES RECORDS REPETITIONS
 //!     bench port chunks BYTES RECORDS REPETITIONS CHUNK
 //!     bench port segment|linear|across BYTES RECORDS REPETITIONS
+//!     bench WHO page BYTES RECORDS REPETITIONS EVERY
 //!
 //! WHO is crate, port, face or floor. WHAT is record or text (reading), line or object (writing), or
 //! load. BYTES are a record's payload, RECORDS how many there are in a text, or calls a repetition.
 //! `chunks` reads the text in chunks of CHUNK bytes, to the number that `text` prints. `segment` and
 //! `linear` load it behind a type 02 and a type 04, `across` so many records across a segment's end,
-//! each to the number that `load` prints.
+//! each to the number that `load` prints. `page` writes all payloads as a page in which each multiple of
+//! EVERY is marked; the crate is given its records.
 //! It prints a number that comes from the results, the same for all, and the nanoseconds taken.
 
 mod floor;
@@ -38,13 +40,17 @@ pub struct Given {
     list: Vec<u8>,
     /// How many bytes a chunk has.
     chunk: usize,
+    /// The marks of all payloads as a page, and its records as the crate takes them.
+    marked: Vec<u8>,
+    of_page: Vec<original::Record>,
     /// What is lent for writing.
     out: Vec<u8>,
     page: Vec<u8>,
     marks: Vec<u8>,
 }
 
-fn given(n: usize, records: usize, chunk: usize) -> Given {
+/// The inputs; `step` is a chunk's length, or which places of a page are marked.
+fn given(n: usize, records: usize, step: usize) -> Given {
     let byte = |i: usize| (i.wrapping_add(1).wrapping_mul(2_654_435_761) >> 13) as u8;
     let pool: Vec<u8> = (0..n * records).map(byte).collect();
     let (mut of_crate, mut of_face, mut list) = (vec![], vec![], vec![]);
@@ -69,14 +75,16 @@ fn given(n: usize, records: usize, chunk: usize) -> Given {
         segment: format!(":020000020000FC\n{text}"),
         linear: format!(":020000040000FA\n{text}"),
         across: across(n, &pool),
+        marked: (0..pool.len()).map(|i| (i % step == 0).into()).collect(),
+        of_page: of_page(&pool, step),
         pool,
-        out: vec![0; text.len()],
+        out: vec![0; text.len().max(ihex::MAX_PAGE_FILE)],
         text,
         line,
         of_crate,
         of_face,
         list,
-        chunk,
+        chunk: step,
         page: vec![0; 65_536],
         marks: vec![0; 65_536],
     }
@@ -92,6 +100,19 @@ fn across(n: usize, pool: &[u8]) -> String {
     let mut records: Vec<_> = pool.chunks(n.max(1)).map(data).collect();
     records.push(original::Record::EndOfFile);
     original::create_object_file_representation(&records).expect("a good object")
+}
+
+/// The records of a page of these bytes from address 0 on, in which each multiple of `every` is marked.
+fn of_page(page: &[u8], every: usize) -> Vec<original::Record> {
+    let (size, step) = if every == 1 { (16, 16) } else { (1, every) };
+    let data = |place: usize| original::Record::Data {
+        offset: place as u16,
+        value: page[place..page.len().min(place + size)].to_vec(),
+    };
+    let mut records = vec![original::Record::ExtendedLinearAddress(0)];
+    records.extend((0..page.len()).step_by(step).map(data));
+    records.push(original::Record::EndOfFile);
+    records
 }
 
 /// A piece of work, and the number that comes from its result.
@@ -159,6 +180,17 @@ fn crate_load(given: &mut Given) -> u64 {
 fn face_load(given: &mut Given) -> u64 {
     let loaded = ihex::load(&given.text, 0, &mut given.page, &mut given.marks);
     loaded.map_or(0, |loaded| loaded.data_records as u64)
+}
+
+/// What a program does that has the crate's writer alone, once it has made the records.
+fn crate_page(given: &mut Given) -> u64 {
+    let written = original::create_object_file_representation(&given.of_page);
+    written.map_or(0, |text| text.len() as u64)
+}
+
+fn face_page(given: &mut Given) -> u64 {
+    let written = ihex::write_page(0, &given.pool, &given.marked);
+    written.map_or(0, |text| text.len() as u64)
 }
 
 mod by_port {
@@ -305,6 +337,13 @@ mod by_port {
     pub fn across(given: &mut Given) -> u64 {
         loaded(&given.across, &mut given.page, &mut given.marks)
     }
+
+    pub fn page(given: &mut Given) -> u64 {
+        let mut value = 0;
+        let (page, marks) = (&given.pool, &given.marked);
+        ihex_sys::write_page(0, page, marks, &mut given.out, &mut value);
+        value
+    }
 }
 
 mod by_floor {
@@ -341,6 +380,10 @@ mod by_floor {
     pub fn load(given: &mut Given) -> u64 {
         floor::load(given.text.as_bytes(), &mut given.page, &mut given.marks) as u64
     }
+
+    pub fn page(given: &mut Given) -> u64 {
+        floor::write_page(0, &given.pool, &given.marked, &mut given.out) as u64
+    }
 }
 
 fn work(who: &str, what: &str) -> Option<Work> {
@@ -350,11 +393,13 @@ fn work(who: &str, what: &str) -> Option<Work> {
         ("crate", "line") => by_crate::line,
         ("crate", "object") => by_crate::object,
         ("crate", "load") => crate_load,
+        ("crate", "page") => crate_page,
         ("face", "record") => by_face::record,
         ("face", "text") => by_face::text,
         ("face", "line") => by_face::line,
         ("face", "object") => by_face::object,
         ("face", "load") => face_load,
+        ("face", "page") => face_page,
         ("port", "record") => by_port::record,
         ("port", "text") => by_port::text,
         ("port", "chunks") => by_port::chunks,
@@ -364,11 +409,13 @@ fn work(who: &str, what: &str) -> Option<Work> {
         ("port", "segment") => by_port::segment,
         ("port", "linear") => by_port::linear,
         ("port", "across") => by_port::across,
+        ("port", "page") => by_port::page,
         ("floor", "record") => by_floor::record,
         ("floor", "text") => by_floor::text,
         ("floor", "line") => by_floor::line,
         ("floor", "object") => by_floor::object,
         ("floor", "load") => by_floor::load,
+        ("floor", "page") => by_floor::page,
         _ => return None,
     })
 }
@@ -376,7 +423,8 @@ fn work(who: &str, what: &str) -> Option<Work> {
 const USAGE: &str = "\
 usage: bench crate|port|face|floor record|text|line|object|load BYTES RECORDS REPETITIONS
        bench port chunks BYTES RECORDS REPETITIONS CHUNK
-       bench port segment|linear|across BYTES RECORDS REPETITIONS";
+       bench port segment|linear|across BYTES RECORDS REPETITIONS
+       bench crate|port|face|floor page BYTES RECORDS REPETITIONS EVERY";
 
 fn main() {
     let words: Vec<String> = env::args().skip(1).collect();
@@ -387,13 +435,13 @@ fn main() {
             .unwrap_or(usize::MAX)
     };
     let (n, records, repetitions) = (number(2), number(3), number(4));
-    let chunk = number(5);
+    let step = number(5);
     let asked = words
         .first()
         .zip(words.get(1))
         .and_then(|(who, what)| work(who, what));
     let work = match asked {
-        Some(work) if n <= 255 && records <= 1 << 20 && repetitions < usize::MAX && chunk > 0 => {
+        Some(work) if n <= 255 && records <= 1 << 20 && repetitions < usize::MAX && step > 0 => {
             work
         }
         _ => {
@@ -405,7 +453,7 @@ fn main() {
         println!("not at hand");
         return;
     }
-    let mut given = given(n, records, chunk);
+    let mut given = given(n, records, step);
     let mut result = 0;
     let start = Instant::now();
     for _ in 0..repetitions {

@@ -20,3 +20,4 @@ example!(lines, "../examples/lines.rs");
 example!(chunks, "../examples/chunks.rs");
 example!(object, "../examples/object.rs");
 example!(load, "../examples/load.rs");
+example!(page, "../examples/page.rs");

@@ -13,8 +13,10 @@ use crate::joined;
 use crate::lines::{self, LineCase};
 use crate::loads;
 use crate::long::{self, LongCase};
+use crate::pages::{self, PageCase};
 use crate::port::Port;
 use crate::replay::{self, Program};
+use crate::runs;
 use crate::shrink::{shrink, Case};
 use crate::stored::Given;
 use crate::sums::{self, SumCase};
@@ -419,6 +421,21 @@ pub fn of_chunks<'a>(port: &'a dyn Port, plan: Plan) -> Vec<Kind<'a>> {
     kinds
 }
 
+/// What is compared with the port's page writer.
+pub fn of_pages<'a>(port: &'a dyn Port, plan: Plan) -> Vec<Kind<'a>> {
+    let page = move |case: &PageCase| pages::port(port, case);
+    vec![
+        by_chance("pages written", plan, 40, runs::page, page),
+        by_block(
+            "pages of up to 65,537 places written",
+            plan,
+            blocks(30, plan),
+            runs::large,
+            page,
+        ),
+    ]
+}
+
 /// Lines and texts, whole and in chunks, by the Rust face.
 fn face_reads(plan: Plan) -> Vec<Kind<'static>> {
     vec![
@@ -448,9 +465,24 @@ fn face_reads(plan: Plan) -> Vec<Kind<'static>> {
     ]
 }
 
+/// Pages, by the Rust face.
+fn face_pages(plan: Plan) -> Vec<Kind<'static>> {
+    vec![
+        by_chance("face: pages written", plan, 10, runs::page, pages::face),
+        by_block(
+            "face: pages of up to 65,537 places written",
+            plan,
+            blocks(8, plan),
+            runs::large,
+            pages::face,
+        ),
+    ]
+}
+
 /// What is compared with the Rust face.
 pub fn of_face(plan: Plan) -> Vec<Kind<'static>> {
     let mut kinds = face_reads(plan);
+    kinds.extend(face_pages(plan));
     kinds.extend([
         by_chance(
             "face: records written",

@@ -15,10 +15,10 @@ use std::process::exit;
 use std::time::Instant;
 
 use oracle::domain::keeps_last_cr;
-use oracle::kinds::{of_chunks, of_face, of_port, of_replay, Kind, Plan, Report};
+use oracle::kinds::{of_chunks, of_face, of_pages, of_port, of_replay, Kind, Plan, Report};
 use oracle::port::Real;
 use oracle::stored::List;
-use oracle::{replay, seen, wrong, wrong_chunks};
+use oracle::{replay, seen, wrong, wrong_chunks, wrong_pages};
 
 const USAGE: &str = "\
 usage: oracle [--seed N] [--long | --times N] [--short]
@@ -172,6 +172,7 @@ impl Counts {
     fn compare_all(&mut self, plan: Plan) {
         self.compare(of_port(&Real, plan));
         self.compare(of_chunks(&Real, plan));
+        self.compare(of_pages(&Real, plan));
         self.compare(of_face(plan));
         let lent = self.compare_lent(replay::command(), plan);
         self.add(stored_agree());
@@ -183,6 +184,10 @@ impl Counts {
         for (name, port) in wrong_chunks::all() {
             let kinds = of_chunks(port.as_ref(), few(plan));
             self.add(finds(&format!("a chunk reader that {name}"), kinds));
+        }
+        for (name, port) in wrong_pages::all() {
+            let kinds = of_pages(port.as_ref(), few(plan));
+            self.add(finds(&format!("a page writer that {name}"), kinds));
         }
         for (name, program) in wrong::programs().iter().filter(|_| lent) {
             let kinds = of_replay(program.as_ref(), few(plan));

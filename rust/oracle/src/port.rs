@@ -98,6 +98,21 @@ pub trait Port: Sync {
     ) -> u32 {
         ihex_sys::load(text, first, page, marks, line, a, b)
     }
+
+    fn page_length(&self, first: u32, page: &[u8], marks: &[u8], value: &mut u64) -> u32 {
+        ihex_sys::page_length(first, page, marks, value)
+    }
+
+    fn write_page(
+        &self,
+        first: u32,
+        page: &[u8],
+        marks: &[u8],
+        out: &mut [u8],
+        value: &mut u64,
+    ) -> u32 {
+        ihex_sys::write_page(first, page, marks, out, value)
+    }
 }
 
 /// The port itself.

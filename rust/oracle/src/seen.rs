@@ -4,9 +4,11 @@ use std::sync::atomic::{AtomicU64, Ordering};
 
 use ihex_sys::{BAD_RECORD, DONE, REFUSED, USED_UP};
 
+use crate::forms::{Form, FORMS};
+
 /// The entry points, and the codes that each can answer; then the three wraps at a segment's end, and
 /// the codes that loads which rest on each are to have.
-const ANSWERS: [(&str, &[u32]); 10] = [
+const ANSWERS: [(&str, &[u32]); 12] = [
     (
         "record reader",
         &[
@@ -39,6 +41,8 @@ const ANSWERS: [(&str, &[u32]); 10] = [
             0, 1, 2, 3, 4, 5, 257, 258, 259, 260, 261, 262, 263, 264, 265, 266, 274, DONE,
         ],
     ),
+    ("length of a page's file", &[0, 272, 275]),
+    ("page writer", &[0, 271, 272, 275]),
     (
         "loader, across a segment's end before any extension record",
         &[0, 273],
@@ -57,14 +61,16 @@ pub const OBJECT_WRITER: usize = 3;
 pub const LOADER: usize = 4;
 pub const CHUNK_READER: usize = 5;
 pub const CHUNK_END: usize = 6;
+pub const PAGE_LENGTH: usize = 7;
+pub const PAGE_WRITER: usize = 8;
 /// The first of the three wraps, which stand in the order of `loads::UNWRAPPED`.
-pub const WRAPS: usize = 7;
+pub const WRAPS: usize = 9;
 /// Where the line of a byte that is no digit is cut: nowhere, further ahead of the byte, directly ahead of
 /// it, and behind it.
-pub const UNCUT: usize = 10;
-pub const CUT_AHEAD: usize = 11;
-pub const CUT_AT: usize = 12;
-pub const CUT_BEHIND: usize = 13;
+pub const UNCUT: usize = 12;
+pub const CUT_AHEAD: usize = 13;
+pub const CUT_AT: usize = 14;
+pub const CUT_BEHIND: usize = 15;
 
 /// The places that are told apart where one is named, by the least of each kind.
 const PLACES: [usize; 10] = [1, 2, 3, 520, 521, 522, 523, 65_534, 65_535, 65_536];
@@ -86,8 +92,9 @@ const NAMING: [(usize, &str, usize); 9] = [
 const NONE: AtomicU64 = AtomicU64::new(0);
 #[allow(clippy::declare_interior_mutable_const)]
 const ROW: [AtomicU64; 32] = [NONE; 32];
-static SEEN: [[AtomicU64; 32]; 10] = [ROW; 10];
-static NAMED: [[AtomicU64; 32]; 14] = [ROW; 14];
+static SEEN: [[AtomicU64; 32]; 12] = [ROW; 12];
+static NAMED: [[AtomicU64; 32]; 16] = [ROW; 16];
+static FORMED: [AtomicU64; FORMS.len()] = [NONE; FORMS.len()];
 
 /// The entry point that is given a chunk, or that ends a text in chunks.
 pub fn entry_of(chunk: Option<&[u8]>) -> usize {
@@ -122,6 +129,11 @@ pub fn note_place(entry: usize, place: Option<usize>) {
     }
 }
 
+/// One more page of this form, by its number among `FORMS`, was called for.
+pub fn note_form(form: usize) {
+    FORMED[form].fetch_add(1, Ordering::Relaxed);
+}
+
 /// A kind of places: from its least on, ahead of the next kind's.
 fn places(least: usize) -> String {
     match PLACES.get(kind(least)) {
@@ -143,7 +155,15 @@ fn show_row(title: &str, counts: &[(String, u64)]) -> bool {
     whole
 }
 
-/// Prints how often each answer and each kind of place was called for, and says whether none is missing.
+/// Prints how often each form of a page was called for, and says whether none is missing.
+fn show_forms() -> bool {
+    let count = |(form, n): (&Form, &AtomicU64)| (form.0.into(), n.load(Ordering::Relaxed));
+    let counts: Vec<(String, u64)> = FORMS.iter().zip(&FORMED).map(count).collect();
+    show_row("every form of a page (form: times)", &counts)
+}
+
+/// Prints how often each answer, each kind of place and each form of a page was called for, and says
+/// whether none is missing.
 pub fn show() -> bool {
     let mut all = true;
     for (row, (name, codes)) in SEEN.iter().zip(ANSWERS) {
@@ -162,5 +182,5 @@ pub fn show() -> bool {
         let title = format!("every place of refusal 2 of the {name} (place: times)");
         all &= show_row(&title, &counts);
     }
-    all
+    all & show_forms()
 }

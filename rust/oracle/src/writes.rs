@@ -25,7 +25,8 @@ impl Written {
     }
 }
 
-fn refused(code: u32, value: u64) -> Written {
+/// An answer with which nothing is written.
+pub fn refused(code: u32, value: u64) -> Written {
     Written {
         code,
         value,
@@ -34,7 +35,7 @@ fn refused(code: u32, value: u64) -> Written {
 }
 
 /// The crate's answer, with room for `out` bytes.
-fn answered(answer: Result<String, original::WriterError>, out: usize) -> Written {
+pub fn answered(answer: Result<String, original::WriterError>, out: usize) -> Written {
     match answer {
         Err(why) => {
             let (code, value) = by_crate::unwritten(&why);
@@ -49,8 +50,8 @@ fn answered(answer: Result<String, original::WriterError>, out: usize) -> Writte
     }
 }
 
-/// What is wrong with the port's answer, if it should be this one.
-fn unlike(
+/// What is wrong with the port's answer, if it should be this one. The output held `before`.
+pub fn unlike(
     expected: &Written,
     code: u32,
     numbers: &Numbers,

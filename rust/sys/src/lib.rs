@@ -34,6 +34,11 @@ pub const IN_CARRY: u8 = 2;
 /// How many bytes stand for a record in the list that an object is written from.
 pub const ENTRY: usize = 24;
 
+/// The most places of a page.
+pub const MAX_PAGE: usize = 65_536;
+/// The most bytes of a page's file.
+pub const MAX_PAGE_FILE: usize = 458_810;
+
 mod c {
     extern "C" {
         pub fn ihex_checksum(bytes: *const u8, bytes_len: usize) -> u8;
@@ -142,6 +147,24 @@ mod c {
             line: *mut usize,
             a: *mut u64,
             b: *mut u64,
+        ) -> u32;
+        pub fn ihex_page_length(
+            first: u32,
+            page: *const u8,
+            page_len: usize,
+            marks: *const u8,
+            marks_len: usize,
+            value: *mut u64,
+        ) -> u32;
+        pub fn ihex_write_page(
+            first: u32,
+            page: *const u8,
+            page_len: usize,
+            marks: *const u8,
+            marks_len: usize,
+            out: *mut u8,
+            out_len: usize,
+            value: *mut u64,
         ) -> u32;
     }
 }
@@ -314,6 +337,21 @@ pub fn load(
             text, text_len, first, page, page_len, marks, marks_len, line, a, b,
         )
     }
+}
+
+/// How long the file of a page with marks is.
+pub fn page_length(first: u32, page: &[u8], marks: &[u8], value: &mut u64) -> u32 {
+    let (page, page_len) = (page.as_ptr(), page.len());
+    let (marks, marks_len) = (marks.as_ptr(), marks.len());
+    unsafe { c::ihex_page_length(first, page, page_len, marks, marks_len, value) }
+}
+
+/// A page with marks to a text.
+pub fn write_page(first: u32, page: &[u8], marks: &[u8], out: &mut [u8], value: &mut u64) -> u32 {
+    let (page, page_len) = (page.as_ptr(), page.len());
+    let (marks, marks_len) = (marks.as_ptr(), marks.len());
+    let (out, out_len) = (out.as_mut_ptr(), out.len());
+    unsafe { c::ihex_write_page(first, page, page_len, marks, marks_len, out, out_len, value) }
 }
 
 /// The bytes that stand for a record in the list that an object is written from.

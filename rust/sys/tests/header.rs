@@ -13,7 +13,7 @@ fn defined(name: &str) -> Option<u64> {
 
 #[test]
 fn numbers_are_the_headers() {
-    let numbers: [(&str, u64); 13] = [
+    let numbers: [(&str, u64); 15] = [
         ("REFUSED", ihex_sys::REFUSED.into()),
         ("DONE", ihex_sys::DONE.into()),
         ("USED_UP", ihex_sys::USED_UP.into()),
@@ -30,6 +30,8 @@ fn numbers_are_the_headers() {
         ("IN_CHUNK", ihex_sys::IN_CHUNK.into()),
         ("IN_CARRY", ihex_sys::IN_CARRY.into()),
         ("RECORD_SIZE", ihex_sys::ENTRY as u64),
+        ("MAX_PAGE", ihex_sys::MAX_PAGE as u64),
+        ("MAX_PAGE_FILE", ihex_sys::MAX_PAGE_FILE as u64),
     ];
     for (name, number) in numbers {
         assert_eq!(defined(name), Some(number), "{name}");

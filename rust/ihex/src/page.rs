@@ -1,0 +1,107 @@
+//! Writing a page with marks as a file, which the crate does not have.
+
+use std::error::Error;
+use std::fmt;
+
+use crate::stranger;
+
+/// The most bytes that the file of a page has: 7 for each of 65,536 places, and 58.
+pub const MAX_PAGE_FILE: usize = ihex_sys::MAX_PAGE_FILE;
+
+/// Why a page is not written.
+#[derive(PartialEq, Eq, Clone, Copy, Debug, Hash)]
+#[non_exhaustive]
+pub enum PageError {
+    /// The file is longer than the output.
+    OutputFull,
+    /// Page and marks differ in length, the page is longer than 65,536, or it passes 2^32.
+    BadWindow,
+    /// A mark is neither 0 nor 1, and the place of the first such mark.
+    BadMark(usize),
+    /// There is no memory for the file.
+    SynthesisFailed,
+}
+
+impl PageError {
+    /// The refusal's number: 15, 16 or 19. `SynthesisFailed`, which is no rule's refusal, has 0.
+    pub fn number(&self) -> u32 {
+        match self {
+            PageError::OutputFull => 15,
+            PageError::BadWindow => 16,
+            PageError::BadMark(..) => 19,
+            PageError::SynthesisFailed => 0,
+        }
+    }
+}
+
+impl Error for PageError {}
+
+impl fmt::Display for PageError {
+    fn fmt(&self, f: &mut fmt::Formatter) -> fmt::Result {
+        match self {
+            PageError::OutputFull => write!(f, "file is longer than the output"),
+            PageError::BadWindow => write!(f, "page and marks are no window"),
+            PageError::BadMark(place) => write!(f, "mark of place {place} is neither 0 nor 1"),
+            PageError::SynthesisFailed => write!(f, "no memory for the file of the page"),
+        }
+    }
+}
+
+/// The file's length, or the refusal that the code names.
+fn told(code: u32, value: u64) -> Result<usize, PageError> {
+    match code.wrapping_sub(ihex_sys::REFUSED) {
+        15 => Err(PageError::OutputFull),
+        16 => Err(PageError::BadWindow),
+        19 => Err(PageError::BadMark(value as usize)),
+        _ if code == 0 => Ok(value as usize),
+        _ => stranger(code),
+    }
+}
+
+/// How long the file of a page is: the length of what [`write_page`] gives. At most it is
+/// [`MAX_PAGE_FILE`].
+pub fn page_length(first: u32, page: &[u8], marks: &[u8]) -> Result<usize, PageError> {
+    let mut value = 0;
+    let code = ihex_sys::page_length(first, page, marks, &mut value);
+    told(code, value)
+}
+
+/// The file of a page whose first place has the address `first`: the bytes of the places whose mark is
+/// 1. Of two refusals that hold, `BadWindow` goes before `BadMark`.
+///
+/// Each run of marked places becomes data records of 16 bytes, the last of them shorter where need be,
+/// counted from the run's start and afresh at each multiple of 65,536, where a record is cut too. A
+/// type 04 record stands before the first data record and wherever the upper 16 bits of the address
+/// change; the end record is last, and stands alone where no place is marked. One LF stands behind each
+/// line.
+///
+/// [`load`](crate::load) of the file with the same `first` and lengths gives the same marks and the
+/// same bytes at them.
+///
+/// ```
+#[doc = include_str!("../examples/page.rs")]
+/// ```
+pub fn write_page(first: u32, page: &[u8], marks: &[u8]) -> Result<String, PageError> {
+    let length = page_length(first, page, marks)?;
+    let mut out = Vec::new();
+    out.try_reserve_exact(length)
+        .map_err(|_| PageError::SynthesisFailed)?;
+    out.resize(length, 0);
+    let written = write_page_into(first, page, marks, &mut out)?;
+    out.truncate(written);
+    String::from_utf8(out).map_err(|_| PageError::SynthesisFailed)
+}
+
+/// Writes the file of a page, as [`write_page`] gives it, from the output's start on, and says how long
+/// it is. No byte behind it changes, and on a refusal none at all. `OutputFull` goes behind the other
+/// refusals.
+pub fn write_page_into(
+    first: u32,
+    page: &[u8],
+    marks: &[u8],
+    out: &mut [u8],
+) -> Result<usize, PageError> {
+    let mut value = 0;
+    let code = ihex_sys::write_page(first, page, marks, out, &mut value);
+    told(code, value)
+}
