@@ -4,8 +4,9 @@
  * - A slice is a pointer and a length in bytes, below 2^63; with the length 0 the pointer is not used and may be null.
  * - A pointer to a number is not null. Nothing that a function writes overlaps anything else that it is given.
  *
- * No function allocates or keeps anything. A refusal changes no byte of any slice but of a carry, in which its line may have been
- * gathered; of that IHEX_POOL_FULL keeps the used bytes, and IHEX_CARRY_TOO_SMALL all.
+ * No function allocates or keeps anything. A writer changes no byte of the output behind the length that it tells. A refusal changes no
+ * byte of any slice but of a carry, in which its line may have been gathered; of that IHEX_POOL_FULL keeps the used bytes, and
+ * IHEX_CARRY_TOO_SMALL all.
  */
 #ifndef IHEX_H
 #define IHEX_H
@@ -182,9 +183,9 @@ uint32_t ihex_create_object_file_representation(const void *list, size_t list_le
                                                 uint8_t *out, size_t out_len,
                                                 uint64_t *value);
 
-/* Loads a text, both stops on, into a page from the address `first` on; marks become 1 where it states a byte, else 0. Returns 0
- * and counts data records in a; or IHEX_REFUSED and 16, the first line's 1 to 9 or 17, with its number in line (else 0), or 13; the
- * refusal's values are in a and b.
+/* Loads a text, both stops on, into a page from the address `first` on; marks become 1 where it states a byte, else 0, and there the
+ * page keeps its byte. Returns 0 and counts data records in a; or IHEX_REFUSED and 16, the first line's 1 to 9 or 17, with its number
+ * in line (else 0), or 13; the refusal's values are in a and b.
  * While a type 02 is the latest extension record, with base 16 times its number, and before any, with base 0, byte i of a data
  * record lies at base + ((offset + i) modulo 65,536). While a type 04 is, with base 65,536 times its number, it lies at
  * (base + offset + i) modulo 2^32. */
@@ -205,8 +206,8 @@ uint32_t ihex_page_length(uint32_t first,
  * first + p. Each run of marked places becomes data records of 16 bytes, the last of them shorter where need be, counted from the
  * run's start and afresh at each multiple of 65,536, where a record is cut too. A type 04 record stands before the first data record
  * and wherever the upper 16 bits of the address change; the end record is last, and stands alone where no place is marked. One LF
- * stands behind each line. No byte of the output behind the length changes. Loaded by ihex_load with the same `first` and lengths, the
- * file gives the same marks and the same bytes at them. */
+ * stands behind each line. Bytes of places without a mark do not matter. Loaded by ihex_load with the same `first` and lengths, the file
+ * gives the same marks and the same bytes at them. */
 uint32_t ihex_write_page(uint32_t first,
                          const uint8_t *page, size_t page_len,
                          const uint8_t *marks, size_t marks_len,

@@ -12,6 +12,8 @@ import sys
 MACHINE, RUSTC, CC, DRIVER, *COUNTER = sys.argv[1:]
 # Records of 16 bytes, which fill a page, and records of the other sizes.
 FULL, SOME = 4096, 1024
+# Records at 1, 2, 4 and 8 times the size.
+SIZES = (512, 1024, 2048, 4096)
 ALL = ("crate", "face", "port", "floor")
 WORK = {
     "record": "read a record",
@@ -32,8 +34,8 @@ LOADS = {
     "linear": "behind a type 04",
     "across": "each across the end of segment 0",
 }
-# Pages of 65,536 places by which of them are marked: the multiples of a number.
-PLACES = 65_536
+# Pages by which of their places are marked: the multiples of a number.
+PLACES = 16 * FULL
 PAGES = {1: "all", 2: "every second", PLACES: "one"}
 REPETITIONS = 2
 
@@ -134,12 +136,11 @@ def show_times(who):
 
 def show_growth():
     print("Instructions a record of 16 bytes at 1, 2, 4 and 8 times the size, of the port:\n")
-    sizes = (512, 1024, 2048, 4096)
     rows = []
     for what in ("text", "object", "load"):
-        grown = [instructions("port", what, 16, records)[0] for records in sizes]
+        grown = [instructions("port", what, 16, records)[0] for records in SIZES]
         rows.append([WORK[what]] + [f"{n:,.1f}" for n in grown])
-    table(["Work"] + [f"{records:,} records" for records in sizes], rows)
+    table(["Work"] + [f"{records:,} records" for records in SIZES], rows)
 
 
 def show_loads(reading):
@@ -161,6 +162,12 @@ def show_pages(who):
             sys.exit(f"pages, {marked} marked: the results differ, {found}")
         rows.append([marked] + [f"{n * FULL / PLACES:,.2f}" for n, _ in found] + [f"{int(found[0][1]):,}"])
     table(["Marked places"] + who + ["bytes of the file"], rows)
+    print("The same at 1, 2, 4 and 8 times the size, of the port:\n")
+    rows = []
+    for every, marked in PAGES.items():
+        grown = [instructions("port", "page", 16, records, every)[0] / 16 for records in SIZES]
+        rows.append([marked] + [f"{n:,.2f}" for n in grown])
+    table(["Marked places"] + [f"{16 * records:,} places" for records in SIZES], rows)
 
 
 def in_chunks():

@@ -4,3 +4,4 @@ pub mod Texts
 pub mod Listing
 pub mod Claims
 pub mod RoundTrip
+pub mod Pages

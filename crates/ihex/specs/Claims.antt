@@ -1,4 +1,4 @@
--- What is claimed of the entry points beyond their contracts, and proved in `proofs/Claims.antt` and `proofs/Chunks.antt`.
+-- What is claimed of the entry points beyond their contracts, and proved in `proofs/Claims.antt`, `proofs/Chunks.antt` and `proofs/Pages.antt`.
 -- Assumes nothing.
 use Prim.Native.Nat.{ℕ}
 use mathlib.Core.Path.{_≡_}
@@ -7,11 +7,15 @@ use mathlib.Core.Option.{none, some}
 use mathlib.Core.List.{List, [], _∷_, _++_}
 use lib.ListN.{length, take}
 use Rattle.checksum.specs.Claims.{Checksum-unique}
+use Rattle.record.specs.Common.{Every, Byte}
 use Rattle.record.specs.declared.Record.the-variants.{Data, EndOfFile, StartSegmentAddress, StartLinearAddress}
 use Rattle.reader.specs.declared.State.{State}
 use Rattle.chunks.specs.declared.Chunks.{Chunks}
 use Rattle.chunks.specs.declared.Place.{Place}
 use Rattle.chunks.specs.Next.{Outcome, too-small, next-outcome, finish-outcome}
+use Rattle.loader.specs.Load.{accepted}
+use Rattle.page.specs.Pieces.{pieces}
+use Rattle.page.specs.Claims.{Restores}
 use Rattle.ihex.specs.Codes.{chunks-of, chunk-flags-of, lies-of, from-of, len-of, place-of}
 use Rattle.ihex.specs.Entry.{records-of}
 use Rattle.ihex.specs.Entries.{IhexReadRecord, IhexNext, Chunk-read, IhexShown, IhexToRecordString, IhexCreateObjectFileRepresentation, IhexLoad, IhexPageLength, IhexWritePage}
@@ -98,6 +102,18 @@ abbrev pub Too-small-keeps : Type 0
 Too-small-keeps =
     (s : Chunks) (chunk carry pool : List ℕ) (at : ℕ) → too-small s carry ≡ true
     → Unchanged-by (next-outcome s chunk carry pool at) chunk carry pool × Unchanged-by (finish-outcome s carry pool at) [] carry pool
+
+-- ---- a page
+
+-- what `ihex_write_page` wrote, loaded by `ihex_load` into the same window, whatever that held: accepted with all its data records, with the
+-- same marks and the same bytes at them; every other place keeps its byte
+abbrev pub Page-loads-back : Type 0
+Page-loads-back =
+    (first : ℕ) (page marks out : List ℕ) (n : ℕ) (out′ old-page old-marks : List ℕ) (r l a b : ℕ) (page′ marks′ : List ℕ)
+    → Every Byte page → length old-page ≡ length page → length old-marks ≡ length marks
+    → IhexWritePage first page marks out 0 n out′ → IhexLoad (take n out′) first old-page old-marks r l a b page′ marks′
+    → let k = length (pieces first 0 none marks) in
+    (r ≡ 0) × (a ≡ k) × Restores page marks old-page (record { answer = accepted (record { records = k }); page = page′; marks = marks′ })
 
 -- ---- examples of a list in bytes
 

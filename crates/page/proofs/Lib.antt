@@ -11,3 +11,4 @@ pub mod Files
 pub mod Loading
 pub mod Answers
 pub mod Claims
+pub mod Calls

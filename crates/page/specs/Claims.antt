@@ -16,7 +16,9 @@ use Rattle.writer.specs.Told.{Told, wrote, refuses}
 use Rattle.writer.specs.Text.{chars, refused}
 use Rattle.writer.specs.Line.{line}
 use Rattle.writer.specs.Object.{object}
+use Rattle.loader.specs.declared.Loading.{Loading}
 use Rattle.loader.specs.Load.{accepted, Loaded, load}
+use Rattle.loader.specs.Told.{Load, told as told-loading}
 use Rattle.loader.specs.Claims.{Window}
 use Rattle.page.specs.declared.PageError.{PageError}
 use Rattle.page.specs.declared.PageError.the-variants.{OutputFull}
@@ -67,6 +69,15 @@ Loads-back =
     → let l = load (file first page marks) first old-page old-marks in
     (l .answer ≡ accepted (record { records = length (pieces first 0 none marks) })) × Restores page marks old-page l
 
+-- the n bytes that `write_page` says it wrote, given to `load`: it need not be said that the page is one that is written
+abbrev pub Written-loads-back : Type 0
+Written-loads-back =
+    (first : ℕ) (page marks out : List ℕ) (n : ℕ) (out′ old-page old-marks : List ℕ) (r : Loading) (page′ marks′ : List ℕ)
+    → Every Byte page → length old-page ≡ length page → length old-marks ≡ length marks
+    → WritePage first page marks out (Wrote n) out′ → Load (take n out′) first old-page old-marks r page′ marks′
+    → (told-loading r ≡ accepted (record { records = length (pieces first 0 none marks) }))
+    × Restores page marks old-page (record { answer = told-loading r; page = page′; marks = marks′ })
+
 -- ---- two pages
 
 -- for one window, equal marks and equal marked bytes give equal files
@@ -76,7 +87,14 @@ Equal-files =
     → ((i : ℕ) → getD marks i 0 ≡ 1 → getD page₁ i 0 ≡ getD page₂ i 0)
     → file first page₁ marks ≡ file first page₂ marks
 
--- and nothing else does
+-- so two such pages are answered alike, refusals and all, and leave an output alike
+abbrev pub Equal-answers : Type 0
+Equal-answers =
+    (first : ℕ) (page₁ page₂ marks out : List ℕ) (r₁ r₂ : Paged) (o₁ o₂ : List ℕ) → length page₁ ≡ length page₂
+    → ((i : ℕ) → getD marks i 0 ≡ 1 → getD page₁ i 0 ≡ getD page₂ i 0)
+    → WritePage first page₁ marks out r₁ o₁ → WritePage first page₂ marks out r₂ o₂ → (r₁ ≡ r₂) × (o₁ ≡ o₂)
+
+-- and nothing else gives equal files
 abbrev pub Files-tell : Type 0
 Files-tell =
     (first : ℕ) (page₁ marks₁ page₂ marks₂ : List ℕ) → Page first page₁ marks₁ → Page first page₂ marks₂ → Every Byte page₁ → Every Byte page₂
@@ -109,6 +127,11 @@ One-reason = (first : ℕ) (page marks : List ℕ) (room : ℕ) (t t′ : Told) 
 -- seven bytes for each place and 58 more have room for every file
 abbrev pub Room : Type 0
 Room = (first : ℕ) (page marks : List ℕ) → Window first page marks → length (file first page marks) ≤ 7 * length marks + 58
+
+-- so each answer of `page_length` has the reason that it has in every output with that room, and is never 15
+abbrev pub Length-reasons : Type 0
+Length-reasons =
+    (first : ℕ) (page marks : List ℕ) (r : Paged) (space : ℕ) → PageLength first page marks r → 7 * length marks + 58 ≤ space → Why first page marks space (told r)
 
 -- `page_length` answers as `write_page` does, but that the latter may lack the room
 abbrev pub Length-as-written : Type 0

@@ -25,21 +25,22 @@ pub enum PageError {
     OutputFull,
 }
 
-// What a writer of a page answers.
+// What is answered of the file of a page.
 pub enum Paged {
-    // The length of the file.
+    // It is written, or can be: its length.
     Wrote(usize),
     Refused(PageError),
 }
 
-// Where the writing of a page stands: at a place, behind a type 04 record with these upper 16 bits.
+// Where a walk over the records of a file stands: at a place, with the upper 16 bits of the latest type 04 record, or NONE before the first,
+// and whether the end record was given.
 struct Walk {
     place: usize,
     latest: u32,
     finished: bool,
 }
 
-// A record of the file, and where the writing stands behind it.
+// A record of the file, and where the walk stands behind it.
 struct Step {
     given: Record,
     walk: Walk,

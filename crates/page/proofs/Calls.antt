@@ -1,0 +1,76 @@
+-- The claims on calls: of what was written and is loaded again, of two pages that are written, and of why a length is told.
+-- Assumes nothing.
+use Prim.Native.Nat.{ℕ}
+use mathlib.Core.Path.{_≡_, refl, sym, _∙_, ap, subst}
+use mathlib.Core.Bool.{Bool, true, false}
+use mathlib.Core.Option.{none}
+use mathlib.Core.List.{List}
+use native.Mathlib.Omega.{arith}
+use native.Mathlib.Nat.{zero-add}
+use lib.ListN.{length, getD, take}
+use Rattle.record.specs.Common.{Every, Byte}
+use Rattle.writer.specs.Told.{wrote}
+use Rattle.writer.specs.Text.{place-behind}
+use Rattle.loader.specs.Load.{Verdict, accepted, unfit, Loaded, load}
+use Rattle.loader.specs.Told.{told}
+use Rattle.loader.proofs.Demand3.{good-window}
+use Rattle.page.specs.declared.Paged.the-variants.{Wrote}
+use Rattle.page.specs.Pieces.{pieces}
+use Rattle.page.specs.File.{file, good-marks, page-text}
+use Rattle.page.specs.Told.{WritePage}
+use Rattle.page.specs.Claims.{Page, Restores, Why, no-window, ill-marked, all-written, Written-loads-back, Equal-answers, Length-reasons}
+use Rattle.page.proofs.Files.{equal-files}
+use Rattle.page.proofs.Loading.{loads-back}
+use Rattle.page.proofs.Room.{room}
+use Rattle.page.proofs.Claims.{text-cases, reasons, rest-untouched, write-page-unique}
+
+-- what is written is a page that neither 16 nor 19 refuses
+written-page : (first : ℕ) (page marks : List ℕ) (space n : ℕ) → Why first page marks space (wrote n) → Page first page marks
+written-page first page marks space _ (all-written p l) = p
+
+-- page and marks alone count
+pub restores-so : (page marks old-page page′ marks′ : List ℕ) (l : Loaded) (answer : Verdict) → page′ ≡ l .page → marks′ ≡ l .marks → Restores page marks old-page l
+    → Restores page marks old-page (record { answer = answer; page = page′; marks = marks′ })
+restores-so page marks old-page page′ marks′ l answer p m r =
+    let at : (i : ℕ) → getD page′ i 0 ≡ getD (l .page) i 0 = λ i. ap (λ (x : List ℕ). getD x i 0) p in
+    record { same-marks = m ∙ r .same-marks; same-bytes = λ i e. at i ∙ r .same-bytes i e; others-kept = λ i e. at i ∙ r .others-kept i e }
+
+-- what was written is loaded as the file is
+pub loaded-back : (first : ℕ) (page marks out : List ℕ) (n : ℕ) (out′ old-page old-marks : List ℕ)
+    → Every Byte page → length old-page ≡ length page → length old-marks ≡ length marks → WritePage first page marks out (Wrote n) out′
+    → let l = load (take n out′) first old-page old-marks in
+    (l .answer ≡ accepted (record { records = length (pieces first 0 none marks) })) × Restores page marks old-page l
+loaded-back first page marks out n out′ old-page old-marks b lp lm w =
+    subst (λ (text : List ℕ). let l = load text first old-page old-marks in
+    (l .answer ≡ accepted (record { records = length (pieces first 0 none marks) })) × Restores page marks old-page l)
+    (sym (rest-untouched first page marks out n out′ w .0))
+    (loads-back first page marks old-page old-marks (written-page first page marks (length out) n (reasons first page marks out (Wrote n) out′ w)) b lp lm)
+
+pub written-loads-back : Written-loads-back
+written-loads-back first page marks out n out′ old-page old-marks r page′ marks′ b lp lm w l =
+    let k = loaded-back first page marks out n out′ old-page old-marks b lp lm w in
+    (l .answer ∙ k .0, restores-so page marks old-page page′ marks′ (load (take n out′) first old-page old-marks) (told r) (l .page) (l .marks) (k .1))
+
+-- of two pages that are alike at marked places the same text is written, or the same refusal stands in its place
+same-text : (first : ℕ) (page₁ page₂ marks : List ℕ) → length page₁ ≡ length page₂
+    → ((i : ℕ) → getD marks i 0 ≡ 1 → getD page₁ i 0 ≡ getD page₂ i 0) → page-text first page₁ marks ≡ page-text first page₂ marks
+unfolding page-text
+same-text first page₁ page₂ marks l h = go (unfit first (length page₂) (length marks)) refl
+  where
+    go : (b : Bool) → unfit first (length page₂) (length marks) ≡ b → page-text first page₁ marks ≡ page-text first page₂ marks
+    go true e = rw (l, e)
+    go false e =
+        let w = good-window first page₂ marks e in
+        rw (l, e, equal-files first page₁ page₂ marks (l ∙ w .even) (w .even) h)
+
+pub equal-answers : Equal-answers
+equal-answers first page₁ page₂ marks out r₁ r₂ o₁ o₂ l h x y =
+    let s = same-text first page₁ page₂ marks l h in
+    write-page-unique first page₂ marks out r₁ r₂ o₁ o₂ (record { answer = rw s at (x .answer); left = rw s at (x .left) }) y
+
+pub length-reasons : Length-reasons
+length-reasons first page marks r space l h =
+    rw (l .answer)
+    (text-cases first page marks (λ t. Why first page marks space (place-behind t 0))
+    no-window (λ v f. ill-marked (good-marks marks) v f)
+    (λ p. rw (zero-add (length (file first page marks))) (all-written p (omega (arith, room first page marks (p .window))))))
