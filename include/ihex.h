@@ -196,7 +196,7 @@ uint32_t ihex_load(const uint8_t *text, size_t text_len, uint32_t first,
 
 /* How long the file is that ihex_write_page writes: returns 0 and its length as the value, or IHEX_REFUSED and the first of 16, 19 that
  * holds, with the value of 19; the value of 16 is 0. Of the page only the length counts. */
-uint32_t ihex_page_length(uint32_t first,
+uint32_t ihex_page_file_length(uint32_t first,
                           const uint8_t *page, size_t page_len,
                           const uint8_t *marks, size_t marks_len,
                           uint64_t *value);

@@ -246,9 +246,11 @@ def compare_all(tool):
 
 PAGEFILE = sys.argv[1:]
 CASES = list(cases())
-for each in (Objcopy(), SrecCat(), Intelhex()):
+TOOLS = Objcopy(), SrecCat(), Intelhex()
+for each in TOOLS:
     if each.there:
         compare_all(each)
     else:
         print('-- %s: passed over, as the package %s cannot be had' % (each.name, each.package))
+told('a tool could be had', any(each.there for each in TOOLS), 'none of the three')
 end()

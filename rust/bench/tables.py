@@ -162,6 +162,9 @@ def show_pages(who):
             sys.exit(f"pages, {marked} marked: the results differ, {found}")
         rows.append([marked] + [f"{n * FULL / PLACES:,.2f}" for n, _ in found] + [f"{int(found[0][1]):,}"])
     table(["Marked places"] + who + ["bytes of the file"], rows)
+
+
+def show_page_growth():
     print("The same at 1, 2, 4 and 8 times the size, of the port:\n")
     rows = []
     for every, marked in PAGES.items():
@@ -216,6 +219,7 @@ def main():
     show_growth()
     loading = show_loads(count["port", "text", 16])
     show_pages(who)
+    show_page_growth()
     chunks = in_chunks()
     show_chunks(chunks)
     show_bars(who, count, loading, chunks)

@@ -1467,7 +1467,7 @@ static void windows(void)
 static uint8_t dump[IHEX_MAX_PAGE], written[PAGE_TEXT + 1], shown[IHEX_MAX_PAGE], set[IHEX_MAX_PAGE];
 static struct ihex_record list[PAGE_RECORDS + 1];
 
-static uint32_t write_page(size_t out_len, uint64_t *value)
+static uint32_t write_full_page(size_t out_len, uint64_t *value)
 {
     memset(written, OLD, sizeof written);
     return ihex_create_object_file_representation(list, sizeof list, dump, sizeof dump, written, out_len, value);
@@ -1486,11 +1486,11 @@ static void full_page(void)
     }
     list[PAGE_RECORDS].type = IHEX_END_OF_FILE;
 
-    CHECK(write_page(PAGE_TEXT - 1, &value) == IHEX_REFUSED + IHEX_OUTPUT_FULL && value == 0);
+    CHECK(write_full_page(PAGE_TEXT - 1, &value) == IHEX_REFUSED + IHEX_OUTPUT_FULL && value == 0);
     for (i = 0; i < sizeof written && written[i] == OLD; i++)
         ;
     CHECK(i == sizeof written);
-    CHECK(write_page(PAGE_TEXT, &value) == IHEX_OK && value == PAGE_TEXT);
+    CHECK(write_full_page(PAGE_TEXT, &value) == IHEX_OK && value == PAGE_TEXT);
     CHECK(written[PAGE_TEXT] == OLD && memcmp(written + PAGE_TEXT - 12, ":00000001FF\n", 12) == 0);
     CHECK(ihex_load(written, PAGE_TEXT, 0, shown, sizeof shown, set, sizeof set, &at_line, &records, &none) == IHEX_OK);
     CHECK(records == PAGE_RECORDS && none == 0 && at_line == 0);
@@ -1533,18 +1533,18 @@ static void fill_window(void)
         window.page[i] = (uint8_t)(i * 7 + i / 256);
 }
 
-static uint32_t page_length(void)
+static uint32_t page_file_length(void)
 {
     const uint8_t *page = given(&page_, window.page, window.page_len);
     const uint8_t *marks = given(&marks_, window.marks, window.marks_len);
     uint32_t r;
     fresh();
-    r = ihex_page_length(window.first, page, window.page_len, marks, window.marks_len, &a.value);
+    r = ihex_page_file_length(window.first, page, window.page_len, marks, window.marks_len, &a.value);
     CHECK(fenced() && b.value == EDGES && c.value == EDGES && same(&page_, window.page) && same(&marks_, window.marks));
     return r;
 }
 
-/* where the file goes: the widest room is for the longest only */
+/* where the file goes: one that is longer than other outputs has a room of its own */
 static struct lent *file;
 
 static uint32_t page_file(size_t out_len)
@@ -1601,12 +1601,12 @@ static void turn_unmarked(void)
 static void has_file(const char *text, size_t n)
 {
     begin_case();
-    CHECK(page_length() == IHEX_OK && a.value == n);
+    CHECK(page_file_length() == IHEX_OK && a.value == n);
     CHECK(page_file(n - 1) == IHEX_REFUSED + IHEX_OUTPUT_FULL && a.value == 0 && untouched(file));
     CHECK(page_file(0) == IHEX_REFUSED + IHEX_OUTPUT_FULL && a.value == 0 && untouched(file));
     CHECK(page_file(n + MORE) == IHEX_OK && a.value == n && holds(file, 0, text, n));
     turn_unmarked();
-    CHECK(page_length() == IHEX_OK && a.value == n);
+    CHECK(page_file_length() == IHEX_OK && a.value == n);
     CHECK(page_file(n) == IHEX_OK && a.value == n && same(file, text));
     CHECK(loads_back(text, n));
     end_case();
@@ -1616,7 +1616,7 @@ static void has_file(const char *text, size_t n)
 static void has_no_file(uint32_t refusal, uint64_t value)
 {
     begin_case();
-    CHECK(page_length() == IHEX_REFUSED + refusal && a.value == value);
+    CHECK(page_file_length() == IHEX_REFUSED + refusal && a.value == value);
     CHECK(page_file(MORE) == IHEX_REFUSED + refusal && a.value == value && untouched(file));
     CHECK(page_file(0) == IHEX_REFUSED + refusal && a.value == value && untouched(file));
     end_case();
@@ -1872,7 +1872,7 @@ static uint32_t draw(uint32_t limit)
     return (uint32_t)((uint64_t)drawn * limit >> 32);
 }
 
-/* a window that mostly crosses a multiple of 65,536 or ends close to 2^32, with runs and gaps of up to `longest` places */
+/* a window that mostly crosses a multiple of 65,536 or ends close to 2^32, with runs and gaps put together from lengths that are drawn */
 static void draw_window(void)
 {
     static const uint32_t longest[] = {2, 5, 20, 70};
@@ -1908,6 +1908,19 @@ static void drawn_pages(void)
             has_no_file(IHEX_BAD_MARK, bad);
         }
     }
+}
+
+static void written_pages(void)
+{
+    pages_across_a_multiple();
+    pages_cut_into_records();
+    pages_without_marks();
+    runs_in_pages();
+    pages_in_bad_windows();
+    pages_in_last_windows();
+    pages_with_bad_marks();
+    greatest_files();
+    drawn_pages();
 }
 
 int main(void)
@@ -1950,15 +1963,7 @@ int main(void)
     places_in_loads();
     windows();
     full_page();
-    pages_across_a_multiple();
-    pages_cut_into_records();
-    pages_without_marks();
-    runs_in_pages();
-    pages_in_bad_windows();
-    pages_in_last_windows();
-    pages_with_bad_marks();
-    greatest_files();
-    drawn_pages();
+    written_pages();
     printf("%d passed, %d failed\n", passed, failed);
     return failed != 0;
 }

@@ -10,7 +10,7 @@ use Rattle.chunks.specs.Next.{Outcome, next-outcome, finish-outcome}
 use Rattle.ihex.specs.Codes.{Message, Numbers}
 use Rattle.ihex.specs.Entry.{records-of}
 use Rattle.ihex.specs.Entries.{Wrote-text}
-use Rattle.ihex.specs.Claims.{Ihex-checksum-unique, Ihex-read-record-unique, Ihex-next-unique, One-chunk-read, Ihex-next-chunk-unique, Ihex-finish-unique, Ihex-shown-unique, Ihex-to-record-string-unique, Ihex-create-object-file-representation-unique, Ihex-load-unique, Ihex-page-length-unique, Ihex-write-page-unique, List-examples}
+use Rattle.ihex.specs.Claims.{Ihex-checksum-unique, Ihex-read-record-unique, Ihex-next-unique, One-chunk-read, Ihex-next-chunk-unique, Ihex-finish-unique, Ihex-shown-unique, Ihex-to-record-string-unique, Ihex-create-object-file-representation-unique, Ihex-load-unique, Ihex-page-file-length-unique, Ihex-write-page-unique, List-examples}
 
 pub ihex-checksum-unique : Ihex-checksum-unique
 ihex-checksum-unique = checksum-unique
@@ -65,8 +65,8 @@ ihex-load-unique text first page marks r l a b p m r′ l′ a′ b′ p′ m′
   x .marks-is ∙ sym (y .marks-is),
 )
 
-pub ihex-page-length-unique : Ihex-page-length-unique
-ihex-page-length-unique first page marks r v r′ v′ x y = (x .code-is ∙ sym (y .code-is), x .value-is ∙ sym (y .value-is))
+pub ihex-page-file-length-unique : Ihex-page-file-length-unique
+ihex-page-file-length-unique first page marks r v r′ v′ x y = (x .code-is ∙ sym (y .code-is), x .value-is ∙ sym (y .value-is))
 
 pub ihex-write-page-unique : Ihex-write-page-unique
 ihex-write-page-unique first page marks out r v o r′ v′ o′ x y = same-text x y

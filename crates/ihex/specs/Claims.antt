@@ -18,7 +18,7 @@ use Rattle.page.specs.Pieces.{pieces}
 use Rattle.page.specs.Claims.{Restores}
 use Rattle.ihex.specs.Codes.{chunks-of, chunk-flags-of, lies-of, from-of, len-of, place-of}
 use Rattle.ihex.specs.Entry.{records-of}
-use Rattle.ihex.specs.Entries.{IhexReadRecord, IhexNext, Chunk-read, IhexShown, IhexToRecordString, IhexCreateObjectFileRepresentation, IhexLoad, IhexPageLength, IhexWritePage}
+use Rattle.ihex.specs.Entries.{IhexReadRecord, IhexNext, Chunk-read, IhexShown, IhexToRecordString, IhexCreateObjectFileRepresentation, IhexLoad, IhexPageFileLength, IhexWritePage}
 
 -- ---- no second answer meets a contract
 
@@ -74,9 +74,9 @@ Ihex-load-unique =
     → IhexLoad text first page marks r l a b p m → IhexLoad text first page marks r′ l′ a′ b′ p′ m′
     → ((r ≡ r′) × (l ≡ l′) × (a ≡ a′) × (b ≡ b′)) × (p ≡ p′) × (m ≡ m′)
 
-abbrev pub Ihex-page-length-unique : Type 0
-Ihex-page-length-unique =
-    (first : ℕ) (page marks : List ℕ) (r v r′ v′ : ℕ) → IhexPageLength first page marks r v → IhexPageLength first page marks r′ v′ → (r ≡ r′) × (v ≡ v′)
+abbrev pub Ihex-page-file-length-unique : Type 0
+Ihex-page-file-length-unique =
+    (first : ℕ) (page marks : List ℕ) (r v r′ v′ : ℕ) → IhexPageFileLength first page marks r v → IhexPageFileLength first page marks r′ v′ → (r ≡ r′) × (v ≡ v′)
 
 abbrev pub Ihex-write-page-unique : Type 0
 Ihex-write-page-unique =

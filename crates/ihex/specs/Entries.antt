@@ -98,8 +98,8 @@ pub record IhexLoad (text : List ℕ) (first : ℕ) (page marks : List ℕ) (r l
   pub page-is : page′ ≡ load text first page marks .page
   pub marks-is : marks′ ≡ load text first page marks .marks
 
--- how long the text of a page is that is written: an answer in two numbers
-pub record IhexPageLength (first : ℕ) (page marks : List ℕ) (r v : ℕ) : Type 0 where
+-- how long the file of a page is: an answer in two numbers
+pub record IhexPageFileLength (first : ℕ) (page marks : List ℕ) (r v : ℕ) : Type 0 where
   pub code-is : r ≡ writing (some (place-behind (page-text first page marks) 0)) .code
   pub value-is : v ≡ value (writing (some (place-behind (page-text first page marks) 0))) 0
 

@@ -31,7 +31,7 @@ ghost use Rattle.page.specs.Told.{told as told-page, refusal-of as page-refusal
 ghost use Rattle.ihex.specs.Codes.{Coded-as, Flag, refused-with, reading, reading-chunk, writing, loading, line-at, state-of, flags-of, chunks-of, chunk-flags-of, place-of, Spot-as, start-of};
 ghost use Rattle.ihex.specs.Entry.{two-at, four-at, eight-at, record-of, record-at, entry-of};
 ghost use Rattle.ihex.specs.Helpers.{Is-list, Good, Surveyed-as, Stepped, TellStep};
-ghost use Rattle.ihex.specs.Entries.{IhexReadRecord, IhexNext, IhexNextChunk, IhexFinish, IhexShown, IhexToRecordString, IhexCreateObjectFileRepresentation, IhexLoad, IhexPageLength, IhexWritePage};
+ghost use Rattle.ihex.specs.Entries.{IhexReadRecord, IhexNext, IhexNextChunk, IhexFinish, IhexShown, IhexToRecordString, IhexCreateObjectFileRepresentation, IhexLoad, IhexPageFileLength, IhexWritePage};
 
 // What is given in numbers is no record.
 const BAD_RECORD: u32 = 1024;
@@ -711,10 +711,15 @@ fn code_paged(answer: Paged) -> Coded
 
 // The length of the file of a page with marks.
 #[no_mangle]
-pub extern "C" fn ihex_page_length(first: u32, page: &[u8], marks: &[u8], value: &mut u64) -> u32
-    ensures { λ r. ⌜ IhexPageLength first (now (page .entry)) (now (marks .entry)) r (now (value .exit)) ⌝ }
+pub extern "C" fn ihex_page_file_length(
+    first: u32,
+    page: &[u8],
+    marks: &[u8],
+    value: &mut u64,
+) -> u32
+    ensures { λ r. ⌜ IhexPageFileLength first (now (page .entry)) (now (marks .entry)) r (now (value .exit)) ⌝ }
 {
-    let told = code_paged(page::page_length(first, page, marks));
+    let told = code_paged(page::page_file_length(first, page, marks));
     *value = told.a;
     told.code
 }

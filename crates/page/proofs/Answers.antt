@@ -29,7 +29,7 @@ use Rattle.page.specs.declared.PageError.{PageError}
 use Rattle.page.specs.declared.Paged.{Paged}
 use Rattle.page.specs.declared.Paged.the-variants.{Refused}
 use Rattle.page.specs.File.{page-records, file, good-marks, page-text}
-use Rattle.page.specs.Told.{refusal-of, PageLength, WritePage}
+use Rattle.page.specs.Told.{refusal-of, PageFileLength, WritePage}
 use Rattle.page.specs.Helpers.{Surveyed-whole, May-be-full, As-written}
 use Rattle.page.proofs.Files.{file-is-object}
 use Rattle.page.proofs.Room.{room}
@@ -104,11 +104,11 @@ never-refused a n e r h = cc
 -- ---- the contracts
 
 module _ (first : ℕ) (page marks : List ℕ) where
-  pub length-refused : (e : PageError) → page-text first page marks ≡ refused (refusal-of e) → PageLength first page marks (Refused e)
+  pub length-refused : (e : PageError) → page-text first page marks ≡ refused (refusal-of e) → PageFileLength first page marks (Refused e)
   length-refused e h = record { answer = rw h }
 
   pub length-told : (a : Written) (r : Paged) → page-text first page marks ≡ chars (file first page marks) → writer.told a ≡ wrote (length (file first page marks)) → As-written a r
-      → PageLength first page marks r
+      → PageFileLength first page marks r
   length-told a r t h k = record { answer = k ∙ h ∙ rw (t, zero-add (length (file first page marks))) }
 
   pub page-refused : (out : List ℕ) (e : PageError) → page-text first page marks ≡ refused (refusal-of e) → WritePage first page marks out (Refused e) out

@@ -1,28 +1,38 @@
--- The claims on calls: of what was written and is loaded again, of two pages that are written, and of why a length is told.
+-- The claims on calls: of what was written and is loaded again, of two pages that are written, and of why a length is told and what it hangs on.
 -- Assumes nothing.
-use Prim.Native.Nat.{ℕ}
+use Prim.Native.Nat.{ℕ, _+_}
 use mathlib.Core.Path.{_≡_, refl, sym, _∙_, ap, subst}
 use mathlib.Core.Bool.{Bool, true, false}
 use mathlib.Core.Option.{none}
-use mathlib.Core.List.{List}
+use mathlib.Core.List.{List, [], _∷_}
 use native.Mathlib.Omega.{arith}
 use native.Mathlib.Nat.{zero-add}
-use lib.ListN.{length, getD, take}
-use Rattle.record.specs.Common.{Every, Byte}
+use lib.Dec.{ltb}
+use lib.ListN.{length, getD, take, length-append}
+use Rattle.record.specs.Common.{if_then_else_, Every, Byte}
+use Rattle.record.specs.Refusals.{bad-mark}
+use Rattle.record.specs.declared.Record.{Record}
+use Rattle.record.specs.Record.{meant}
+use Rattle.record.specs.Written.{payload-of}
+use Rattle.record.proofs.Tests.{both-ways}
+use Rattle.record.proofs.Parts.{part-length}
 use Rattle.writer.specs.Told.{wrote}
-use Rattle.writer.specs.Text.{place-behind}
+use Rattle.writer.specs.Text.{chars, refused, place-behind}
+use Rattle.writer.specs.Line.{ended-line}
+use Rattle.writer.specs.Object.{joined-lines}
 use Rattle.loader.specs.Load.{Verdict, accepted, unfit, Loaded, load}
 use Rattle.loader.specs.Told.{told}
 use Rattle.loader.proofs.Demand3.{good-window}
 use Rattle.page.specs.declared.Paged.the-variants.{Wrote}
 use Rattle.page.specs.Pieces.{pieces}
-use Rattle.page.specs.File.{file, good-marks, page-text}
+use Rattle.page.specs.File.{page-records, file, good-marks, page-text}
 use Rattle.page.specs.Told.{WritePage}
-use Rattle.page.specs.Claims.{Page, Restores, Why, no-window, ill-marked, all-written, Written-loads-back, Equal-answers, Length-reasons}
-use Rattle.page.proofs.Files.{equal-files}
+use Rattle.page.specs.Claims.{Page, Restores, Why, no-window, ill-marked, all-written, Written-loads-back, Equal-answers, Length-reasons, Length-of-lengths}
+use Rattle.page.proofs.Held.{Good, all-good}
+use Rattle.page.proofs.Files.{every-record, equal-files}
 use Rattle.page.proofs.Loading.{loads-back}
-use Rattle.page.proofs.Room.{room}
-use Rattle.page.proofs.Claims.{text-cases, reasons, rest-untouched, write-page-unique}
+use Rattle.page.proofs.Room.{ended-length, room}
+use Rattle.page.proofs.Claims.{text-cases, reasons, rest-untouched, told-apart, write-page-unique}
 
 -- what is written is a page that neither 16 nor 19 refuses
 written-page : (first : ℕ) (page marks : List ℕ) (space n : ℕ) → Why first page marks space (wrote n) → Page first page marks
@@ -52,10 +62,10 @@ written-loads-back first page marks out n out′ old-page old-marks r page′ ma
     (l .answer ∙ k .0, restores-so page marks old-page page′ marks′ (load (take n out′) first old-page old-marks) (told r) (l .page) (l .marks) (k .1))
 
 -- of two pages that are alike at marked places the same text is written, or the same refusal stands in its place
-same-text : (first : ℕ) (page₁ page₂ marks : List ℕ) → length page₁ ≡ length page₂
+same-page-text : (first : ℕ) (page₁ page₂ marks : List ℕ) → length page₁ ≡ length page₂
     → ((i : ℕ) → getD marks i 0 ≡ 1 → getD page₁ i 0 ≡ getD page₂ i 0) → page-text first page₁ marks ≡ page-text first page₂ marks
 unfolding page-text
-same-text first page₁ page₂ marks l h = go (unfit first (length page₂) (length marks)) refl
+same-page-text first page₁ page₂ marks l h = go (unfit first (length page₂) (length marks)) refl
   where
     go : (b : Bool) → unfit first (length page₂) (length marks) ≡ b → page-text first page₁ marks ≡ page-text first page₂ marks
     go true e = rw (l, e)
@@ -65,7 +75,7 @@ same-text first page₁ page₂ marks l h = go (unfit first (length page₂) (le
 
 pub equal-answers : Equal-answers
 equal-answers first page₁ page₂ marks out r₁ r₂ o₁ o₂ l h x y =
-    let s = same-text first page₁ page₂ marks l h in
+    let s = same-page-text first page₁ page₂ marks l h in
     write-page-unique first page₂ marks out r₁ r₂ o₁ o₂ (record { answer = rw s at (x .answer); left = rw s at (x .left) }) y
 
 pub length-reasons : Length-reasons
@@ -74,3 +84,42 @@ length-reasons first page marks r space l h =
     (text-cases first page marks (λ t. Why first page marks space (place-behind t 0))
     no-window (λ v f. ill-marked (good-marks marks) v f)
     (λ p. rw (zero-add (length (file first page marks))) (all-written p (omega (arith, room first page marks (p .window))))))
+
+-- ---- the length
+
+-- records whose payloads are as long have a text as long
+as-long : (rs : List Record) (pool₁ pool₂ : List ℕ) → Every (λ r. length (payload-of (meant r pool₁)) ≡ length (payload-of (meant r pool₂))) rs
+    → length (joined-lines rs pool₁) ≡ length (joined-lines rs pool₂)
+unfolding joined-lines
+as-long [] pool₁ pool₂ h = refl
+as-long (r ∷ rs) pool₁ pool₂ (h, hs) =
+    omega (
+      arith,
+      as-long rs pool₁ pool₂ hs,
+      length-append (ended-line r pool₁) (joined-lines rs pool₁),
+      length-append (ended-line r pool₂) (joined-lines rs pool₂),
+      ended-length r pool₁,
+      ended-length r pool₂,
+    )
+
+files-as-long : (first : ℕ) (page₁ page₂ marks : List ℕ) → length page₁ ≡ length marks → length page₂ ≡ length marks
+    → length (file first page₁ marks) ≡ length (file first page₂ marks)
+unfolding file page-records
+files-as-long first page₁ page₂ marks l₁ l₂ =
+    as-long (page-records first marks) page₁ page₂
+    (every-record first (λ r. length (payload-of (meant r page₁)) ≡ length (payload-of (meant r page₂))) (Good first marks)
+    (λ p g. part-length page₁ (p .place) (p .size) (omega (arith, g .inside)) ∙ sym (part-length page₂ (p .place) (p .size) (omega (arith, g .inside))))
+    (λ p g. refl) refl none (pieces first 0 none marks) (all-good first marks))
+
+pub length-of-lengths : Length-of-lengths
+unfolding page-text
+length-of-lengths first page₁ page₂ marks r₁ r₂ l x y = told-apart r₁ r₂ (x .answer ∙ go (unfit first (length page₂) (length marks)) refl ∙ sym (y .answer))
+  where
+    go : (b : Bool) → unfit first (length page₂) (length marks) ≡ b → place-behind (page-text first page₁ marks) 0 ≡ place-behind (page-text first page₂ marks) 0
+    go true e = rw (l, e)
+    go false e =
+        let w = good-window first page₂ marks e in
+        rw (l, e)
+        (both-ways (λ b. place-behind (if b then refused (bad-mark (good-marks marks)) else chars (file first page₁ marks)) 0
+        ≡ place-behind (if b then refused (bad-mark (good-marks marks)) else chars (file first page₂ marks)) 0) (ltb (good-marks marks) (length marks)) refl
+        (ap (λ (n : ℕ). wrote (0 + n)) (files-as-long first page₁ page₂ marks (l ∙ w .even) (w .even))))

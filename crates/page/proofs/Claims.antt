@@ -28,7 +28,7 @@ use Rattle.page.specs.declared.Paged.{Paged}
 use Rattle.page.specs.declared.Paged.the-variants.{Wrote, Refused}
 use Rattle.page.specs.File.{file, good-marks, page-text}
 use Rattle.page.specs.Told.{refusal-of, told}
-use Rattle.page.specs.Claims.{Mark, Page, First-bad, Why, no-window, ill-marked, no-room, all-written, Reasons, One-reason, Length-as-written, Refusal-changes-nothing, Rest-untouched, Told-apart, Page-length-unique, Write-page-unique, Examples}
+use Rattle.page.specs.Claims.{Mark, Page, First-bad, Why, no-window, ill-marked, no-room, all-written, Reasons, One-reason, Length-as-written, Refusal-changes-nothing, Rest-untouched, Told-apart, Page-file-length-unique, Write-page-unique, Examples}
 use Rattle.page.proofs.Loading.{good-mark}
 
 -- ---- marks
@@ -184,8 +184,8 @@ length-as-written first page marks out r r′ out′ l w = go (page-text first p
     go (chars cs) x y = by-room (0 + length cs) (leb (0 + length cs) (length out)) refl x y
     go (refused e) x y = inl (told-apart r r′ (x ∙ sym y))
 
-pub page-length-unique : Page-length-unique
-page-length-unique first page marks r r′ x y = told-apart r r′ (x .answer ∙ sym (y .answer))
+pub page-file-length-unique : Page-file-length-unique
+page-file-length-unique first page marks r r′ x y = told-apart r r′ (x .answer ∙ sym (y .answer))
 
 pub write-page-unique : Write-page-unique
 write-page-unique first page marks out r r′ o o′ x y = (told-apart r r′ (x .answer ∙ sym (y .answer)), x .left ∙ sym (y .left))

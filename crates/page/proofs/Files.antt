@@ -68,11 +68,11 @@ ends-later r [] e = absurd (true≢false (sym e))
 ends-later r (q ∷ rs) e = e
 
 -- the end record is last, and the only one
-ended : (first : ℕ) (latest : Option ℕ) (ps : List Piece) → (ends-in-end (records first latest ps) ≡ true) × (ends (records first latest ps) ≡ 1)
+ends-once : (first : ℕ) (latest : Option ℕ) (ps : List Piece) → (ends-in-end (records first latest ps) ≡ true) × (ends (records first latest ps) ≡ 1)
 unfolding records ends ends-in-end
-ended first latest [] = (refl, refl)
-ended first latest (p ∷ ps) =
-    let (l, o) = ended first (some (upper first p)) ps in
+ends-once first latest [] = (refl, refl)
+ends-once first latest (p ∷ ps) =
+    let (l, o) = ends-once first (some (upper first p)) ps in
     let l′ = ends-later (data-of first p) (records first (some (upper first p)) ps) l in
     both-ways (λ b.
     let rs : List Record = (if b then [] else ExtendedLinearAddress (upper first p) ∷ []) ++ (data-of first p ∷ records first (some (upper first p)) ps) in
@@ -82,7 +82,7 @@ ended first latest (p ∷ ps) =
 pub file-is-object : File-is-object
 unfolding file page-records
 file-is-object first page marks w =
-    let (l, o) = ended first none (pieces first 0 none marks) in
+    let (l, o) = ends-once first none (pieces first 0 none marks) in
     whole-object (page-records first marks) page (file first page marks) (record { fine = each-has-line first page marks w; lined = refl; ended = l; one = o })
 
 pub file-lines : File-lines

@@ -11,7 +11,7 @@ use native.Mathlib.Omega.{arith}
 use native.Mathlib.Nat.{add-zero, zero-add}
 use lib.ListN.{length, getD, take, drop, List·getD-eq-default}
 use lib.Seq.{drop-cons, ext-getD}
-use borrow.Author.Tests.{eq-eqb, ne-eqb, eqb-true, le-leb, lt-ltb}
+use borrow.Author.Tests.{eq-eqb, ne-eqb, le-leb, lt-ltb}
 use Rattle.record.specs.Common.{if_then_else_, Every}
 use Rattle.record.specs.declared.Record.{Record}
 use Rattle.record.specs.declared.Record.the-variants.{ExtendedLinearAddress}
@@ -35,6 +35,7 @@ use Rattle.page.specs.Spoken.{said-of, spoken}
 use Rattle.page.specs.Claims.{Mark, Restores, Loads-back, Files-tell}
 use Rattle.page.proofs.Spoken.{same-row}
 use Rattle.page.proofs.Shape.{made-so}
+use Rattle.page.proofs.Records.{is-so}
 use Rattle.page.proofs.Held.{Good, all-good}
 use Rattle.page.proofs.Files.{in-range, all-sayable, file-is-object}
 
@@ -45,11 +46,6 @@ steps-said : (n : ℕ) (base : Base) (m : Meaning) (rest : List Numbered) → Sa
     → steps base (on n (said-of m) ∷ rest) ≡ step-at n base m ++ steps (base-behind base m) rest
 unfolding steps
 steps-said n base m rest h = ap (λ (x : Meaning). step-at n base x ++ steps (base-behind base x) rest) (reads-back m h .means)
-
-latest-is : (latest : Option ℕ) (u : ℕ) → is-latest latest u ≡ true → latest ≡ some u
-unfolding is-latest
-latest-is none u e = cc
-latest-is (some v) u e = ap some (eqb-true v u e)
 
 -- the byte of a place of the page, at its address
 abbrev placement : (first : ℕ) (page : List ℕ) → ℕ → Placement
@@ -125,7 +121,7 @@ module _ (first : ℕ) (page : List ℕ) (below : first + length page ≤ 2 ^ 32
             → Comes-to base count (suc (length ps)) (spoken n ((if t then [] else ExtendedLinearAddress (upper first p) ∷ []) ++ (data-of first p ∷ later)) page)
             (places (p .place) (p .size) ++ held ps)
         go true e (s, h) ih =
-            rw (b (upper first p) (latest-is latest (upper first p) e)) (comes-data n count (length ps) p _ _ g s (ih (suc n) (suc count) h))
+            rw (b (upper first p) (is-so latest (upper first p) e)) (comes-data n count (length ps) p _ _ g s (ih (suc n) (suc count) h))
         go false e (s, (d, h)) ih =
             comes-upper n (upper first p) count (suc (length ps)) base _ _ s
             (comes-data (suc n) count (length ps) p _ _ g d (ih (suc (suc n)) (suc count) h))

@@ -13,18 +13,21 @@ use Rattle.writer.specs.Claims.{Surveys, Steps}
 use Rattle.page.specs.declared.Walk.{Walk}
 use Rattle.page.specs.declared.Step.{Step}
 use Rattle.page.specs.File.{page-records}
-use Rattle.page.specs.Helpers.{in-force, left, Under-way, Stepped}
+use Rattle.page.specs.Helpers.{latest-upper, to-come, Under-way, Stepped}
 
+-- the walk has given these records, and the rest is to come
 pub record Passed (first : ℕ) (marks : List ℕ) (rs : List Record) (w : Walk) (finished : Bool) : Type 0 where
   pub same : finished ≡ w .finished
   pub inside : w .place ≤ length marks
-  pub whole : rs ++ left first marks w ≡ page-records first marks
+  pub whole : rs ++ to-come first marks w ≡ page-records first marks
 
+-- and they are surveyed
 pub record Surveying (first : ℕ) (page marks : List ℕ) (s : Survey) (w : Walk) (finished : Bool) : Type 0 where
   pub rs : List Record
   pub passed : Passed first marks rs w finished
   pub surveys : Surveys page rs s
 
+-- or written
 pub record Stepping (first : ℕ) (page marks out : List ℕ) (start : Written) (out′ : List ℕ) (done : Written) (w : Walk) (finished : Bool) : Type 0 where
   pub rs : List Record
   pub passed : Passed first marks rs w finished
@@ -32,7 +35,7 @@ pub record Stepping (first : ℕ) (page marks out : List ℕ) (start : Written) 
   pub same-size : length out′ ≡ length out
 
 pub at-first : (first : ℕ) (marks : List ℕ) (w : Walk) → w ≡ record { place = 0; latest = 65536; finished = false } → Passed first marks [] w false
-unfolding left page-records in-force
+unfolding to-come page-records latest-upper
 at-first first marks w e = rw e (record { same = refl; inside = omega arith; whole = refl })
 
 pub under-way : (first : ℕ) (marks : List ℕ) (rs : List Record) (w : Walk) (finished : Bool) → Passed first marks rs w finished → finished ≡ false → first + length marks ≤ 2 ^ 32
@@ -46,16 +49,16 @@ passes-one first marks rs w finished step p s =
     record {
       same = refl;
       inside = s .inside;
-      whole = append-assoc rs (step .given ∷ []) (left first marks (step .walk)) ∙ ap (λ (l : List Record). rs ++ l) (sym (s .next)) ∙ p .whole;
+      whole = append-assoc rs (step .given ∷ []) (to-come first marks (step .walk)) ∙ ap (λ (l : List Record). rs ++ l) (sym (s .next)) ∙ p .whole;
     }
 
 -- and one less is left
-pub fewer-left : (first : ℕ) (marks : List ℕ) (w : Walk) (step : Step) → Stepped first marks w step → length (left first marks (step .walk)) < length (left first marks w)
+pub fewer-left : (first : ℕ) (marks : List ℕ) (w : Walk) (step : Step) → Stepped first marks w step → length (to-come first marks (step .walk)) < length (to-come first marks w)
 fewer-left first marks w step s = rw (s .next) (omega arith)
 
 -- where nothing is left, it was all
 pub passed-all : (first : ℕ) (marks : List ℕ) (rs : List Record) (w : Walk) (finished : Bool) → Passed first marks rs w finished → finished ≡ true → rs ≡ page-records first marks
-unfolding left
+unfolding to-come
 passed-all first marks rs w finished p e =
     let f : w .finished ≡ true = sym (p .same) ∙ e in
     sym (append-nil rs) ∙ (rw f at (p .whole))

@@ -34,9 +34,9 @@ pub reaches : (address place end a b : ℕ) → place < end → Least 16 (65536 
 reaches address place end a b h l k =
     record {
       more = some-place (l .one) (k .one);
-      inside = omega (arith, k .second);
-      few = omega (arith, k .first, l .first);
-      unbroken = omega (arith, k .first, l .second);
+      inside = omega (arith, k .under-b);
+      few = omega (arith, k .under-a, l .under-a);
+      unbroken = omega (arith, k .under-a, l .under-b);
       no-less = which (l .one) (k .one);
     }
   where

@@ -1,4 +1,4 @@
--- `pieces`, place by place: what its tests mean, and its seven cases as a derivation. All that is proved of pieces goes by these.
+-- `pieces`, place by place: what its tests mean, and its seven cases as a derivation. What the records are, and how long, is proved by these.
 -- Assumes nothing.
 use Prim.Native.Nat.{ℕ, suc, _+_, _%_}
 use mathlib.Core.Path.{_≡_}

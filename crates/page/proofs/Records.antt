@@ -13,12 +13,13 @@ use Rattle.record.specs.declared.Record.the-variants.{Data, ExtendedLinearAddre
 use Rattle.record.proofs.Tests.{branch}
 use Rattle.page.specs.Pieces.{Piece, pieces}
 use Rattle.page.specs.File.{upper, data-of, is-latest, extension, records, page-records}
-use Rattle.page.specs.Shape.{data-in, Ahead, nothing, extension-to, data-under, Follows, no-data, first-half, at-last, other-half, first-data, more-data, Records-made-so, Records-only-so}
+use Rattle.page.specs.Shape.{data-in, Ahead, nothing, extension-to, data-under, Follows, no-data, first-upper, at-last, other-upper, first-data, more-data, Records-made-so, Records-only-so}
 use Rattle.page.proofs.Shape.{made-so, only-so}
 
 -- ---- the test for a type 04 record, as facts
 
-is-so : (latest : Option ℕ) (u : ℕ) → is-latest latest u ≡ true → latest ≡ some u
+-- the latest upper bits are these, or others or none
+pub is-so : (latest : Option ℕ) (u : ℕ) → is-latest latest u ≡ true → latest ≡ some u
 unfolding is-latest
 is-so none u e = cc
 is-so (some v) u e = ap some (eqb-true v u e)
@@ -28,14 +29,14 @@ unfolding is-latest
 is-not none u e f = let z : _≡_ {A = ℕ} 0 1 = cc in omega arith
 is-not (some v) u e f = eqb-false v u e (cc)
 
--- what holds with none behind the same upper bits, and with one behind others or behind none, holds of what stands there
+-- by whether the upper bits are the latest: no type 04 record, or one
 pub by-latest : (P : List Record → Type 0) (latest : Option ℕ) (u : ℕ) → (latest ≡ some u → P []) → (latest ≢ some u → P (ExtendedLinearAddress u ∷ [])) → P (extension latest u)
 unfolding extension
 by-latest P latest u f g = branch P (is-latest latest u) [] (ExtendedLinearAddress u ∷ []) (λ e. f (is-so latest u e)) (λ e. g (is-not latest u e))
 
 -- ---- made so
 
-pub data-in-records : (first : ℕ) (latest : Option ℕ) (ps : List Piece) → data-in (records first latest ps) ≡ ps
+data-in-records : (first : ℕ) (latest : Option ℕ) (ps : List Piece) → data-in (records first latest ps) ≡ ps
 unfolding data-in records
 data-in-records first latest [] = refl
 data-in-records first latest (p ∷ ps) =
@@ -48,8 +49,8 @@ behind none = nothing
 behind (some u) = data-under u
 
 extended : (first u : ℕ) (latest : Option ℕ) (rs : List Record) → latest ≢ some u → Follows first (extension-to u) rs → Follows first (behind latest) (ExtendedLinearAddress u ∷ rs)
-extended first u none rs n f = first-half u f
-extended first u (some v) rs n f = other-half u (λ e. n (ap some e)) f
+extended first u none rs n f = first-upper u f
+extended first u (some v) rs n f = other-upper u (λ e. n (ap some e)) f
 
 follows : (first : ℕ) (latest : Option ℕ) (ps : List Piece) → Follows first (behind latest) (records first latest ps)
 unfolding records
@@ -84,9 +85,9 @@ Own first (extension-to u) rs = (latest : Option ℕ) → latest ≢ some u → 
 own : {first : ℕ} {ahead : Ahead} {rs : List Record} → Follows first ahead rs → Own first ahead rs
 unfolding records data-in
 own no-data = refl
-own (first-half u f) = own f none (λ e. let z : _≡_ {A = ℕ} 0 1 = cc in omega arith)
+own (first-upper u f) = own f none (λ e. let z : _≡_ {A = ℕ} 0 1 = cc in omega arith)
 own at-last = refl
-own (other-half {v} u n f) = own f (some v) (λ e. n (cc))
+own (other-upper {v} u n f) = own f (some v) (λ e. n (cc))
 own {first} (first-data {u} offset at len {rs} e h f) =
     let i : (first + at) / 65536 ≡ u = omega arith in
     let j : (first + at) % 65536 ≡ offset = omega arith in

@@ -51,7 +51,7 @@ module _ (first : ℕ) (page : List ℕ) where
 abbrev multiples : ℕ → ℕ
 multiples address = (address + 65535) / 65536
 
--- of these, `b` are not to come: before the first one is written those of the multiples below the address, and then all up to the latest upper bits
+-- `b` of the type 04 records that there can be need not be counted any more: those of the multiples below the address, or of all up to the latest
 abbrev Past : Option ℕ → (b address : ℕ) → Type 0
 Past none b address = b ≤ multiples address
 Past (some u) b address = (b ≡ u + 2) × (u < multiples address)

@@ -32,7 +32,7 @@ grown-stands first place p n k (s, e) =
     room : (a n b : ℕ) → a + n ≡ b → a % 65536 + n ≤ 65536 → (b % 65536 ≡ 0 → ⊥) → a % 65536 + suc n ≤ 65536
     room a n b e h z = omega arith
 
-pub all-sized : {first place : ℕ} {o : Option Piece} {marks : List ℕ} {ps : List Piece} → Made first place o marks ps → Stands first place o → Every (Sized first) ps
+all-sized : {first place : ℕ} {o : Option Piece} {marks : List ℕ} {ps : List Piece} → Made first place o marks ps → Stands first place o → Every (Sized first) ps
 all-sized nothing-left s = tt
 all-sized last s = (s .0, tt)
 all-sized (skipped n d) s = all-sized d tt

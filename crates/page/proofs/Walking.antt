@@ -12,13 +12,12 @@ use lib.ListN.{length, getD, drop, drop-of-length-le}
 use lib.Seq.{drop-cons}
 use borrow.Author.Tests.{eq-eqb, ne-eqb, lt-ltb}
 use Rattle.record.specs.Common.{if_then_else_}
-use Rattle.record.specs.declared.Record.{Record}
 use Rattle.record.specs.declared.Record.the-variants.{Data, EndOfFile, ExtendedLinearAddress}
 use Rattle.record.proofs.Tests.{if-true, if-false, split, both-ways, or-true}
 use Rattle.page.specs.declared.Walk.{Walk}
 use Rattle.page.specs.Pieces.{Piece, ends-before, one-longer, starting, pieces}
 use Rattle.page.specs.File.{upper, data-of, is-latest, extension, records}
-use Rattle.page.specs.Helpers.{NextMarked, PieceEnd, in-force, left, Under-way, Stepped}
+use Rattle.page.specs.Helpers.{NextMarked, PieceEnd, latest-upper, to-come, Under-way, Stepped}
 
 -- ---- the tests, from facts
 
@@ -28,26 +27,26 @@ ends-here p m a (inl h) = rw (eq-eqb (p .size) 16 h) (or-true (not (eqb m 1)))
 ends-here p m a (inr (inl h)) = rw (eq-eqb (a % 65536) 0 h, or-true (eqb (p .size) 16)) (or-true (not (eqb m 1)))
 ends-here p m a (inr (inr h)) = rw (ne-eqb m 1 h)
 
-goes-on : (p : Piece) (m a : ℕ) → m ≡ 1 → p .size ≢ 16 → a % 65536 ≢ 0 → ends-before p m a ≡ false
+stays : (p : Piece) (m a : ℕ) → m ≡ 1 → p .size ≢ 16 → a % 65536 ≢ 0 → ends-before p m a ≡ false
 unfolding ends-before
-goes-on p m a h k l = rw (eq-eqb m 1 h, ne-eqb (p .size) 16 k, ne-eqb (a % 65536) 0 l)
+stays p m a h k l = rw (eq-eqb m 1 h, ne-eqb (p .size) 16 k, ne-eqb (a % 65536) 0 l)
 
 -- ---- one place
 
-pub unmarked : (first place m : ℕ) (marks : List ℕ) → m ≢ 1 → pieces first place none (m ∷ marks) ≡ pieces first (suc place) none marks
+unmarked : (first place m : ℕ) (marks : List ℕ) → m ≢ 1 → pieces first place none (m ∷ marks) ≡ pieces first (suc place) none marks
 unfolding pieces
 unmarked first place m marks h = ap (λ (b : Bool). pieces first (suc place) (if b then some (record { place = place; size = 1 }) else none) marks) (ne-eqb m 1 h)
 
-pub starts : (first place m : ℕ) (marks : List ℕ) → m ≡ 1 → pieces first place none (m ∷ marks) ≡ pieces first (suc place) (some (record { place = place; size = 1 })) marks
+starts-here : (first place m : ℕ) (marks : List ℕ) → m ≡ 1 → pieces first place none (m ∷ marks) ≡ pieces first (suc place) (some (record { place = place; size = 1 })) marks
 unfolding pieces
-starts first place m marks h = ap (λ (b : Bool). pieces first (suc place) (if b then some (record { place = place; size = 1 }) else none) marks) (eq-eqb m 1 h)
+starts-here first place m marks h = ap (λ (b : Bool). pieces first (suc place) (if b then some (record { place = place; size = 1 }) else none) marks) (eq-eqb m 1 h)
 
-pub ended : (first place : ℕ) (p : Piece) (m : ℕ) (marks : List ℕ) → ends-before p m (first + place) ≡ true
+ends-now : (first place : ℕ) (p : Piece) (m : ℕ) (marks : List ℕ) → ends-before p m (first + place) ≡ true
     → pieces first place (some p) (m ∷ marks) ≡ p ∷ pieces first place none (m ∷ marks)
 unfolding pieces
-ended first place p m marks h = if-true (ends-before p m (first + place)) _ _ h
+ends-now first place p m marks h = if-true (ends-before p m (first + place)) _ _ h
 
-pub longer : (first place : ℕ) (p : Piece) (m : ℕ) (marks : List ℕ) → ends-before p m (first + place) ≡ false
+longer : (first place : ℕ) (p : Piece) (m : ℕ) (marks : List ℕ) → ends-before p m (first + place) ≡ false
     → pieces first place (some p) (m ∷ marks) ≡ pieces first (suc place) (some (one-longer p)) marks
 unfolding pieces
 longer first place p m marks h = if-false (ends-before p m (first + place)) _ _ h
@@ -64,7 +63,7 @@ passes first (suc n) from marks l h =
     ∙ unmarked first from (getD marks from 0) (drop (suc from) marks) (h from (omega arith) (omega arith))
     ∙ rw e at (passes first n (suc from) marks (omega arith) (λ i a b. h i (omega arith) (omega arith)))
 
-pub to-next-marked : (first from r : ℕ) (marks : List ℕ) → NextMarked marks from r → pieces first from none (drop from marks) ≡ pieces first r none (drop r marks)
+to-next-marked : (first from r : ℕ) (marks : List ℕ) → NextMarked marks from r → pieces first from none (drop from marks) ≡ pieces first r none (drop r marks)
 to-next-marked first from r marks n =
     let e : from + (r - from) ≡ r = omega (arith, n .low) in
     rw e at (passes first (r - from) from marks (omega (arith, n .low, n .high)) (λ i a b. n .unmarked i a (omega (arith, n .low))))
@@ -85,7 +84,7 @@ ends-at first start r s marks e h = go (e .ends)
     Ends = pieces first r (some p) (drop r marks) ≡ p ∷ pieces first r none (drop r marks)
 
     inside : r < length marks → (s ≡ 16) ⊎ (((first + r) % 65536 ≡ 0) ⊎ (getD marks r 0 ≢ 1)) → Ends
-    inside u f = rw (drop-cons marks r 0 u) (ended first r p (getD marks r 0) (drop (suc r) marks) (ends-here p (getD marks r 0) (first + r) f))
+    inside u f = rw (drop-cons marks r 0 u) (ends-now first r p (getD marks r 0) (drop (suc r) marks) (ends-here p (getD marks r 0) (first + r) f))
 
     at-end : r ≡ length marks → Ends
     at-end u = rw (drop-of-length-le marks {i = r} (omega arith)) (last first r p)
@@ -111,7 +110,7 @@ grows first start r (suc n) s marks e h l =
     let k : suc (start + s) ≡ start + suc s = omega arith in
     ap (pieces first (start + s) (some p)) (drop-cons marks (start + s) 0 (omega (arith, e .inside)))
     ∙ longer first (start + s) p (getD marks (start + s) 0) (drop (suc (start + s)) marks)
-    (goes-on p (getD marks (start + s) 0) (first + (start + s)) (e .marked (start + s) (omega arith) (omega arith)) (λ z. omega (arith, e .few)) (λ z. between (omega (arith, e .unbroken)) z))
+    (stays p (getD marks (start + s) 0) (first + (start + s)) (e .marked (start + s) (omega arith) (omega arith)) (λ z. omega (arith, e .few)) (λ z. between (omega (arith, e .unbroken)) z))
     ∙ ap (λ (j : ℕ). pieces first j (some (one-longer p)) (drop j marks)) k
     ∙ grows first start r n (suc s) marks e (omega arith) (omega arith)
   where
@@ -126,7 +125,7 @@ pub piece-taken : (first start r : ℕ) (marks : List ℕ) → start < length ma
 piece-taken first start r marks l m e =
     let k : suc start ≡ start + 1 = omega arith in
     ap (pieces first start none) (drop-cons marks start 0 l)
-    ∙ starts first start (getD marks start 0) (drop (suc start) marks) m
+    ∙ starts-here first start (getD marks start 0) (drop (suc start) marks) m
     ∙ ap (λ (j : ℕ). pieces first j (some (record { place = start; size = 1 })) (drop j marks)) k
     ∙ grows first start r (r - (start + 1)) 1 marks e (omega (arith, e .more)) (omega arith)
 
@@ -142,11 +141,11 @@ starts-with first place p (m ∷ marks) = go (ends-before p m (first + place)) (
     go true h = (p, pieces first (suc place) (starting m place) marks, refl, refl)
     go false h = h
 
-pub piece-there : (first start : ℕ) (marks : List ℕ) → start < length marks → getD marks start 0 ≡ 1
+piece-there : (first start : ℕ) (marks : List ℕ) → start < length marks → getD marks start 0 ≡ 1
     → (q : Piece) × (ps : List Piece) × (q .place ≡ start) × (pieces first start none (drop start marks) ≡ q ∷ ps)
 piece-there first start marks l m =
     let (q, ps, h, e) = starts-with first (suc start) (record { place = start; size = 1 }) (drop (suc start) marks) in
-    (q, ps, h, ap (pieces first start none) (drop-cons marks start 0 l) ∙ starts first start (getD marks start 0) (drop (suc start) marks) m ∙ e)
+    (q, ps, h, ap (pieces first start none) (drop-cons marks start 0 l) ∙ starts-here first start (getD marks start 0) (drop (suc start) marks) m ∙ e)
 
 -- a place that is not the end is marked
 pub marked-there : {marks : List ℕ} {from r : ℕ} → NextMarked marks from r → r ≢ length marks → (r < length marks) × (getD marks r 0 ≡ 1)
@@ -158,13 +157,13 @@ marked-there {marks} {from} {r} n h = (omega (arith, n .high), go (n .there))
 
 -- ---- the records that are left
 
-in-force-small : (u : ℕ) → u < 65536 → in-force u ≡ some u
-unfolding in-force
+in-force-small : (u : ℕ) → u < 65536 → latest-upper u ≡ some u
+unfolding latest-upper
 in-force-small u h = rw (lt-ltb u 65536 h)
 
 -- other upper bits are in force, or none
-not-latest : (latest u : ℕ) → u ≢ latest → is-latest (in-force latest) u ≡ false
-unfolding is-latest in-force
+not-latest : (latest u : ℕ) → u ≢ latest → is-latest (latest-upper latest) u ≡ false
+unfolding is-latest latest-upper
 not-latest latest u h =
     both-ways (λ b. is-latest (if b then some latest else none) u ≡ false) (ltb latest 65536) (ne-eqb latest u (λ e. h (sym e))) refl
 
@@ -181,24 +180,24 @@ unfolding is-latest
 own-latest u = eq-eqb u u refl
 
 -- behind its own upper bits a piece needs no type 04 record, and else it has one
-pub same-upper : (first u : ℕ) (p : Piece) (ps : List Piece) → upper first p ≡ u → records first (some u) (p ∷ ps) ≡ data-of first p ∷ records first (some u) ps
+same-upper : (first u : ℕ) (p : Piece) (ps : List Piece) → upper first p ≡ u → records first (some u) (p ∷ ps) ≡ data-of first p ∷ records first (some u) ps
 unfolding records
 same-upper first u p ps h = rw (h, no-extension (some u) u (own-latest u))
 
-pub new-upper : (first latest u : ℕ) (p : Piece) (ps : List Piece) → upper first p ≡ u → u ≢ latest
-    → records first (in-force latest) (p ∷ ps) ≡ ExtendedLinearAddress u ∷ records first (some u) (p ∷ ps)
+new-upper : (first latest u : ℕ) (p : Piece) (ps : List Piece) → upper first p ≡ u → u ≢ latest
+    → records first (latest-upper latest) (p ∷ ps) ≡ ExtendedLinearAddress u ∷ records first (some u) (p ∷ ps)
 unfolding records
 new-upper first latest u p ps h n =
-    rw (h, an-extension (in-force latest) u (not-latest latest u n), no-extension (some u) u (own-latest u))
+    rw (h, an-extension (latest-upper latest) u (not-latest latest u n), no-extension (some u) u (own-latest u))
 
 module _ (first : ℕ) (marks : List ℕ) (w : Walk) (start : ℕ) (under : Under-way first marks w) (next : NextMarked marks (w .place) start) where
   -- what is left, from the next marked place on
-  from-there : left first marks w ≡ records first (in-force (w .latest)) (pieces first start none (drop start marks))
-  unfolding left
-  from-there = rw (under .on) (ap (records first (in-force (w .latest))) (to-next-marked first (w .place) start marks next))
+  from-there : to-come first marks w ≡ records first (latest-upper (w .latest)) (pieces first start none (drop start marks))
+  unfolding to-come
+  from-there = rw (under .on) (ap (records first (latest-upper (w .latest))) (to-next-marked first (w .place) start marks next))
 
   pub at-the-end : start ≡ length marks → Stepped first marks w (record { given = EndOfFile; walk = record { place = start; latest = w .latest; finished = true } })
-  unfolding left records pieces
+  unfolding to-come records pieces
   at-the-end e = record { next = from-there ∙ rw (drop-of-length-le marks {i = start} (omega arith)); inside = omega arith }
 
   module _ (there : start < length marks) (is-marked : getD marks start 0 ≡ 1) where
@@ -207,7 +206,7 @@ module _ (first : ℕ) (marks : List ℕ) (w : Walk) (start : ℕ) (under : Unde
 
     pub at-other-bits : (first + start) / 65536 ≢ w .latest
         → Stepped first marks w (record { given = ExtendedLinearAddress ((first + start) / 65536); walk = record { place = start; latest = (first + start) / 65536; finished = false } })
-    unfolding left
+    unfolding to-come
     at-other-bits n =
         let (q, ps, h, e) = piece-there first start marks there is-marked in
         let u : ℕ = (first + start) / 65536 in
@@ -221,7 +220,7 @@ module _ (first : ℕ) (marks : List ℕ) (w : Walk) (start : ℕ) (under : Unde
           given = Data ((first + start) % 65536) start (r - start);
           walk = record { place = r; latest = (first + start) / 65536; finished = false };
         })
-    unfolding left
+    unfolding to-come
     at-a-piece e r p =
         let u : ℕ = (first + start) / 65536 in
         record {

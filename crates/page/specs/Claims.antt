@@ -26,7 +26,7 @@ use Rattle.page.specs.declared.Paged.{Paged}
 use Rattle.page.specs.declared.Paged.the-variants.{Wrote, Refused}
 use Rattle.page.specs.Pieces.{pieces}
 use Rattle.page.specs.File.{page-records, file, page-text}
-use Rattle.page.specs.Told.{told, PageLength, WritePage}
+use Rattle.page.specs.Told.{told, PageFileLength, WritePage}
 
 -- ---- a page that is written
 
@@ -69,7 +69,7 @@ Loads-back =
     → let l = load (file first page marks) first old-page old-marks in
     (l .answer ≡ accepted (record { records = length (pieces first 0 none marks) })) × Restores page marks old-page l
 
--- the n bytes that `write_page` says it wrote, given to `load`: it need not be said that the page is one that is written
+-- the n bytes that `write_page` says it wrote, given to `load`: that they were written says that window and marks are good
 abbrev pub Written-loads-back : Type 0
 Written-loads-back =
     (first : ℕ) (page marks out : List ℕ) (n : ℕ) (out′ old-page old-marks : List ℕ) (r : Loading) (page′ marks′ : List ℕ)
@@ -128,16 +128,22 @@ One-reason = (first : ℕ) (page marks : List ℕ) (room : ℕ) (t t′ : Told) 
 abbrev pub Room : Type 0
 Room = (first : ℕ) (page marks : List ℕ) → Window first page marks → length (file first page marks) ≤ 7 * length marks + 58
 
--- so each answer of `page_length` has the reason that it has in every output with that room, and is never 15
+-- so each answer of `page_file_length` has the reason that it has in every output with that room, and is never 15
 abbrev pub Length-reasons : Type 0
 Length-reasons =
-    (first : ℕ) (page marks : List ℕ) (r : Paged) (space : ℕ) → PageLength first page marks r → 7 * length marks + 58 ≤ space → Why first page marks space (told r)
+    (first : ℕ) (page marks : List ℕ) (r : Paged) (space : ℕ) → PageFileLength first page marks r → 7 * length marks + 58 ≤ space → Why first page marks space (told r)
 
--- `page_length` answers as `write_page` does, but that the latter may lack the room
+-- `page_file_length` answers as `write_page` does, but that the latter may lack the room
 abbrev pub Length-as-written : Type 0
 Length-as-written =
-    (first : ℕ) (page marks out : List ℕ) (r r′ : Paged) (out′ : List ℕ) → PageLength first page marks r → WritePage first page marks out r′ out′
+    (first : ℕ) (page marks out : List ℕ) (r r′ : Paged) (out′ : List ℕ) → PageFileLength first page marks r → WritePage first page marks out r′ out′
     → (r ≡ r′) ⊎ ((r′ ≡ Refused OutputFull) × ((n : ℕ) × (r ≡ Wrote n) × (length out < n)))
+
+-- of the page it sees the length alone
+abbrev pub Length-of-lengths : Type 0
+Length-of-lengths =
+    (first : ℕ) (page₁ page₂ marks : List ℕ) (r₁ r₂ : Paged) → length page₁ ≡ length page₂
+    → PageFileLength first page₁ marks r₁ → PageFileLength first page₂ marks r₂ → r₁ ≡ r₂
 
 -- ---- the output
 
@@ -155,8 +161,8 @@ Rest-untouched =
 abbrev pub Told-apart : Type 0
 Told-apart = (a b : Paged) → told a ≡ told b → a ≡ b
 
-abbrev pub Page-length-unique : Type 0
-Page-length-unique = (first : ℕ) (page marks : List ℕ) (r r′ : Paged) → PageLength first page marks r → PageLength first page marks r′ → r ≡ r′
+abbrev pub Page-file-length-unique : Type 0
+Page-file-length-unique = (first : ℕ) (page marks : List ℕ) (r r′ : Paged) → PageFileLength first page marks r → PageFileLength first page marks r′ → r ≡ r′
 
 abbrev pub Write-page-unique : Type 0
 Write-page-unique =
@@ -168,7 +174,7 @@ Write-page-unique =
 pub record Examples : Type 0 where
   -- nothing is marked: the end record alone
   pub bare : file 0 (1 ∷ 2 ∷ []) (0 ∷ 0 ∷ []) ≡ text ":00000001FF" ++ (LF ∷ [])
-  -- FFFE to 10011 but for 10010: two bytes, a new upper half, sixteen, and one behind the gap
+  -- FFFE to 10011 but for 10010: two bytes, other upper bits, sixteen, and one behind the gap
   pub across : file 0xFFFE (replicate 20 0xAB) (replicate 18 1 ++ (0 ∷ 1 ∷ []))
       ≡ text ":020000040000FA" ++ (LF ∷ text ":02FFFE00ABABAB") ++ (LF ∷ text ":020000040001F9")
       ++ (LF ∷ text ":10000000ABABABABABABABABABABABABABABABAB40") ++ (LF ∷ text ":01001100AB43") ++ (LF ∷ text ":00000001FF") ++ (LF ∷ [])

@@ -17,16 +17,16 @@ use Rattle.page.specs.Pieces.{Piece, pieces}
 
 -- ---- the records
 
-abbrev pub address-of : (first : ℕ) → Piece → ℕ
-address-of first p = first + p .place
+abbrev pub lies-at : (first : ℕ) → Piece → ℕ
+lies-at first p = first + p .place
 
 -- the upper 16 bits of a piece's address
 abbrev pub upper : (first : ℕ) → Piece → ℕ
-upper first p = address-of first p / 65536
+upper first p = lies-at first p / 65536
 
 -- its data record: the page is the pool that the payload lies in
 abbrev pub data-of : (first : ℕ) → Piece → Record
-data-of first p = Data (address-of first p % 65536) (p .place) (p .size)
+data-of first p = Data (lies-at first p % 65536) (p .place) (p .size)
 
 unfoldable pub is-latest : Option ℕ → (upper : ℕ) → Bool
 is-latest none u = false

@@ -36,9 +36,10 @@ pub record NextMarked (marks : List ℕ) (from r : ℕ) : Type 0 where
   pub unmarked : (i : ℕ) → from ≤ i → i < r → getD marks i 0 ≢ 1
   pub there : (r ≡ length marks) ⊎ (getD marks r 0 ≡ 1)
 
+-- the lesser of two
 pub record Least (a b r : ℕ) : Type 0 where
-  pub first : r ≤ a
-  pub second : r ≤ b
+  pub under-a : r ≤ a
+  pub under-b : r ≤ b
   pub one : (r ≡ a) ⊎ (r ≡ b)
 
 -- how far a piece may reach
@@ -61,16 +62,17 @@ pub record PieceEnd (marks : List ℕ) (first start r : ℕ) : Type 0 where
 -- ---- the walk over the records
 
 -- the upper 16 bits that are in force; 65,536, which they cannot be, stands for none
-unfoldable pub in-force : ℕ → Option ℕ
-in-force latest = if ltb latest 65536 then some latest else none
+unfoldable pub latest-upper : ℕ → Option ℕ
+latest-upper latest = if ltb latest 65536 then some latest else none
 
 -- the records that are left
-unfoldable pub left : (first : ℕ) (marks : List ℕ) → Walk → List Record
-unfolding in-force
-left first marks w =
+unfoldable pub to-come : (first : ℕ) (marks : List ℕ) → Walk → List Record
+unfolding latest-upper
+to-come first marks w =
     if w .finished then [] else
-    records first (in-force (w .latest)) (pieces first (w .place) none (drop (w .place) marks))
+    records first (latest-upper (w .latest)) (pieces first (w .place) none (drop (w .place) marks))
 
+-- a walk that has records to come, in a window that is not refused
 pub record Under-way (first : ℕ) (marks : List ℕ) (w : Walk) : Type 0 where
   pub on : w .finished ≡ false
   pub inside : w .place ≤ length marks
@@ -78,7 +80,7 @@ pub record Under-way (first : ℕ) (marks : List ℕ) (w : Walk) : Type 0 where
 
 -- one record further
 pub record Stepped (first : ℕ) (marks : List ℕ) (w : Walk) (r : Step) : Type 0 where
-  pub next : left first marks w ≡ r .given ∷ left first marks (r .walk)
+  pub next : to-come first marks w ≡ r .given ∷ to-come first marks (r .walk)
   pub inside : r .walk .place ≤ length marks
 
 -- ---- the answer

@@ -9,7 +9,7 @@ use Rattle.record.specs.Common.{if_then_else_, Every}
 use Rattle.record.specs.declared.Record.{Record}
 use Rattle.record.specs.declared.Record.the-variants.{Data, EndOfFile, ExtendedSegmentAddress, StartSegmentAddress, ExtendedLinearAddress, StartLinearAddress}
 use Rattle.page.specs.Pieces.{Piece, is-marked, pieces}
-use Rattle.page.specs.File.{address-of, page-records}
+use Rattle.page.specs.File.{lies-at, page-records}
 
 -- ---- the data records
 
@@ -33,12 +33,12 @@ marked-places place (m ∷ marks) = if is-marked m then place ∷ marked-places 
 pub record Sized (first : ℕ) (p : Piece) : Type 0 where
   pub least : 1 ≤ p .size
   pub most : p .size ≤ 16
-  pub unbroken : address-of first p % 65536 + p .size ≤ 65536
+  pub unbroken : lies-at first p % 65536 + p .size ≤ 65536
 
 -- two that follow each other touch only where the first is full, or at a multiple of 65,536
 abbrev pub Before : (first : ℕ) → Piece → List Piece → Type 0
 Before first p [] = Unit
-Before first p (q ∷ ps) = p .place + p .size ≡ q .place → (p .size ≡ 16) ⊎ (address-of first q % 65536 ≡ 0)
+Before first p (q ∷ ps) = p .place + p .size ≡ q .place → (p .size ≡ 16) ⊎ (lies-at first q % 65536 ≡ 0)
 
 abbrev pub Cut-nowhere-else : (first : ℕ) → List Piece → Type 0
 Cut-nowhere-else first [] = Unit
@@ -79,9 +79,9 @@ pub data Ahead : Type 0 where
 -- their upper bits, or behind data with the same; the end record at the front or behind data, and nothing behind it
 pub data Follows (first : ℕ) : Ahead → List Record → Type 0 where
   no-data : Follows first nothing (EndOfFile ∷ [])
-  first-half : (u : ℕ) {rs : List Record} → Follows first (extension-to u) rs → Follows first nothing (ExtendedLinearAddress u ∷ rs)
+  first-upper : (u : ℕ) {rs : List Record} → Follows first (extension-to u) rs → Follows first nothing (ExtendedLinearAddress u ∷ rs)
   at-last : {u : ℕ} → Follows first (data-under u) (EndOfFile ∷ [])
-  other-half : {v : ℕ} (u : ℕ) {rs : List Record} → v ≢ u → Follows first (extension-to u) rs → Follows first (data-under v) (ExtendedLinearAddress u ∷ rs)
+  other-upper : {v : ℕ} (u : ℕ) {rs : List Record} → v ≢ u → Follows first (extension-to u) rs → Follows first (data-under v) (ExtendedLinearAddress u ∷ rs)
   first-data : {u : ℕ} (offset at len : ℕ) {rs : List Record} → first + at ≡ u * 65536 + offset → offset ≤ 65535
       → Follows first (data-under u) rs → Follows first (extension-to u) (Data offset at len ∷ rs)
   more-data : {u : ℕ} (offset at len : ℕ) {rs : List Record} → first + at ≡ u * 65536 + offset → offset ≤ 65535

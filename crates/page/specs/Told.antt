@@ -1,4 +1,4 @@
--- What the code's answer tells, and the contracts of `page_length` and `write_page`.
+-- What the code's answer tells, and the contracts of `page_file_length` and `write_page`.
 -- Assumes nothing.
 use Prim.Native.Nat.{ℕ}
 use mathlib.Core.Path.{_≡_}
@@ -22,8 +22,8 @@ abbrev pub told : Paged → Told
 told (Wrote n) = wrote n
 told (Refused e) = refuses (refusal-of e)
 
--- the contract of `page_length`
-pub record PageLength (first : ℕ) (page marks : List ℕ) (r : Paged) : Type 0 where
+-- the contract of `page_file_length`
+pub record PageFileLength (first : ℕ) (page marks : List ℕ) (r : Paged) : Type 0 where
   pub answer : told r ≡ place-behind (page-text first page marks) 0
 
 -- the contract of `write_page`

@@ -8,7 +8,7 @@ ghost use Prim.Native.Nat.{_+_, _^_, _≤_, _<_};
 ghost use lib.ListN.{length};
 ghost use Rattle.writer.specs.Claims.{Surveys, Steps};
 ghost use Rattle.page.specs.File.{page-records, good-marks};
-ghost use Rattle.page.specs.Told.{PageLength, WritePage};
+ghost use Rattle.page.specs.Told.{PageFileLength, WritePage};
 ghost use Rattle.page.specs.Helpers.{NextMarked, Least, Farthest, PieceEnd, Under-way, Stepped, Surveyed-as, May-be-full, As-written};
 
 // The largest number of a `usize`.
@@ -91,7 +91,7 @@ fn least(a: usize, b: usize) -> usize
     b
 }
 
-// How far a piece from a place on may reach: 16 places, the next multiple of 65,536, the end.
+// How far a piece from a place on may reach: 16 places, the next multiple of 65,536 or the end, whichever is nearest.
 fn farthest(address: u32, place: usize, end: usize) -> usize
     requires { ⌜ place < end ⌝ }
     ensures { λ r. ⌜ Farthest address place end r ⌝ }
@@ -232,8 +232,8 @@ fn as_paged(answer: Written) -> Paged
 }
 
 // How long the file of a page with marks is, or why it has none.
-pub fn page_length(first: u32, page: &[u8], marks: &[u8]) -> Paged
-    ensures { λ r. ⌜ PageLength first (now (page .entry)) (now (marks .entry)) r ⌝ }
+pub fn page_file_length(first: u32, page: &[u8], marks: &[u8]) -> Paged
+    ensures { λ r. ⌜ PageFileLength first (now (page .entry)) (now (marks .entry)) r ⌝ }
 {
     match survey_page(first, page, marks) {
         Surveyed::Refused(e) => Paged::Refused(e),

@@ -1,4 +1,4 @@
-use ihex::{load, page_length, write_page, write_page_into, PageError};
+use ihex::{load, page_file_length, write_page, write_page_into, PageError};
 
 fn main() {
     // Four places from FFFE on, of which the last is not marked.
@@ -22,7 +22,7 @@ fn main() {
     assert_eq!(stated, marks);
 
     // Into an output that is lent.
-    let length = page_length(0xFFFE, &page, &marks).unwrap();
+    let length = page_file_length(0xFFFE, &page, &marks).unwrap();
     let mut out = [0; 100];
     let written = write_page_into(0xFFFE, &page, &marks, &mut out);
     assert_eq!(written, Ok(length));

@@ -60,9 +60,9 @@ fn told(code: u32, value: u64) -> Result<usize, PageError> {
 
 /// How long the file of a page is: the length of what [`write_page`] gives. At most it is
 /// [`MAX_PAGE_FILE`].
-pub fn page_length(first: u32, page: &[u8], marks: &[u8]) -> Result<usize, PageError> {
+pub fn page_file_length(first: u32, page: &[u8], marks: &[u8]) -> Result<usize, PageError> {
     let mut value = 0;
-    let code = ihex_sys::page_length(first, page, marks, &mut value);
+    let code = ihex_sys::page_file_length(first, page, marks, &mut value);
     told(code, value)
 }
 
@@ -82,18 +82,17 @@ pub fn page_length(first: u32, page: &[u8], marks: &[u8]) -> Result<usize, PageE
 #[doc = include_str!("../examples/page.rs")]
 /// ```
 pub fn write_page(first: u32, page: &[u8], marks: &[u8]) -> Result<String, PageError> {
-    let length = page_length(first, page, marks)?;
+    let length = page_file_length(first, page, marks)?;
     let mut out = Vec::new();
     out.try_reserve_exact(length)
         .map_err(|_| PageError::SynthesisFailed)?;
     out.resize(length, 0);
-    let written = write_page_into(first, page, marks, &mut out)?;
-    out.truncate(written);
+    write_page_into(first, page, marks, &mut out)?;
     String::from_utf8(out).map_err(|_| PageError::SynthesisFailed)
 }
 
-/// Writes the file of a page, as [`write_page`] gives it, from the output's start on, and says how long
-/// it is. No byte behind it changes, and on a refusal none at all. `OutputFull` goes behind the other
+/// Writes the file of a page, as [`write_page`] gives it, into an output that is lent, from its start on,
+/// and says how long it is. No byte behind it changes, and on a refusal none at all. `OutputFull` goes behind the other
 /// refusals.
 pub fn write_page_into(
     first: u32,

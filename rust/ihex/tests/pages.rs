@@ -1,6 +1,6 @@
 //! Pages written as files: runs, cuts, refusals in their order, and outputs that are lent.
 
-use ihex::{load, page_length, write_page, write_page_into, PageError, MAX_PAGE_FILE};
+use ihex::{load, page_file_length, write_page, write_page_into, PageError, MAX_PAGE_FILE};
 
 const END: &str = ":00000001FF\n";
 
@@ -25,8 +25,7 @@ fn marked(n: usize, such: impl Fn(usize) -> bool) -> Vec<u8> {
 /// The file of a page, by each function: as long as it is said to be, with nothing behind it written.
 fn file(first: u32, page: &[u8], marks: &[u8]) -> String {
     let text = write_page(first, page, marks).expect("a page");
-    assert_eq!(text.capacity(), text.len());
-    assert_eq!(page_length(first, page, marks), Ok(text.len()));
+    assert_eq!(page_file_length(first, page, marks), Ok(text.len()));
     for behind in [0, BEHIND] {
         let mut out = vec![UNTOUCHED; text.len() + behind];
         let written = write_page_into(first, page, marks, &mut out);
@@ -50,7 +49,7 @@ fn refuses(first: u32, page: &[u8], marks: &[u8], out: usize, error: PageError) 
 
 /// The page is refused so by each function, whatever the output's length.
 fn is_refused(first: u32, page: &[u8], marks: &[u8], error: PageError) {
-    assert_eq!(page_length(first, page, marks), Err(error));
+    assert_eq!(page_file_length(first, page, marks), Err(error));
     assert_eq!(write_page(first, page, marks), Err(error));
     for out in [0, 11, 200] {
         refuses(first, page, marks, out, error);

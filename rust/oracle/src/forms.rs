@@ -4,7 +4,7 @@ use std::ops::Range;
 
 use ihex_sys::{MAX_PAGE, MAX_PAGE_FILE};
 
-use crate::pages::{parted, runs, upper, PageCase};
+use crate::pages::{moved, parted, runs, upper, PageCase};
 use crate::seen;
 
 /// What is looked at: a case, the runs of addresses in its file and the file's length, where it has one.
@@ -73,7 +73,7 @@ pub const FORMS: [Form; 22] = [
     ("a gap at a multiple", |look| {
         look.has_gap(|one, next| (one.end - 1) >> 16 < upper(next))
     }),
-    ("a first upper half of 0", |look| {
+    ("first upper bits of 0", |look| {
         look.runs.first().map(upper) == Some(0)
     }),
     ("the address FFFFFFFF", |look| {
@@ -109,12 +109,11 @@ pub const FORMS: [Form; 22] = [
 /// Notes the forms of a case, with its file, where it has one.
 pub fn note(case: &PageCase, file: Option<&String>) {
     let first = u64::from(case.first);
-    let moved = |run: Range<u64>| run.start + first..run.end + first;
     let length = file.map(String::len);
     let runs = length.map_or(vec![], |_| runs(&case.marks));
     let look = Look {
         case,
-        runs: runs.into_iter().map(moved).collect(),
+        runs: runs.into_iter().map(|run| moved(run, first)).collect(),
         length,
     };
     for (form, (_, has)) in FORMS.iter().enumerate() {

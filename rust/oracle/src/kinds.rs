@@ -13,10 +13,10 @@ use crate::joined;
 use crate::lines::{self, LineCase};
 use crate::loads;
 use crate::long::{self, LongCase};
+use crate::page_inputs;
 use crate::pages::{self, PageCase};
 use crate::port::Port;
 use crate::replay::{self, Program};
-use crate::runs;
 use crate::shrink::{shrink, Case};
 use crate::stored::Given;
 use crate::sums::{self, SumCase};
@@ -425,12 +425,12 @@ pub fn of_chunks<'a>(port: &'a dyn Port, plan: Plan) -> Vec<Kind<'a>> {
 pub fn of_pages<'a>(port: &'a dyn Port, plan: Plan) -> Vec<Kind<'a>> {
     let page = move |case: &PageCase| pages::port(port, case);
     vec![
-        by_chance("pages written", plan, 40, runs::page, page),
+        by_chance("pages written", plan, 40, page_inputs::page, page),
         by_block(
             "pages of up to 65,537 places written",
             plan,
             blocks(30, plan),
-            runs::large,
+            page_inputs::large,
             page,
         ),
     ]
@@ -468,12 +468,18 @@ fn face_reads(plan: Plan) -> Vec<Kind<'static>> {
 /// Pages, by the Rust face.
 fn face_pages(plan: Plan) -> Vec<Kind<'static>> {
     vec![
-        by_chance("face: pages written", plan, 10, runs::page, pages::face),
+        by_chance(
+            "face: pages written",
+            plan,
+            10,
+            page_inputs::page,
+            pages::face,
+        ),
         by_block(
             "face: pages of up to 65,537 places written",
             plan,
             blocks(8, plan),
-            runs::large,
+            page_inputs::large,
             pages::face,
         ),
     ]

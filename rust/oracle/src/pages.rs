@@ -30,8 +30,8 @@ pub struct PageCase {
     pub spare: isize,
 }
 
-/// The pieces of so many places: all of them first, then the halves, down to a 32nd.
-fn pieces(n: usize) -> Vec<Range<usize>> {
+/// The parts of so many places: all of them first, then the halves, down to a 32nd.
+fn parts(n: usize) -> Vec<Range<usize>> {
     let mut found = Vec::new();
     for parts in [1, 2, 4, 8, 16, 32] {
         let size = (n / parts).max(1);
@@ -62,7 +62,7 @@ fn cleared(bytes: &[u8]) -> Vec<Vec<u8>> {
         other[piece].fill(0);
         other
     };
-    let others = pieces(bytes.len()).into_iter().map(clear);
+    let others = parts(bytes.len()).into_iter().map(clear);
     others.filter(|other| other != bytes).collect()
 }
 
@@ -92,10 +92,10 @@ impl PageCase {
                 ..*self
             });
         }
-        for piece in &pieces(self.places()) {
+        for part in &parts(self.places()) {
             found.push(PageCase {
-                page: without(&self.page, piece),
-                marks: without(&self.marks, piece),
+                page: without(&self.page, part),
+                marks: without(&self.marks, part),
                 ..*self
             });
         }
@@ -190,11 +190,15 @@ pub fn records(run: Range<u64>, size: u64) -> Vec<Range<u64>> {
     parts.flat_map(|part| sized(part, size)).collect()
 }
 
+/// A run of places as one of addresses.
+pub fn moved(run: Range<u64>, first: u64) -> Range<u64> {
+    run.start + first..run.end + first
+}
+
 /// The list of records of a page, by these rules.
 fn listed(rules: Rules, first: u32, page: &[u8], marks: &[u8]) -> Vec<Record> {
     let first = u64::from(first);
-    let moved = |run: Range<u64>| run.start + first..run.end + first;
-    let runs = (rules.runs)(marks).into_iter().map(moved);
+    let runs = (rules.runs)(marks).into_iter().map(|run| moved(run, first));
     let mut list = Vec::new();
     let mut last = None;
     for record in runs.flat_map(rules.records) {
@@ -284,7 +288,7 @@ fn to_load(case: &PageCase, text: &str) -> LoadCase {
     }
 }
 
-/// What is wrong with the file, which the port wrote alike, as the crate reads it and as the port loads it.
+/// What is wrong where the crate reads the file, or the port loads it.
 fn misread(port: &dyn Port, case: &PageCase, text: &str) -> Option<String> {
     let by_crate = |page: &mut [u8], marks: &mut [u8]| {
         let (code, records, ..) = loads::model(&to_load(case, text), page, marks);
@@ -306,7 +310,7 @@ fn mismeasured(port: &dyn Port, case: &PageCase, file: &Filed) -> Option<String>
     let (code, value) = length(file);
     let mut numbers = Numbers::default();
     let (first, told) = (case.first, numbers.lend().0);
-    let is = port.page_length(first, page.bytes(), marks.bytes(), told);
+    let is = port.page_file_length(first, page.bytes(), marks.bytes(), told);
     unlike(&refused(code, value), is, &numbers, &Lent::new(0), &[])
         .map(|why| format!("length: {why}"))
         .or_else(|| page.unlike("page", &case.page))
@@ -357,7 +361,7 @@ fn misgiven(case: &PageCase, file: &Filed) -> Option<String> {
     let PageCase {
         first, page, marks, ..
     } = case;
-    let measured = ihex::page_length(*first, page, marks);
+    let measured = ihex::page_file_length(*first, page, marks);
     let given = ihex::write_page(*first, page, marks);
     let found = given.as_ref().map(String::len).map_err(|&why| why);
     let (is, should) = ([measured, found].map(told), [length(file); 2]);

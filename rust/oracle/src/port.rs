@@ -99,8 +99,8 @@ pub trait Port: Sync {
         ihex_sys::load(text, first, page, marks, line, a, b)
     }
 
-    fn page_length(&self, first: u32, page: &[u8], marks: &[u8], value: &mut u64) -> u32 {
-        ihex_sys::page_length(first, page, marks, value)
+    fn page_file_length(&self, first: u32, page: &[u8], marks: &[u8], value: &mut u64) -> u32 {
+        ihex_sys::page_file_length(first, page, marks, value)
     }
 
     fn write_page(

@@ -51,7 +51,7 @@ impl<'a> Call<'a> {
     /// The file's length, if there is a file.
     fn length(&self) -> Option<usize> {
         let mut value = 0;
-        let code = Real.page_length(self.first, self.page, self.marks, &mut value);
+        let code = Real.page_file_length(self.first, self.page, self.marks, &mut value);
         Some(value as usize).filter(|_| code == 0)
     }
 
@@ -97,8 +97,8 @@ impl Port for Page {
 struct Length(fn(u32, &mut u64) -> u32);
 
 impl Port for Length {
-    fn page_length(&self, first: u32, page: &[u8], marks: &[u8], value: &mut u64) -> u32 {
-        let code = Real.page_length(first, page, marks, value);
+    fn page_file_length(&self, first: u32, page: &[u8], marks: &[u8], value: &mut u64) -> u32 {
+        let code = Real.page_file_length(first, page, marks, value);
         self.0(code, value)
     }
 }
@@ -148,21 +148,21 @@ fn bases() -> Vec<Wrong> {
     let base = |name, extends| -> Wrong { (name, Box::new(Ruled(Rules { extends, ..RIGHT }))) };
     vec![
         base(
-            "puts no type 04 at the start where the upper half is 0",
+            "puts no type 04 at the start where the upper bits are 0",
             |last, next| last.map_or(0, upper) != upper(next),
         ),
         base("puts a type 04 at the start alone", |last, _| {
             last.is_none()
         }),
         base(
-            "puts no type 04 where the upper half changes in a gap",
+            "puts no type 04 where the upper bits change in a gap",
             |last, next| match last {
                 Some(last) if last.end < next.start => false,
                 _ => (RIGHT.extends)(last, next),
             },
         ),
         base(
-            "puts no type 04 where the upper half changes in a run",
+            "puts no type 04 where the upper bits change in a run",
             |last, next| match last {
                 Some(last) if last.end == next.start => false,
                 _ => (RIGHT.extends)(last, next),

@@ -5,9 +5,9 @@ use ihex_sys::MAX_PAGE;
 use oracle::chance::Chance;
 use oracle::domain::at_hand;
 use oracle::kinds::{of_pages, Plan};
+use oracle::page_inputs::{large, page};
 use oracle::pages::PageCase;
 use oracle::port::Real;
-use oracle::runs::{large, page};
 use oracle::wrong_pages;
 
 /// Whether a few of the cases are such.

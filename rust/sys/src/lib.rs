@@ -148,7 +148,7 @@ mod c {
             a: *mut u64,
             b: *mut u64,
         ) -> u32;
-        pub fn ihex_page_length(
+        pub fn ihex_page_file_length(
             first: u32,
             page: *const u8,
             page_len: usize,
@@ -340,13 +340,13 @@ pub fn load(
 }
 
 /// How long the file of a page with marks is.
-pub fn page_length(first: u32, page: &[u8], marks: &[u8], value: &mut u64) -> u32 {
+pub fn page_file_length(first: u32, page: &[u8], marks: &[u8], value: &mut u64) -> u32 {
     let (page, page_len) = (page.as_ptr(), page.len());
     let (marks, marks_len) = (marks.as_ptr(), marks.len());
-    unsafe { c::ihex_page_length(first, page, page_len, marks, marks_len, value) }
+    unsafe { c::ihex_page_file_length(first, page, page_len, marks, marks_len, value) }
 }
 
-/// A page with marks to a text.
+/// The file of a page with marks.
 pub fn write_page(first: u32, page: &[u8], marks: &[u8], out: &mut [u8], value: &mut u64) -> u32 {
     let (page, page_len) = (page.as_ptr(), page.len());
     let (marks, marks_len) = (marks.as_ptr(), marks.len());

@@ -22,7 +22,7 @@ least-requires-2 : tie.Need-least-requires-2
 least-requires-2 c κs = search needs
 
 add-result : tie.Need-add-result
-add-result c = omega (arith, c .before .before .pre, c .least2 .ensures .second, c .before .before .good .1 .1 .0)
+add-result c = omega (arith, c .before .before .pre, c .least2 .ensures .under-b, c .before .before .good .1 .1 .0)
 
 returns : tie.Need-returns
 returns c = let s = c .before .before in reaches (s .args .address) (s .args .place) (s .args .end) (c .before .least .result) (c .least2 .result) (s .pre) (c .before .least .ensures) (c .least2 .ensures)

@@ -8,7 +8,7 @@ use borrow.Author.Needs.{needs}
 use borrow.Author.Tests.{not-true, not-false}
 use Rattle.record.specs.declared.Record.{Record}
 use Rattle.writer.specs.Claims.{Surveys, at-first as no-records, then-add}
-use Rattle.page.specs.Helpers.{left}
+use Rattle.page.specs.Helpers.{to-come}
 use Rattle.page.proofs.Loops.{Surveying, at-first, under-way, passes-one, fewer-left, passed-all}
 use Rattle.page.proofs.survey.Statement.{statement}
 use Rattle.page.proofs.survey.Tie as tie
@@ -17,7 +17,7 @@ abbrev Inv-loop : tie.InvT-loop
 Inv-loop first page marks s₀ w₀ finished₀ s w finished = Surveying first page marks s w finished
 
 abbrev μ-loop : tie.MeasureT-loop
-μ-loop first page marks s₀ w₀ finished₀ s w finished = length (left first marks w)
+μ-loop first page marks s₀ w₀ finished₀ s w finished = length (to-come first marks w)
 
 new-requires : tie.Need-new-requires Inv-loop μ-loop
 new-requires c κs = search needs

@@ -8,7 +8,7 @@ use borrow.Author.Needs.{needs}
 use borrow.Author.Tests.{not-true, not-false}
 use Rattle.record.specs.declared.Record.{Record}
 use Rattle.writer.specs.Claims.{Steps, no-step, then-step}
-use Rattle.page.specs.Helpers.{left}
+use Rattle.page.specs.Helpers.{to-come}
 use Rattle.page.proofs.Loops.{Stepping, at-first, under-way, passes-one, fewer-left, passed-all}
 use Rattle.page.proofs.write_records.Statement.{statement}
 use Rattle.page.proofs.write_records.Tie as tie
@@ -17,7 +17,7 @@ abbrev Inv-loop : tie.InvT-loop
 Inv-loop first page marks out₀ done₀ w₀ finished₀ out done w finished = Stepping first page marks out₀ done₀ out done w finished
 
 abbrev μ-loop : tie.MeasureT-loop
-μ-loop first page marks out₀ done₀ w₀ finished₀ out done w finished = length (left first marks w)
+μ-loop first page marks out₀ done₀ w₀ finished₀ out done w finished = length (to-come first marks w)
 
 begin-requires : tie.Need-begin-requires Inv-loop μ-loop
 begin-requires c κs = search needs

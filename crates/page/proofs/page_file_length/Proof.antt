@@ -1,4 +1,4 @@
--- `page::page_length` meets its contract: the survey's answer, however much room there is.
+-- `page::page_file_length` meets its contract: the survey's answer, however much room there is.
 -- Assumes nothing.
 use mathlib.Core.Path.{_≡_, subst}
 use lib.ListN.{length}
@@ -8,8 +8,8 @@ use Rattle.writer.specs.Told.{wrote, told}
 use Rattle.page.specs.File.{file}
 use Rattle.page.specs.Helpers.{Surveyed-whole, Surveyed-as}
 use Rattle.page.proofs.Answers.{surveyed-length, never-refused, length-refused, length-told}
-use Rattle.page.proofs.page_length.Statement.{statement}
-use Rattle.page.proofs.page_length.Tie as tie
+use Rattle.page.proofs.page_file_length.Statement.{statement}
+use Rattle.page.proofs.page_file_length.Tie as tie
 
 -- what the survey found
 whole : (c : tie.After-answer) → let a = c .before .before .before .before .before .before .before .args in Surveyed-whole (a .first) (now (a .page)) (now (a .marks)) (c .before .before .s .given .0 .0)
@@ -47,5 +47,5 @@ returns-2 c =
     let a = c .before .before .before .before .before .before .before .before .args in
     length-told (a .first) (now (a .page)) (now (a .marks)) (c .before .answer .result) (c .as-paged .result) (whole (c .before) .text-is) (surveyed (c .before)) (c .as-paged .ensures)
 
-pub page-length-spec : {M : Type 1} → statement M
-page-length-spec = tie.close (tie.spec survey-page-requires enum-known-e enum-known-s answer-requires as-paged-requires returns returns-2)
+pub page-file-length-spec : {M : Type 1} → statement M
+page-file-length-spec = tie.close (tie.spec survey-page-requires enum-known-e enum-known-s answer-requires as-paged-requires returns returns-2)
