@@ -1,12 +1,12 @@
 -- The walk over the records of a file: from a place on, the places without a mark are passed, and a piece is taken whole.
 -- Assumes nothing.
-use mathlib.Core.Path.{_≡_, refl, sym, _∙_, ap}
+use mathlib.Core.Path.{_≡_, refl, _∙_, ap}
 use mathlib.Core.Logic.{_≢_, _⊎_, inl, inr}
 use Prim.Native.Nat.{ℕ, zero, suc, _+_, _-_, _/_, _%_, _≤_, _<_}
 use native.Mathlib.Omega.{arith}
 use mathlib.Core.Bool.{Bool, true, false, not}
-use mathlib.Core.Option.{Option, none, some}
-use mathlib.Core.List.{List, [], _∷_}
+use mathlib.Core.Option.{none, some}
+use mathlib.Core.List.{List, [], _∷_, _++_}
 use lib.Dec.{eqb, ltb}
 use lib.ListN.{length, getD, drop, drop-of-length-le}
 use lib.Seq.{drop-cons}
@@ -16,8 +16,9 @@ use Rattle.record.specs.declared.Record.the-variants.{Data, EndOfFile, Extended
 use Rattle.record.proofs.Tests.{if-true, if-false, split, both-ways, or-true}
 use Rattle.page.specs.declared.Walk.{Walk}
 use Rattle.page.specs.Pieces.{Piece, ends-before, one-longer, starting, pieces}
-use Rattle.page.specs.File.{upper, data-of, is-latest, extension, records}
+use Rattle.page.specs.File.{upper, data-of, extension, records}
 use Rattle.page.specs.Helpers.{NextMarked, PieceEnd, latest-upper, to-come, Under-way, Stepped}
+use Rattle.page.proofs.Records.{by-latest}
 
 -- ---- the tests, from facts
 
@@ -155,43 +156,36 @@ marked-there {marks} {from} {r} n h = (omega (arith, n .high), go (n .there))
     go (inl e) = absurd (h e)
     go (inr e) = e
 
--- ---- the records that are left
+-- ---- the records to come
 
-in-force-small : (u : ℕ) → u < 65536 → latest-upper u ≡ some u
+upper-small : (u : ℕ) → u < 65536 → latest-upper u ≡ some u
 unfolding latest-upper
-in-force-small u h = rw (lt-ltb u 65536 h)
+upper-small u h = rw (lt-ltb u 65536 h)
 
--- other upper bits are in force, or none
-not-latest : (latest u : ℕ) → u ≢ latest → is-latest (latest-upper latest) u ≡ false
-unfolding is-latest latest-upper
+-- the upper bits of a walk that has others, or none yet
+not-latest : (latest u : ℕ) → u ≢ latest → latest-upper latest ≢ some u
+unfolding latest-upper
 not-latest latest u h =
-    both-ways (λ b. is-latest (if b then some latest else none) u ≡ false) (ltb latest 65536) (ne-eqb latest u (λ e. h (sym e))) refl
-
-no-extension : (latest : Option ℕ) (u : ℕ) → is-latest latest u ≡ true → extension latest u ≡ []
-unfolding extension
-no-extension latest u h = rw h
-
-an-extension : (latest : Option ℕ) (u : ℕ) → is-latest latest u ≡ false → extension latest u ≡ ExtendedLinearAddress u ∷ []
-unfolding extension
-an-extension latest u h = rw h
-
-own-latest : (u : ℕ) → is-latest (some u) u ≡ true
-unfolding is-latest
-own-latest u = eq-eqb u u refl
+    both-ways (λ b. (if b then some latest else none) ≢ some u) (ltb latest 65536) (λ e. h (cc)) (λ e. let z : _≡_ {A = ℕ} 0 1 = cc in omega arith)
 
 -- behind its own upper bits a piece needs no type 04 record, and else it has one
 same-upper : (first u : ℕ) (p : Piece) (ps : List Piece) → upper first p ≡ u → records first (some u) (p ∷ ps) ≡ data-of first p ∷ records first (some u) ps
 unfolding records
-same-upper first u p ps h = rw (h, no-extension (some u) u (own-latest u))
+same-upper first u p ps h =
+    rw h (by-latest (λ l. l ++ (data-of first p ∷ records first (some u) ps) ≡ data-of first p ∷ records first (some u) ps) (some u) u (λ e. refl) (λ n. absurd (n refl)))
 
 new-upper : (first latest u : ℕ) (p : Piece) (ps : List Piece) → upper first p ≡ u → u ≢ latest
     → records first (latest-upper latest) (p ∷ ps) ≡ ExtendedLinearAddress u ∷ records first (some u) (p ∷ ps)
 unfolding records
 new-upper first latest u p ps h n =
-    rw (h, an-extension (latest-upper latest) u (not-latest latest u n), no-extension (some u) u (own-latest u))
+    rw h
+    (by-latest (λ l. l ++ (data-of first p ∷ records first (some u) ps) ≡ ExtendedLinearAddress u ∷ extension (some u) u ++ (data-of first p ∷ records first (some u) ps)) (latest-upper latest) u
+    (λ e. absurd (not-latest latest u n e))
+    (λ _. by-latest (λ l. ExtendedLinearAddress u ∷ data-of first p ∷ records first (some u) ps ≡ ExtendedLinearAddress u ∷ l ++ (data-of first p ∷ records first (some u) ps)) (some u) u
+    (λ e. refl) (λ k. absurd (k refl))))
 
 module _ (first : ℕ) (marks : List ℕ) (w : Walk) (start : ℕ) (under : Under-way first marks w) (next : NextMarked marks (w .place) start) where
-  -- what is left, from the next marked place on
+  -- what is to come, from the next marked place on
   from-there : to-come first marks w ≡ records first (latest-upper (w .latest)) (pieces first start none (drop start marks))
   unfolding to-come
   from-there = rw (under .on) (ap (records first (latest-upper (w .latest))) (to-next-marked first (w .place) start marks next))
@@ -211,7 +205,7 @@ module _ (first : ℕ) (marks : List ℕ) (w : Walk) (start : ℕ) (under : Unde
         let (q, ps, h, e) = piece-there first start marks there is-marked in
         let u : ℕ = (first + start) / 65536 in
         record {
-          next = from-there ∙ rw (e, in-force-small u small) (new-upper first (w .latest) u q ps (ap (λ (x : ℕ). (first + x) / 65536) h) n);
+          next = from-there ∙ rw (e, upper-small u small) (new-upper first (w .latest) u q ps (ap (λ (x : ℕ). (first + x) / 65536) h) n);
           inside = omega arith;
         }
 
@@ -224,6 +218,6 @@ module _ (first : ℕ) (marks : List ℕ) (w : Walk) (start : ℕ) (under : Unde
     at-a-piece e r p =
         let u : ℕ = (first + start) / 65536 in
         record {
-          next = from-there ∙ rw (← e, in-force-small u small, piece-taken first start r marks there is-marked p) (same-upper first u (record { place = start; size = r - start }) _ refl);
+          next = from-there ∙ rw (← e, upper-small u small, piece-taken first start r marks there is-marked p) (same-upper first u (record { place = start; size = r - start }) _ refl);
           inside = p .inside;
         }

@@ -65,7 +65,7 @@ pub record PieceEnd (marks : List ℕ) (first start r : ℕ) : Type 0 where
 unfoldable pub latest-upper : ℕ → Option ℕ
 latest-upper latest = if ltb latest 65536 then some latest else none
 
--- the records that are left
+-- the records to come
 unfoldable pub to-come : (first : ℕ) (marks : List ℕ) → Walk → List Record
 unfolding latest-upper
 to-come first marks w =
