@@ -126,22 +126,7 @@ pub fn shown<'a>(lies: Place, chunk: &'a [u8], carry: &'a [u8]) -> &'a [u8]
 fn is_digit(c: u8) -> bool
     ensures { λ r. ⌜ r ≡ is-digit c ⌝ }
 {
-    if c < 48 {
-        return false;
-    }
-    if c <= 57 {
-        return true;
-    }
-    if c < 65 {
-        return false;
-    }
-    if c <= 70 {
-        return true;
-    }
-    if c < 97 {
-        return false;
-    }
-    c <= 102
+    record::digit_value(c) < 16
 }
 
 // One more, but 65,535 at most.

@@ -15,12 +15,11 @@ use Rattle.record.specs.Record.{meant}
 use Rattle.record.specs.Line.{Said, judge}
 use Rattle.record.specs.Meaning.{Meaning}
 use Rattle.record.specs.Written.{written, Sayable}
-use Rattle.record.proofs.Tests.{both-ways}
+use Rattle.record.proofs.Tests.{both-ways, and-true}
 use Rattle.record.proofs.Writing.{reads-back}
 use Rattle.reader.specs.Lines.{LF, CR, with-LF, nothing, more, lines}
 use Rattle.reader.specs.Row.{Numbered, on, sayings, is-end, stops, through-stop, row}
 use Rattle.reader.specs.Text.{default-options}
-use Rattle.reader.proofs.Gather.{and-true}
 use Rattle.reader.proofs.Cutting.{lines-closed, closed}
 use Rattle.reader.proofs.Texts.{lines-join}
 use Rattle.writer.specs.Line.{line-refusal, line}

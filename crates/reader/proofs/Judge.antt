@@ -17,7 +17,7 @@ use Rattle.record.specs.Format.{layout}
 use Rattle.record.proofs.Judging.{judge-layout}
 use Rattle.reader.specs.Answer.{word}
 use Rattle.reader.specs.Helpers.{Summed}
-use Rattle.reader.proofs.Cells.{drop-two}
+use Rattle.reader.proofs.Decoding.{drop-two}
 
 module _ (buf : List ℕ) (m total : ℕ) (summed : Summed buf m total) where
   abbrev pub payload : List ℕ

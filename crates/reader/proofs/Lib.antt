@@ -1,11 +1,9 @@
-pub mod Gather
 pub mod Offender
-pub mod Cells
+pub mod Decoding
 pub mod Payload
 pub mod Answers
 pub mod Judge
 pub mod Line
-pub mod Table
 pub mod Cutting
 pub mod Feeds
 pub mod Sixteen

@@ -15,7 +15,7 @@ use Rattle.record.specs.Meaning.{meaning}
 use Rattle.reader.specs.Told.{gives}
 use Rattle.reader.specs.Answer.{given}
 use Rattle.reader.specs.Helpers.{Special}
-use Rattle.reader.proofs.Cells.{drop-two}
+use Rattle.reader.proofs.Decoding.{drop-two}
 
 -- a turn of `pour`
 pub pour-more : (pool₀ : List ℕ) (at : ℕ) (buf : List ℕ) (i : ℕ) (pool : List ℕ)

@@ -9,7 +9,7 @@ use lib.Dec.{ltb}
 use lib.ListN.{length, getD, take, drop}
 use Rattle.checksum.specs.Checksum.{sum}
 use Rattle.record.specs.declared.Record.{Record}
-use Rattle.record.specs.Digits.{digit, all-digits, leading, bytes}
+use Rattle.record.specs.Digits.{all-digits, leading, bytes}
 use Rattle.record.specs.Line.{named}
 use Rattle.record.specs.Meaning.{meaning}
 use Rattle.reader.specs.declared.Answer.the-variants.{Read}
@@ -25,17 +25,8 @@ use Rattle.reader.specs.Text.{told-reply, is-full, ends-row, behind}
 use Rattle.record.specs.Common.{if_then_else_}
 use Rattle.reader.specs.Answer.{given}
 
--- a lent table gives each byte its digit
-pub record IsTable (t : List ℕ) : Type 0 where
-  pub rule : (c : ℕ) → c < 256 → getD t c 0 ≡ digit c
-
--- the table, and a buffer for the bytes of the longest line
-pub record Lent (t buf : List ℕ) : Type 0 where
-  pub table : IsTable t
-  pub room : 260 ≤ length buf
-
-pub record Decodable (t line : List ℕ) (n : ℕ) (buf : List ℕ) : Type 0 where
-  pub table : IsTable t
+-- a line of n pairs of characters behind its colon, and a buffer for the bytes of the longest line
+pub record Decodable (line : List ℕ) (n : ℕ) (buf : List ℕ) : Type 0 where
   pub sized : length line ≡ 1 + 2 * n
   pub most : n ≤ 260
   pub room : 260 ≤ length buf

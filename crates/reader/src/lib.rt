@@ -1,6 +1,4 @@
 // Intel HEX read: one line to a record, and a text to a row of answers.
-mod digits;
-
 use record::Record;
 use record::types;
 ghost use mathlib.Core.Path.{_≡_};
@@ -10,14 +8,14 @@ ghost use lib.ListN.{length, take, drop};
 ghost use lib.Seq.{paste};
 ghost use lib.Dec.{eqb};
 ghost use Rattle.record.specs.Common.{if_then_else_};
-ghost use Rattle.record.specs.Digits.{digit, all-digits, leading};
+ghost use Rattle.record.specs.Digits.{all-digits, leading};
 ghost use Rattle.record.specs.Line.{size, judge-bytes, says, named};
 ghost use Rattle.reader.specs.Told.{told};
 ghost use Rattle.reader.specs.Answer.{ReadRecord, Reads, word};
 ghost use Rattle.reader.specs.Lines.{rest};
 ghost use Rattle.reader.specs.Text.{FirstLine, Default, Ends, New, Next, Number, default-options, at-end};
 ghost use Rattle.reader.specs.Held.{Opened, Asked};
-ghost use Rattle.reader.specs.Helpers.{NoFeed, FirstFeed, LineEnd, Spotted, Settled, IsTable, invalid-at, Lent, Decodable, Decoded, Special, Summed};
+ghost use Rattle.reader.specs.Helpers.{NoFeed, FirstFeed, LineEnd, Spotted, Settled, invalid-at, Decodable, Decoded, Special, Summed};
 
 // Why a line gives no record, in the crate's order.
 pub enum ReaderError {
@@ -80,22 +78,13 @@ enum Spot {
     Nothing,
 }
 
-// The lent table's value of a byte.
-fn value(t: &[u8; 256], c: u8) -> u8
-    requires { ⌜ IsTable (now t) ⌝ }
-    ensures { λ r. ⌜ r ≡ digit c ⌝ }
-{
-    t[c as usize]
-}
-
 // The place of the first byte behind the colon that is no digit, or behind the line where each is one.
-fn first_other(t: &[u8; 256], line: &[u8]) -> usize
-    requires { ⌜ IsTable (now t) ⌝ }
+fn first_other(line: &[u8]) -> usize
     ensures { λ r. ⌜ r ≡ suc (leading (drop 1 (now (line .entry)))) ⌝ }
 {
     let mut i = 1;
     while i < line.len() {
-        if value(t, line[i]) >= 16 {
+        if record::digit_value(line[i]) >= 16 {
             return i;
         }
         i += 1;
@@ -120,31 +109,36 @@ fn pair(high: u8, low: u8) -> u8
     (((high as u16) * 16 + (low as u16)) % 256) as u8
 }
 
-// All digits gathered, and the sum of all bytes. The marker 16 has a bit that no digit has.
+// 16 where a byte is no digit, or 0; and the sum of the bytes.
 struct Scan {
     seen: u8,
     sum: u8,
 }
 
-// Decodes the 2n digits behind the colon into the buffer, and gathers them and sums the bytes on the way.
-fn decode(t: &[u8; 256], line: &[u8], n: usize, buf: &mut [u8]) -> Scan
-    requires { ⌜ Decodable (now t) (now line) n (now buf) ⌝ }
+// Decodes the 2n digits behind the colon into the buffer and sums the bytes, up to a byte that is no digit. With an exit on the way the loop
+// is compiled as it stands; without one it is spread over vectors, in 3 KB.
+fn decode(line: &[u8], n: usize, buf: &mut [u8]) -> Scan
+    requires { ⌜ Decodable (now line) n (now buf) ⌝ }
     ensures { λ r. ⌜ Decoded (drop 1 (now (line .entry))) n (r .seen) (r .sum) (now (buf .exit)) ⌝ }
 {
-    let mut seen: u8 = 0;
     let mut sum: u8 = 0;
     let mut i = 0;
     while i < n {
         let p = 1 + 2 * i;
-        let high = value(t, line[p]);
-        let low = value(t, line[p + 1]);
+        let high = record::digit_value(line[p]);
+        if high >= 16 {
+            return Scan { seen: high, sum };
+        }
+        let low = record::digit_value(line[p + 1]);
+        if low >= 16 {
+            return Scan { seen: low, sum };
+        }
         let byte = pair(high, low);
-        seen = seen | high | low;
         sum = std::num::wrapping_add_u8(sum, byte);
         buf[i] = byte;
         i += 1;
     }
-    Scan { seen, sum }
+    Scan { seen: 0, sum }
 }
 
 // Two bytes, high byte first.
@@ -268,20 +262,19 @@ fn judge_bytes(buf: &[u8], m: usize, sum: u8, pool: &mut [u8], at: usize) -> Ans
 }
 
 // The given refusal, unless a byte behind the colon is no digit.
-fn digits_or(t: &[u8; 256], line: &[u8], e: ReaderError) -> Answer
-    requires { ⌜ IsTable (now t) ⌝ }
+fn digits_or(line: &[u8], e: ReaderError) -> Answer
     ensures { λ r. ⌜ r ≡ (if all-digits (drop 1 (now (line .entry))) then Answer.Refused e else Answer.Refused (invalid-at (now (line .entry)))) ⌝ }
 {
-    let place = first_other(t, line);
+    let place = first_other(line);
     if place < line.len() {
         return Answer::Refused(ReaderError::ContainsInvalidCharacters(name_place(place)));
     }
     Answer::Refused(e)
 }
 
-// One line, with the table and a buffer lent.
-fn read_with(t: &[u8; 256], buf: &mut [u8], line: &[u8], pool: &mut [u8], at: usize) -> Answer
-    requires { ⌜ Lent (now t) (now buf) ⌝ }
+// One line, with a buffer lent.
+fn read_with(buf: &mut [u8], line: &[u8], pool: &mut [u8], at: usize) -> Answer
+    requires { ⌜ 260 ≤ length (now buf) ⌝ }
     ensures { λ r. ⌜ ReadRecord (now (line .entry)) (now (pool .entry)) at r (now (pool .exit)) ⌝ }
 {
     if line.len() == 0 {
@@ -292,18 +285,18 @@ fn read_with(t: &[u8; 256], buf: &mut [u8], line: &[u8], pool: &mut [u8], at: us
     }
     let n = line.len() - 1;
     if n < 10 {
-        return digits_or(t, line, ReaderError::RecordTooShort);
+        return digits_or(line, ReaderError::RecordTooShort);
     }
     if n > 520 {
-        return digits_or(t, line, ReaderError::RecordTooLong);
+        return digits_or(line, ReaderError::RecordTooLong);
     }
     if n % 2 != 0 {
-        return digits_or(t, line, ReaderError::RecordNotEvenLength);
+        return digits_or(line, ReaderError::RecordNotEvenLength);
     }
     let m = n / 2;
-    let scan = decode(t, line, m, buf);
+    let scan = decode(line, m, buf);
     if scan.seen >= 16 {
-        let place = first_other(t, line);
+        let place = first_other(line);
         return Answer::Refused(ReaderError::ContainsInvalidCharacters(name_place(place)));
     }
     judge_bytes(buf, m, scan.sum, pool, at)
@@ -313,9 +306,8 @@ fn read_with(t: &[u8; 256], buf: &mut [u8], line: &[u8], pool: &mut [u8], at: us
 pub fn read_record(line: &[u8], pool: &mut [u8], at: usize) -> Answer
     ensures { λ r. ⌜ ReadRecord (now (line .entry)) (now (pool .entry)) at r (now (pool .exit)) ⌝ }
 {
-    let t = digits::DIGITS;
     let mut buf = [0u8; 260];
-    read_with(&t, &mut buf, line, pool, at)
+    read_with(&mut buf, line, pool, at)
 }
 
 // Whether a byte is LF: 1 or 0.

@@ -3,6 +3,7 @@
 use Prim.Native.Nat.{ℕ, _+_, _*_, _-_, _%_, _<_, _≤_}
 use mathlib.Core.Path.{_≡_, refl, sym, _∙_, ap₂}
 use mathlib.Core.Bool.{Bool, true, false, _&&_}
+use mathlib.Core.Logic.{_⊎_, inl, inr}
 use mathlib.Core.List.{List, [], _∷_, _++_}
 use native.Mathlib.Omega.{arith}
 use lib.Dec.{leb}
@@ -46,22 +47,26 @@ hex-small (decimal e h) = omega arith
 hex-small (capital e l h) = h
 hex-small (small e l h) = h
 
-pub digit-hex : (c : ℕ) → digit c < 16 → Hex c (digit c)
+-- a byte is a digit of the format, or its value is 16
+pub hex-or-none : (c : ℕ) → Hex c (digit c) ⊎ (digit c ≡ 16)
 unfolding digit
-digit-hex c d =
+hex-or-none c =
     split 48 c
     (λ h1. split c 57
-    (λ h2. let e : digit c ≡ c - 48 = rw (inside 48 57 c h1 h2) in decimal (omega arith) (omega arith))
+    (λ h2. let e : digit c ≡ c - 48 = rw (inside 48 57 c h1 h2) in inl (decimal (omega arith) (omega arith)))
     (λ h2. split 65 c
     (λ h3. split c 70
-    (λ h4. let e : digit c ≡ c - 55 = rw (over 48 57 c h2, inside 65 70 c h3 h4) in capital (omega arith) (omega arith) (omega arith))
+    (λ h4. let e : digit c ≡ c - 55 = rw (over 48 57 c h2, inside 65 70 c h3 h4) in inl (capital (omega arith) (omega arith) (omega arith)))
     (λ h4. split 97 c
     (λ h5. split c 102
-    (λ h6. let e : digit c ≡ c - 87 = rw (over 48 57 c h2, over 65 70 c h4, inside 97 102 c h5 h6) in small (omega arith) (omega arith) (omega arith))
-    (λ h6. let e : digit c ≡ 16 = rw (over 48 57 c h2, over 65 70 c h4, over 97 102 c h6) in absurd (omega arith)))
-    (λ h5. let e : digit c ≡ 16 = rw (over 48 57 c h2, over 65 70 c h4, under 97 102 c h5) in absurd (omega arith))))
-    (λ h3. let e : digit c ≡ 16 = rw (over 48 57 c h2, under 65 70 c h3, under 97 102 c (omega arith)) in absurd (omega arith))))
-    (λ h1. let e : digit c ≡ 16 = rw (under 48 57 c h1, under 65 70 c (omega arith), under 97 102 c (omega arith)) in absurd (omega arith))
+    (λ h6. let e : digit c ≡ c - 87 = rw (over 48 57 c h2, over 65 70 c h4, inside 97 102 c h5 h6) in inl (small (omega arith) (omega arith) (omega arith)))
+    (λ h6. inr (rw (over 48 57 c h2, over 65 70 c h4, over 97 102 c h6))))
+    (λ h5. inr (rw (over 48 57 c h2, over 65 70 c h4, under 97 102 c h5)))))
+    (λ h3. inr (rw (over 48 57 c h2, under 65 70 c h3, under 97 102 c (omega arith))))))
+    (λ h1. inr (rw (under 48 57 c h1, under 65 70 c (omega arith), under 97 102 c (omega arith))))
+
+pub digit-hex : (c : ℕ) → digit c < 16 → Hex c (digit c)
+digit-hex c d = elim (hex-or-none c) [ inl h ↦ h | inr e ↦ absurd (omega arith) ]
 
 pub is-hex : (c : ℕ) → is-digit c ≡ true → Is-hex c
 is-hex c e = (digit c, digit-hex c (ltb-true (digit c) 16 e))

@@ -31,6 +31,10 @@ pub and-assoc : (a b c : Bool) → (a && b) && c ≡ a && (b && c)
 and-assoc true b c = refl
 and-assoc false b c = refl
 
+pub and-true : (x : Bool) → x && true ≡ x
+and-true true = refl
+and-true false = refl
+
 pub and-false : (x : Bool) → x && false ≡ false
 and-false true = refl
 and-false false = refl

@@ -4,10 +4,11 @@ use Prim.Native.Nat.{ℕ, _≤_}
 use mathlib.Core.Path.{_≡_}
 use mathlib.Core.Logic.{_↔_}
 use mathlib.Core.List.{List}
+use Rattle.record.specs.Digits.{DigitValue}
 use Rattle.record.specs.Refusals.{Refusal, number-of, contains-invalid-characters}
 use Rattle.record.specs.Line.{says, wrong, named, judge}
-use Rattle.record.specs.Format.{Format}
-use Rattle.record.specs.Faults.{First-offender, Fault}
+use Rattle.record.specs.Format.{Hex, Format}
+use Rattle.record.specs.Faults.{Is-hex, First-offender, Fault}
 use Rattle.record.specs.Meaning.{Meaning, meaning}
 use Rattle.record.specs.Written.{written, Writable, Sayable, kind-of, address-of, payload-of, line-of}
 use Rattle.record.specs.declared.Record.{Record}
@@ -36,6 +37,10 @@ Names-the-offender =
     (line : List ℕ) (r : Refusal)
     → ((judge line ≡ wrong r) × (number-of r ≡ 2)) ↔ ((place : ℕ) × First-offender line place × (r ≡ contains-invalid-characters (named place)))
 
+-- the value of a digit of the format is the one that the format gives it, and that of any other byte is 16
+abbrev pub Values-of-digits : Type 0
+Values-of-digits = (c r : ℕ) → DigitValue c r → ((x : ℕ) → Hex c x → r ≡ x) × (¬ Is-hex c → r ≡ 16)
+
 -- what is written is in the format, for exactly that type, address and payload
 abbrev pub Written-in-format : Type 0
 Written-in-format =
@@ -56,5 +61,9 @@ Said-is-sayable =
     (line : List ℕ) (kind address : ℕ) (payload : List ℕ)
     → judge line ≡ says kind address payload → Sayable (meaning kind address payload)
 
+-- no second answer meets a contract
 abbrev pub Record-type-unique : Type 0
 Record-type-unique = (x : Record) (r r′ : ℕ) → RecordType x r → RecordType x r′ → r ≡ r′
+
+abbrev pub Digit-value-unique : Type 0
+Digit-value-unique = (c r r′ : ℕ) → DigitValue c r → DigitValue c r′ → r ≡ r′

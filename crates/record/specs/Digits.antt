@@ -1,6 +1,7 @@
 -- Hexadecimal digits, the bytes that pairs of them spell, and the numbers that bytes say.
 -- Assumes nothing.
 use Prim.Native.Nat.{ℕ, suc, _+_, _-_, _*_}
+use mathlib.Core.Path.{_≡_}
 use mathlib.Core.Bool.{Bool, true, _&&_}
 use mathlib.Core.List.{List, [], _∷_}
 use lib.Dec.{leb, ltb}
@@ -17,6 +18,10 @@ digit c =
     if between 65 70 c then c - 55 else
     if between 97 102 c then c - 87 else
     16
+
+-- the contract of `digit_value`
+pub record DigitValue (c r : ℕ) : Type 0 where
+  pub answer : r ≡ digit c
 
 abbrev pub is-digit : ℕ → Bool
 is-digit c = ltb (digit c) 16

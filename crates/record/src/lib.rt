@@ -1,4 +1,5 @@
-// The six records of Intel's hexadecimal format, and their types.
+// The six records of Intel's hexadecimal format, their types, and the value of a digit.
+ghost use Rattle.record.specs.Digits.{DigitValue};
 ghost use Rattle.record.specs.Record.{RecordType};
 
 pub enum Record {
@@ -49,4 +50,24 @@ impl Record {
             Record::StartLinearAddress(_) => types::START_LINEAR_ADDRESS,
         }
     }
+}
+
+// The value of a hexadecimal digit, 0 to 15 in either letter case; 16 for any other byte. A byte ahead of a range wraps to beyond it. The six
+// letters of a case wrap to 250 to 255, the last of all bytes, and the value is the lower half of that.
+pub fn digit_value(c: u8) -> u8
+    ensures { λ r. ⌜ DigitValue c r ⌝ }
+{
+    let decimal = std::num::wrapping_sub_u8(c, b'0');
+    if decimal < 10 {
+        return decimal;
+    }
+    let capital = std::num::wrapping_sub_u8(c, b'G');
+    if capital >= 250 {
+        return capital % 16;
+    }
+    let small = std::num::wrapping_sub_u8(c, b'g');
+    if small >= 250 {
+        return small % 16;
+    }
+    16
 }

@@ -1,24 +1,24 @@
--- `reader::decode` meets its contract. The loop's invariant is `Turn` of `proofs/Cells.antt`, with the buffer's length.
+-- `reader::decode` meets its contract. The loop's invariant is `Turn` of `proofs/Decoding.antt`, with the buffer's length.
 -- Assumes nothing.
 use mathlib.Core.Path.{_≡_, refl}
 use lib.ListN.{length, length-set}
 use Prim.Native.Nat.{_-_}
 use borrow.Author.Needs.{needs}
 use denote.Ref.{now}
-use Rattle.reader.proofs.Cells.{Turn, turn-first, turn-more, turn-last}
+use Rattle.reader.proofs.Decoding.{Turn, turn-first, turn-high, turn-low, turn-more, turn-last}
 use Rattle.reader.proofs.decode.Statement.{statement}
 use Rattle.reader.proofs.decode.Tie as tie
 
 abbrev Inv-loop : tie.InvT-loop
-Inv-loop t line n buf₀ seen₀ sum₀ i₀ buf seen sum i = Turn line n buf seen sum i × (length buf ≡ length buf₀)
+Inv-loop line n buf₀ sum₀ i₀ buf sum i = Turn line n buf sum i × (length buf ≡ length buf₀)
 
 abbrev μ-loop : tie.MeasureT-loop
-μ-loop t line n buf₀ seen₀ sum₀ i₀ buf seen sum i = n - i
+μ-loop line n buf₀ sum₀ i₀ buf sum i = n - i
 
 loop-holds : tie.Need-loop-holds Inv-loop μ-loop
 loop-holds c =
     let a = c .before .before .args in
-    (turn-first (now (a .t)) (now (a .line)) (a .n) (now (a .buf)) (c .before .before .pre), refl)
+    (turn-first (now (a .line)) (a .n) (now (a .buf)) (c .before .before .pre), refl)
 
 mul-p : tie.Need-mul-p Inv-loop μ-loop
 mul-p c = search needs
@@ -26,20 +26,43 @@ mul-p c = search needs
 add-p : tie.Need-add-p Inv-loop μ-loop
 add-p c = search needs
 
-shared-slice-read-value : tie.Need-shared-slice-read-value Inv-loop μ-loop
-shared-slice-read-value c = search needs
+shared-slice-read-digit-value : tie.Need-shared-slice-read-digit-value Inv-loop μ-loop
+shared-slice-read-digit-value c = search needs
 
-value-requires : tie.Need-value-requires Inv-loop μ-loop
-value-requires c κs = search needs
+digit-value-requires : tie.Need-digit-value-requires Inv-loop μ-loop
+digit-value-requires c κs = search needs
 
-add-value : tie.Need-add-value Inv-loop μ-loop
-add-value c = search needs
+same-length : tie.Need-same-length Inv-loop μ-loop
+same-length c = search needs
 
-shared-slice-read-value-2 : tie.Need-shared-slice-read-value-2 Inv-loop μ-loop
-shared-slice-read-value-2 c = search needs
+returns : tie.Need-returns Inv-loop μ-loop
+returns c =
+    let t = c .before .before .before .before .loop in
+    let e = c .before .before .before .before .before .before .before in
+    turn-high (now (e .args .line)) (e .args .n) (now (e .args .buf)) (e .pre)
+    (t .buf) (t .sum) (t .i) (c .before .digit-value .result)
+    (t .inv .0) (c .before .before .before .loop-test .taken) (c .before .digit-value .ensures .answer) (c .if1 .taken)
 
-value-requires-2 : tie.Need-value-requires-2 Inv-loop μ-loop
-value-requires-2 c κs = search needs
+add-digit-value : tie.Need-add-digit-value Inv-loop μ-loop
+add-digit-value c = search needs
+
+shared-slice-read-digit-value-2 : tie.Need-shared-slice-read-digit-value-2 Inv-loop μ-loop
+shared-slice-read-digit-value-2 c = search needs
+
+digit-value-requires-2 : tie.Need-digit-value-requires-2 Inv-loop μ-loop
+digit-value-requires-2 c κs = search needs
+
+same-length-2 : tie.Need-same-length-2 Inv-loop μ-loop
+same-length-2 c = search needs
+
+returns-2 : tie.Need-returns-2 Inv-loop μ-loop
+returns-2 c =
+    let t = c .before .before .before .before .before .before .before .loop in
+    let e = c .before .before .before .before .before .before .before .before .before .before in
+    turn-low (now (e .args .line)) (e .args .n) (now (e .args .buf)) (e .pre)
+    (t .buf) (t .sum) (t .i) (c .before .before .before .before .digit-value .result)
+    (t .inv .0) (c .before .before .before .before .before .before .loop-test .taken) (c .before .before .before .before .digit-value .ensures .answer) (c .before .before .before .if1 .left)
+    (c .before .digit-value2 .result) (c .before .digit-value2 .ensures .answer) (c .if2 .taken)
 
 pair-requires : tie.Need-pair-requires Inv-loop μ-loop
 pair-requires c κs = search needs
@@ -58,27 +81,24 @@ loop-less c = search needs
 
 loop-again : tie.Need-loop-again Inv-loop μ-loop
 loop-again c =
-    let t = c .before .before .before .before .before .before .before .loop in
-    let e = c .before .before .before .before .before .before .before .before .before .before in (
-      turn-more (now (e .args .t)) (now (e .args .line)) (e .args .n) (now (e .args .buf)) (e .pre)
-          (t .buf) (t .seen) (t .sum) (t .i)
-          (c .before .before .before .before .value .result) (c .before .before .value2 .result) (c .before .pair .result)
-          (c .wrapping-add-u8 .result)
-          (t .inv .0) (c .before .before .before .before .before .before .loop-test .taken)
-          (c .before .before .before .before .value .ensures) (c .before .before .value2 .ensures)
-          (c .before .pair .ensures) (c .wrapping-add-u8 .ensures),
+    let t = c .before .before .before .before .before .before .before .before .before .loop in
+    let e = c .before .before .before .before .before .before .before .before .before .before .before .before in (
+      turn-more (now (e .args .line)) (e .args .n) (now (e .args .buf)) (e .pre)
+          (t .buf) (t .sum) (t .i) (c .before .before .before .before .before .before .digit-value .result)
+          (t .inv .0) (c .before .before .before .before .before .before .before .before .loop-test .taken) (c .before .before .before .before .before .before .digit-value .ensures .answer) (c .before .before .before .before .before .if1 .left)
+          (c .before .before .before .digit-value2 .result) (c .before .before .before .digit-value2 .ensures .answer) (c .before .before .if2 .left)
+          (c .before .pair .result) (c .wrapping-add-u8 .result) (c .before .pair .ensures) (c .wrapping-add-u8 .ensures),
       simp length-set (t .inv .1),
     )
 
-same-length : tie.Need-same-length Inv-loop μ-loop
-same-length c = c .before .loop .inv .1
+same-length-3 : tie.Need-same-length-3 Inv-loop μ-loop
+same-length-3 c = search needs
 
-returns : tie.Need-returns Inv-loop μ-loop
-returns c =
+returns-3 : tie.Need-returns-3 Inv-loop μ-loop
+returns-3 c =
     let t = c .before .loop in
     let e = c .before .before .before .before in
-    turn-last (now (e .args .t)) (now (e .args .line)) (e .args .n) (now (e .args .buf)) (e .pre)
-    (t .buf) (t .seen) (t .sum) (t .i) (t .inv .0) (c .loop-test .left)
+    turn-last (now (e .args .line)) (e .args .n) (now (e .args .buf)) (e .pre) (t .buf) (t .sum) (t .i) (t .inv .0) (c .loop-test .left)
 
 pub decode-spec : {M : Type 1} → statement M
 decode-spec =
@@ -89,16 +109,20 @@ decode-spec =
     loop-holds
     mul-p
     add-p
-    shared-slice-read-value
-    value-requires
-    add-value
-    shared-slice-read-value-2
-    value-requires-2
+    shared-slice-read-digit-value
+    digit-value-requires
+    same-length
+    returns
+    add-digit-value
+    shared-slice-read-digit-value-2
+    digit-value-requires-2
+    same-length-2
+    returns-2
     pair-requires
     wrapping-add-u8-requires
     slice-write-buf
     add-i
     loop-less
     loop-again
-    same-length
-    returns)
+    same-length-3
+    returns-3)

@@ -12,25 +12,25 @@ use Rattle.reader.proofs.first_other.Statement.{statement}
 use Rattle.reader.proofs.first_other.Tie as tie
 
 abbrev Inv-loop : tie.InvT-loop
-Inv-loop t line i₀ i = i + leading (drop i line) ≡ suc (leading (drop 1 line))
+Inv-loop line i₀ i = i + leading (drop i line) ≡ suc (leading (drop 1 line))
 
 abbrev μ-loop : tie.MeasureT-loop
-μ-loop t line i₀ i = length line - i
+μ-loop line i₀ i = length line - i
 
 loop-holds : tie.Need-loop-holds Inv-loop μ-loop
 loop-holds c = search needs
 
-shared-slice-read-value : tie.Need-shared-slice-read-value Inv-loop μ-loop
-shared-slice-read-value c = search needs
+shared-slice-read-digit-value : tie.Need-shared-slice-read-digit-value Inv-loop μ-loop
+shared-slice-read-digit-value c = search needs
 
-value-requires : tie.Need-value-requires Inv-loop μ-loop
-value-requires c κs = search needs
+digit-value-requires : tie.Need-digit-value-requires Inv-loop μ-loop
+digit-value-requires c κs = search needs
 
 returns : tie.Need-returns Inv-loop μ-loop
 returns c =
     let l = now (c .before .before .before .before .before .before .args .line) in
     let s = c .before .before .before .before .loop in
-    sym (lead-found l (s .i) (search needs) (omega (arith, c .before .value .ensures, c .if1 .taken))) ∙ s .inv
+    sym (lead-found l (s .i) (search needs) (omega (arith, c .before .digit-value .ensures .answer, c .if1 .taken))) ∙ s .inv
 
 add-i : tie.Need-add-i Inv-loop μ-loop
 add-i c = search needs
@@ -42,7 +42,7 @@ loop-again : tie.Need-loop-again Inv-loop μ-loop
 loop-again c =
     let l = now (c .before .before .before .before .before .before .args .line) in
     let s = c .before .before .before .before .loop in
-    lead-more l (s .i) (search needs) (omega (arith, c .before .value .ensures, c .if1 .left)) ∙ s .inv
+    lead-more l (s .i) (search needs) (omega (arith, c .before .digit-value .ensures .answer, c .if1 .left)) ∙ s .inv
 
 returns-2 : tie.Need-returns-2 Inv-loop μ-loop
 returns-2 c = sym (lead-end (now (c .before .before .before .args .line)) (c .before .loop .i) (c .loop-test .left)) ∙ c .before .loop .inv
@@ -54,8 +54,8 @@ first-other-spec =
     Inv-loop
     μ-loop
     loop-holds
-    shared-slice-read-value
-    value-requires
+    shared-slice-read-digit-value
+    digit-value-requires
     returns
     add-i
     loop-less

@@ -33,7 +33,7 @@ all-good c = sym (c .before .before .before .before .decode .ensures .digits) �
 -- and what the line says is what the decoded bytes say
 whole-said : (c : tie.Else6)
     → let s = c .before .before .before .before .before .before .before .before .before .before .before .before .before .before .before in
-    said s ≡ judge-bytes (take ((length (line-of s) - 1) / 2) (c .before .before .before .before .decode .last .1 .1 .1 .0))
+    said s ≡ judge-bytes (take ((length (line-of s) - 1) / 2) (c .before .before .before .before .decode .last .1 .1 .0))
 whole-said c =
     let s = c .before .before .before .before .before .before .before .before .before .before .before .before .before .before .before in
     judge-whole (line-of s) (c .before .before .before .before .before .before .before .before .before .if2 .left) (omega arith) (omega arith) (omega arith) (all-good c)
@@ -85,7 +85,7 @@ returns-5 c =
 decode-requires : tie.Need-decode-requires
 decode-requires c κs =
     let s = c .before .before .before .before .before .before .before .before .before .before in
-    record { table = s .pre .table; sized = omega arith; most = omega arith; room = s .pre .room }
+    record { sized = omega arith; most = omega arith; room = s .pre }
 
 first-other-requires : tie.Need-first-other-requires
 first-other-requires c κs = search needs
@@ -110,11 +110,11 @@ judge-bytes-requires c κs =
     let e = c .before .before in
     let d = e .before .before .before .before .decode in
     let s = e .before .before .before .before .before .before .before .before .before .before .before .before .before .before .before in
-    let k : length (d .last .1 .1 .1 .0) ≡ length (now (s .args .buf)) = d .kept .1 .1 .1 .0 in
+    let k : length (d .last .1 .1 .0) ≡ length (now (s .args .buf)) = d .kept .1 .1 .0 in
     record {
       least = omega arith;
       most = omega arith;
-      room = omega (arith, s .pre .room);
+      room = omega (arith, s .pre);
       sums = d .ensures .sums (all-good e) ∙ ap (λ (bs : List ℕ). sum bs % 256) (sym (d .ensures .spelt (all-good e)));
     }
 
