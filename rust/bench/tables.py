@@ -196,14 +196,14 @@ def show_bars(who, count, loading, chunks):
     bars = [("the dearest load, as a multiple of reading", loading / reading, 2.5)]
     if "crate" in who:
         bars += [
-            ("reading a text, % of the crate's as built here", 100 * reading / count["crate", "text", 16], 18),
+            ("reading a text, % of the crate's as built here", 100 * reading / count["crate", "text", 16], 22),
             ("writing an object, % of the crate's as built here", 100 * writing / count["crate", "object", 16], 10),
         ]
     for chunk in CHUNKS:
         if chunk >= LARGE:
             bars.append((f"reading in chunks of {chunk:,}, as a multiple of reading", chunks[chunk] / chunks[0], 1.3))
     bars += [
-        ("reading a text, % of 4,292, the crate's by rustc 1.63", 100 * reading / 4292, 18),
+        ("reading a text, % of 4,292, the crate's by rustc 1.63", 100 * reading / 4292, 22),
         ("writing an object, % of 6,443, the crate's by rustc 1.63", 100 * writing / 6443, 10),
     ]
     rows = [[name, shown(is_), f"{bar}", "met" if is_ <= bar else "MISSED"] for name, is_, bar in bars]

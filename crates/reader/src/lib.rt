@@ -115,8 +115,8 @@ struct Scan {
     sum: u8,
 }
 
-// Decodes the 2n digits behind the colon into the buffer and sums the bytes, up to a byte that is no digit. With an exit on the way the loop
-// is compiled as it stands; without one it is spread over vectors, in 3 KB.
+// Decodes the 2n digits behind the colon into the buffer and sums the bytes, up to a byte that is no digit. Without the exits the compiler
+// spreads the loop over vectors, at more than twice the size.
 fn decode(line: &[u8], n: usize, buf: &mut [u8]) -> Scan
     requires { ⌜ Decodable (now line) n (now buf) ⌝ }
     ensures { λ r. ⌜ Decoded (drop 1 (now (line .entry))) n (r .seen) (r .sum) (now (buf .exit)) ⌝ }

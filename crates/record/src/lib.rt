@@ -52,8 +52,8 @@ impl Record {
     }
 }
 
-// The value of a hexadecimal digit, 0 to 15 in either letter case; 16 for any other byte. A byte ahead of a range wraps to beyond it. The six
-// letters of a case wrap to 250 to 255, the last of all bytes, and the value is the lower half of that.
+// The value of a hexadecimal digit, 0 to 15 in either letter case; 16 for any other byte. Differences wrap: what stands ahead of `0` is beyond 9,
+// and the six letters ahead of `G` or of `g` are 250 to 255, whose lower four bits are the value.
 pub fn digit_value(c: u8) -> u8
     ensures { λ r. ⌜ DigitValue c r ⌝ }
 {
