@@ -182,9 +182,8 @@ static void checksums(void)
 
 /* ---- one line */
 
-static uint32_t read_line(const char *l, size_t pool_len, size_t at)
+static uint32_t read_bytes(const char *l, size_t n, size_t pool_len, size_t at)
 {
-    size_t n = strlen(l);
     const uint8_t *bytes = given(&text_, l, n);
     uint8_t *pool = lend(&pool_, pool_len);
     uint32_t r;
@@ -192,6 +191,11 @@ static uint32_t read_line(const char *l, size_t pool_len, size_t at)
     r = ihex_read_record(bytes, n, pool, pool_len, at, &a.value, &b.value, &c.value);
     CHECK(same(&text_, l));
     return r;
+}
+
+static uint32_t read_line(const char *l, size_t pool_len, size_t at)
+{
+    return read_bytes(l, strlen(l), pool_len, at);
 }
 
 /* lines that leave the pool as it was: refused ones, and records without data */
@@ -286,6 +290,40 @@ static void longest_line(void)
     longest[IHEX_MAX_LINE] = '0';
     CHECK(read_line(longest, 300, 1) == IHEX_REFUSED + IHEX_RECORD_TOO_LONG);
     CHECK(untouched(&pool_));
+}
+
+static int digit_of(int c)
+{
+    return isdigit(c) ? c - '0' : isxdigit(c) ? toupper(c) - 'A' + 10 : -1;
+}
+
+/* two bytes as the digits of a payload: they spell it, or the first of them that is no digit is named */
+static void pair_of_bytes(int high, int low)
+{
+    char text[] = ":0100000000FF";
+    int h = digit_of(high), l = digit_of(low), good = h >= 0 && l >= 0;
+    uint8_t byte = (uint8_t)(good ? 16 * h + l : 0);
+    uint32_t r;
+    sprintf(text + 11, "%02X", 255 - byte);
+    text[9] = (char)high;
+    text[10] = (char)low;
+    r = read_bytes(text, 13, 3, 1);
+    if (good)
+        CHECK(r == IHEX_DATA && values(0, 1, 1) && holds(&pool_, 1, &byte, 1));
+    else
+        CHECK(r == IHEX_REFUSED + IHEX_CONTAINS_INVALID_CHARACTERS && values(h < 0 ? 9 : 10, 0, 0) && untouched(&pool_));
+}
+
+static void pairs_of_bytes(void)
+{
+    int i;
+    for (i = 0; i < 65536; i++) {
+        if (i % 256 == 0)
+            begin_case();
+        pair_of_bytes(i / 256, i % 256);
+        if (i % 256 == 255)
+            end_case();
+    }
 }
 
 /* places of a line's first byte that is no digit, and what is named */
@@ -1929,6 +1967,7 @@ int main(void)
     lines_without_data();
     lines_with_data();
     longest_line();
+    pairs_of_bytes();
     places_in_lines();
     stops();
     text_with_full_pool();
