@@ -4,9 +4,9 @@
  * - A slice is a pointer and a length in bytes, below 2^63; with the length 0 the pointer is not used and may be null.
  * - A pointer to a number is not null. Nothing that a function writes overlaps anything else that it is given.
  *
- * No function allocates or keeps anything. A writer changes no byte of the output behind the length that it tells. A refusal changes no
- * byte of any slice but of a carry, in which its line may have been gathered; of that IHEX_POOL_FULL keeps the used bytes, and
- * IHEX_CARRY_TOO_SMALL all.
+ * No function allocates or keeps anything. Of the C library memcpy and memset are called, and nothing else. A writer changes no byte of
+ * the output behind the length that it tells. A refusal changes no byte of any slice but of a carry, in which its line may have been
+ * gathered; of that IHEX_POOL_FULL keeps the used bytes, and IHEX_CARRY_TOO_SMALL all.
  */
 #ifndef IHEX_H
 #define IHEX_H

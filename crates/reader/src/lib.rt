@@ -109,14 +109,14 @@ fn pair(high: u8, low: u8) -> u8
     (((high as u16) * 16 + (low as u16)) % 256) as u8
 }
 
-// 16 where a byte is no digit, or 0; and the sum of the bytes.
+// 16 where a byte is no digit, else 0; and the sum of the bytes up to there.
 struct Scan {
     seen: u8,
     sum: u8,
 }
 
 // Decodes the 2n digits behind the colon into the buffer and sums the bytes, up to a byte that is no digit. Without the exits the compiler
-// spreads the loop over vectors, at more than twice the size.
+// spreads the loop over vectors, and the code grows threefold.
 fn decode(line: &[u8], n: usize, buf: &mut [u8]) -> Scan
     requires { ⌜ Decodable (now line) n (now buf) ⌝ }
     ensures { λ r. ⌜ Decoded (drop 1 (now (line .entry))) n (r .seen) (r .sum) (now (buf .exit)) ⌝ }
