@@ -21,7 +21,7 @@ use Rattle.loader.specs.declared.Walk.{Walk}
 use Rattle.loader.specs.Placing.{steps, stated}
 use Rattle.loader.specs.Load.{Tally, no-records, accepted, refused, Decision, by, within, decision, verdict, unfit, painted, Loaded, placements, steps-of, stopping, load}
 use Rattle.loader.specs.Told.{refusal-by, told, Load}
-use Rattle.loader.specs.Helpers.{as-mark, Painted, tally-of, ahead-of, Under-way, Few, Onward, Judged, Accepts, Ready, Wrote}
+use Rattle.loader.specs.Helpers.{as-mark, Painted, tally-of, ahead-of, Under-way, Few, Onward, Judged, is-accepted, Accepts, Ready, Wrote}
 use Rattle.loader.proofs.Pages.{painted-none, marked-painted}
 use Rattle.loader.proofs.Demand3.{accepted-load}
 use Rattle.loader.proofs.Passes.{start, start-under-way, start-few, start-ahead}
@@ -119,6 +119,14 @@ unfolding verdict
 by-line none t e = (0, cc)
 by-line (some (by m v)) t e = (m, cc)
 
+passed : (a : Loading) → is-accepted a ≡ true → (n : ℕ) × (a ≡ Accepted n)
+passed (Accepted n) e = (n, refl)
+passed (Refused r n) e = (0, cc)
+
+turned-away : (a : Loading) → is-accepted a ≡ false → (e : LoaderError) × (n : ℕ) × (a ≡ Refused e n)
+turned-away (Accepted n) e = (BadWindow, 0, cc)
+turned-away (Refused r n) e = (r, n, refl)
+
 module _ (text : List ℕ) (first : ℕ) (page marks : List ℕ) where
   refused-load : (r : Refusal) (n : ℕ) → verdict (stopping text first page marks) ≡ refused r n
       → load text first page marks ≡ record { answer = refused r n; page = page; marks = marks }
@@ -136,19 +144,22 @@ module _ (text : List ℕ) (first : ℕ) (page marks : List ℕ) where
     unfolding stopping
     judged-so = ap verdict (if-false (unfit first (length page) (length marks)) _ _ fit) ∙ sym h
 
-    pub load-refused : (e : LoaderError) (n : ℕ) → a ≡ Refused e n → Load text first page marks a page marks
-    load-refused e n q =
+    pub load-refused : is-accepted a ≡ false → Load text first page marks a page marks
+    load-refused f =
+        let (e, n, q) = turned-away a f in
         let l = refused-load (refusal-by e) n (judged-so ∙ ap told q) in
         record { answer = ap told q ∙ ap (λ (x : Loaded). x .answer) (sym l); page = ap (λ (x : Loaded). x .page) (sym l); marks = ap (λ (x : Loaded). x .marks) (sym l) }
 
-    pub load-accepts : (n : ℕ) → a ≡ Accepted n → Accepts (within first (length page)) (steps-of text)
-    load-accepts n q =
+    pub load-accepts : is-accepted a ≡ true → Accepts (within first (length page)) (steps-of text)
+    load-accepts t =
+        let (n, q) = passed a t in
         let (m, e) = by-line (decision (within first (length page)) no-records (steps-of text)) (tally-of n) (sym h ∙ ap told q) in
         (no-records, m, tally-of n, e)
 
-    pub load-accepted : (n : ℕ) → a ≡ Accepted n → (cleared page′ marks′ : List ℕ) → cleared ≡ replicate (length marks) 0
+    pub load-accepted : is-accepted a ≡ true → (cleared page′ marks′ : List ℕ) → cleared ≡ replicate (length marks) 0
         → Painted first (placements text) page cleared page′ marks′ → Load text first page marks a page′ marks′
-    load-accepted n q cleared page′ marks′ c p =
+    load-accepted t cleared page′ marks′ c p =
+        let (n, q) = passed a t in
         let l = accepted-load text first page marks (tally-of n) (judged-so ∙ ap told q) in
         record {
           answer = ap told q ∙ ap (λ (x : Loaded). x .answer) (sym l);

@@ -2,7 +2,7 @@
 -- Assumes nothing.
 use Prim.Native.Nat.{ℕ, suc, _+_, _≤_, _<_}
 use mathlib.Core.Path.{_≡_}
-use mathlib.Core.Bool.{Bool, false}
+use mathlib.Core.Bool.{Bool, true, false}
 use mathlib.Core.Option.{Option, none, some}
 use mathlib.Core.List.{List, _++_, map}
 use lib.ListN.{length}
@@ -17,6 +17,8 @@ use Rattle.loader.specs.declared.Base.{Base as CodeBase}
 use Rattle.loader.specs.declared.Base.the-variants.{Segment, Linear}
 use Rattle.loader.specs.declared.Reach.{Reach}
 use Rattle.loader.specs.declared.Reach.the-variants as reach
+use Rattle.loader.specs.declared.Loading.{Loading}
+use Rattle.loader.specs.declared.Loading.the-variants.{Accepted, Refused}
 use Rattle.loader.specs.declared.Walk.{Walk}
 use Rattle.loader.specs.declared.Turn.{Turn}
 use Rattle.loader.specs.declared.Turn.the-variants.{On, Stop}
@@ -103,6 +105,11 @@ Judged inside text w records (On w′ records′) = Onward inside text w records
 Judged inside text w records (Stop l) = told l ≡ verdict (decision inside (tally-of records) (ahead-of w text))
 
 -- ---- the second pass
+
+-- is anything written?
+abbrev pub is-accepted : Loading → Bool
+is-accepted (Accepted records) = true
+is-accepted (Refused e line) = false
 
 -- these steps are accepted
 abbrev pub Accepts : (inside : ℕ → Bool) → List Action → Type 0

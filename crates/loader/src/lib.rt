@@ -11,7 +11,7 @@ ghost use Rattle.reader.specs.Text.{new-state, default-options};
 ghost use Rattle.loader.specs.Placing.{byte-address, placed};
 ghost use Rattle.loader.specs.Load.{within, outside, decision, verdict, no-records, placements, steps-of};
 ghost use Rattle.loader.specs.Told.{told, Load, IsUnfit};
-ghost use Rattle.loader.specs.Helpers.{based, reached, Painted, Fitting, stated-by, Lies-in, Behind, Under-way, Few, Met, Judged, Accepts, Ready, Wrote};
+ghost use Rattle.loader.specs.Helpers.{based, reached, Painted, Fitting, stated-by, Lies-in, Behind, Under-way, Few, Met, Judged, is-accepted, Accepts, Ready, Wrote};
 
 // Why a text is not loaded.
 pub enum LoaderError {
@@ -309,6 +309,16 @@ pub fn is_unfit(first: u32, page: usize, marks: usize) -> bool
     (first as u64) + (page as u64) > 4294967296
 }
 
+// Whether the first pass has accepted the text. Only then is anything written.
+fn is_accepted(answer: Loading) -> bool
+    ensures { λ r. ⌜ r ≡ is-accepted answer ⌝ }
+{
+    match answer {
+        Loading::Accepted(_) => true,
+        Loading::Refused(_, _) => false,
+    }
+}
+
 // Loads a text into a page, whose first place has the address `first`. A mark for each place says whether the text states it.
 pub fn load(text: &[u8], first: u32, page: &mut [u8], marks: &mut [u8]) -> Loading
     ensures { λ r. ⌜ Load (now (text .entry)) first (now (page .entry)) (now (marks .entry)) r (now (page .exit)) (now (marks .exit)) ⌝ }
@@ -317,7 +327,7 @@ pub fn load(text: &[u8], first: u32, page: &mut [u8], marks: &mut [u8]) -> Loadi
         return Loading::Refused(LoaderError::BadWindow, 0);
     }
     let answer = judge_text(text, first, page.len());
-    if let Loading::Accepted(_) = answer {
+    if is_accepted(answer) {
         clear(marks);
         write_text(text, first, page, marks);
     }

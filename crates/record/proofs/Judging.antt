@@ -1,7 +1,7 @@
 -- What the judge makes of a line whose parts are known: each test of the definition, with its meaning in the relations' terms.
 -- Assumes nothing.
 use Prim.Native.Nat.{ℕ, zero, suc, _+_, _*_, _-_, _%_, _<_, _≤_}
-use mathlib.Core.Path.{_≡_, refl, _∙_, ap}
+use mathlib.Core.Path.{_≡_, refl, _∙_, ap, subst}
 use mathlib.Core.Logic.{_≢_}
 use mathlib.Core.Bool.{true, false}
 use mathlib.Core.List.{List, [], _∷_, _++_}
@@ -20,6 +20,10 @@ use Rattle.record.specs.Faults.{Sums-up}
 use Rattle.record.proofs.Spelling.{spells-digits, spells-bytes, spells-length, last-small}
 
 -- ---- sizes
+
+-- the same size, however its number is written
+pub resize : {kind m n : ℕ} → m ≡ n → Size kind m → Size kind n
+resize {kind} e s = subst (λ (k : ℕ). Size kind k) e s
 
 pub size-fits : {kind n : ℕ} → Size kind n → (kind ≤ 5) × (fits kind n ≡ true)
 unfolding fits size
@@ -51,6 +55,11 @@ fits-size kind n h =
     (λ e. type-04 refl (eqb-true n 2 e))
     (λ e. type-05 refl (eqb-true n 4 e))
     kind h
+
+-- a type other than 00 has one size
+pub size-is : {kind n : ℕ} → kind ≢ 0 → Size kind n → n ≡ size kind
+unfolding fits
+size-is {kind} {n} h s = eqb-true n (size kind) (rw (ne-eqb kind 0 h) at (size-fits s .1))
 
 -- ---- fields
 
@@ -114,16 +123,16 @@ pub record Parts (bs : List ℕ) : Type 0 where
   pub whole : bs ≡ layout len high low kind payload check
 
 -- a row that is not empty has a last element
-pub record Ending (bs : List ℕ) : Type 0 where
-  pub front : List ℕ
-  pub final : ℕ
+pub record Ending {A : Type 0} (bs : List A) : Type 0 where
+  pub front : List A
+  pub final : A
   pub whole : bs ≡ front ++ (final ∷ [])
 
-pub ending : (b : ℕ) (bs : List ℕ) → Ending (b ∷ bs)
+pub ending : {A : Type 0} (b : A) (bs : List A) → Ending (b ∷ bs)
 ending b [] = record { front = []; final = b; whole = refl }
-ending b (c ∷ bs) =
+ending {A} b (c ∷ bs) =
     let e = ending c bs in
-    record { front = b ∷ e .front; final = e .final; whole = ap (λ (l : List ℕ). b ∷ l) (e .whole) }
+    record { front = b ∷ e .front; final = e .final; whole = ap (λ (l : List A). b ∷ l) (e .whole) }
 
 pub parts : (bs : List ℕ) → 5 ≤ length bs → Parts bs
 parts [] h = absurd (omega arith)

@@ -19,7 +19,7 @@ use Rattle.record.specs.Faults.{Sums-up, Fault, no-colon, no-digit, shor
 use Rattle.record.proofs.Tests.{branch}
 use Rattle.record.proofs.Spelling.{spells-length, first-small, every-hex, hex-every, digits-spell}
 use Rattle.record.proofs.Offender.{first-offender, offended}
-use Rattle.record.proofs.Judging.{size-fits, fits-size, fields-mislaid, fields-unknown, fields-misfit, fields-fit, judge-layout, check-sums, parts, judge-colon, judge-other, judge-spelt, judged}
+use Rattle.record.proofs.Judging.{resize, size-fits, fits-size, fields-mislaid, fields-unknown, fields-misfit, fields-fit, judge-layout, check-sums, parts, judge-colon, judge-other, judge-spelt, judged}
 
 -- what is owed to a line of which this is said
 abbrev pub Stands : List ℕ → Said → Type 0
@@ -39,7 +39,7 @@ module _ (line : List ℕ) (high low kind check : ℕ) (payload : List ℕ) wher
       branch (Stands line) (ltb 5 kind) _ _
       (λ t. type-unknown high low kind check payload s′ (ltb-true 5 kind t))
       (λ t. branch (Stands line) (fits kind (length payload)) _ _
-      (λ f. record { digits = s′ .digits; high = high; low = low; check = check; starts = s′ .starts; spells = s′ .spells; addressed = refl; sums = s′ .sums; sized = fits-size kind (length payload) (ltb-false 5 kind t) f })
+      (λ f. record { digits = s′ .digits; high = high; low = low; check = check; starts = s′ .starts; spells = s′ .spells; addressed = refl; sums = s′ .sums; sized = resize (omega arith) (fits-size kind (length payload) (ltb-false 5 kind t) f) })
       (λ f. size-differs high low kind check payload s′ (ltb-false 5 kind t) (λ z. let e : true ≡ false = sym (size-fits z .1) ∙ f in let w : _≡_ {A = ℕ} 0 1 = cc in omega arith))))
       (λ l. length-differs len high low kind check payload s (eqb-false len (length payload) l))
 
@@ -70,7 +70,9 @@ stands-digits ds =
     (λ t. branch P (ltb 520 (length ds)) _ _
     (λ l. long ds refl (every-hex ds d) (ltb-true 520 (length ds) l))
     (λ l. branch P (eqb (length ds % 2) 1) _ _
-    (λ o. odd ds refl (every-hex ds d) (ltb-false (length ds) 10 t) (ltb-false 520 (length ds) l) (eqb-true (length ds % 2) 1 o))
+    (λ o.
+    let least : 10 ≤ length ds = ltb-false (length ds) 10 t in
+    odd ds refl (every-hex ds d) (omega arith) (ltb-false 520 (length ds) l) (eqb-true (length ds % 2) 1 o))
     (λ o.
     let e : length ds % 2 ≡ 1 → ⊥ = eqb-false (length ds % 2) 1 o in
     let least : 10 ≤ length ds = ltb-false (length ds) 10 t in
@@ -93,7 +95,8 @@ stands (c ∷ ds) =
 
 pub admitted : {line : List ℕ} {kind address : ℕ} {payload : List ℕ} → Format line kind address payload → judge line ≡ says kind address payload
 admitted {line} {kind} {address} {payload} f =
-    let z = size-fits (f .sized) in
+    let fitted : Size kind (length payload) = resize (omega arith) (f .sized) in
+    let z = size-fits fitted in
     let small : length payload < 256 = first-small (f .spells) in
     let n = length-append payload (f .check ∷ []) in
     judged (length payload) (f .high) (f .low) kind payload (f .check)
@@ -140,7 +143,7 @@ refused (long ds e d h) =
 refused (odd ds e d least most h) =
     ap judge e
     ∙ judge-colon ds
-    ∙ rw (hex-every ds d, le-ltb (length ds) 10 least, le-ltb 520 (length ds) most, eq-eqb (length ds % 2) 1 h)
+    ∙ rw (hex-every ds d, le-ltb (length ds) 10 (omega arith), le-ltb 520 (length ds) most, eq-eqb (length ds % 2) 1 h)
 refused (sum-differs ds body stated e s least most h) = ap judge e ∙ differing ds body stated s least most h
 refused (length-differs len high low kind check payload s h) =
     judged len high low kind payload check s ∙ fields-mislaid len (high * 256 + low) kind payload h

@@ -18,6 +18,9 @@ ghost use Rattle.writer.specs.Claims.{Surveys};
 // The largest number of a `usize`.
 const MOST: usize = 18446744073709551615;
 
+// Where a walk over a list of records begins.
+const FIRST: usize = 0;
+
 // Why a record or an object is not written.
 pub enum WriterError {
     // A payload of more than 255 bytes, and its length.
@@ -342,7 +345,7 @@ fn survey_list(records: &[Record], pool: &[u8]) -> Survey
     ensures { λ r. ⌜ Surveys (now (pool .entry)) (now (records .entry)) r ⌝ }
 {
     let mut s = Survey::new();
-    let mut i = 0;
+    let mut i = FIRST;
     while i < records.len() {
         s = s.add(records[i], pool);
         i += 1;
@@ -355,7 +358,7 @@ pub fn create_object_file_representation(records: &[Record], pool: &[u8], out: &
     ensures { λ r. ⌜ WriteObject (now (records .entry)) (now (pool .entry)) (now (out .entry)) r (now (out .exit)) ⌝ }
 {
     let mut done = survey_list(records, pool).begin(out.len());
-    let mut i = 0;
+    let mut i = FIRST;
     while i < records.len() {
         done = write_next(done, records[i], pool, out);
         i += 1;

@@ -26,8 +26,8 @@ returns c =
 judge-text-requires : tie.Need-judge-text-requires
 judge-text-requires c κs = let s = c .before .before .before .before .before .args in good-window (s .first) (now (s .page)) (now (s .marks)) (fit c) .below
 
-enum-told : tie.Need-enum-told
-enum-told c = search needs
+is-accepted-requires : tie.Need-is-accepted-requires
+is-accepted-requires c κs = search needs
 
 clear-requires : tie.Need-clear-requires
 clear-requires c κs = search needs
@@ -38,11 +38,8 @@ write-text-requires c κs =
     let t = c .before .before .before .before .before .before .before .before .judge-text in
     let f = fit (c .before .before .before .before .before .before .before .before .before) in (
       good-window (s .first) (now (s .page)) (now (s .marks)) f .even ∙ sym (c .before .before .before .before .clear .kept .0),
-      load-accepts (now (s .text)) (s .first) (now (s .page)) (now (s .marks)) f (t .result) (t .ensures) _ (c .before .before .before .before .before .before .enum-told .given .1),
+      load-accepts (now (s .text)) (s .first) (now (s .page)) (now (s .marks)) f (t .result) (t .ensures) (sym (c .before .before .before .before .before .before .before .is-accepted .ensures) ∙ c .before .before .before .before .before .before .if2 .taken),
     )
-
-enum-told-2 : tie.Need-enum-told-2
-enum-told-2 c = search needs
 
 same-length : tie.Need-same-length
 same-length c = search needs
@@ -55,14 +52,14 @@ returns-2 c =
     let s = c .before .before .before .before .before .before .before .before .before .before .before .before .before .before .before .before .before .before .before .args in
     let t = c .before .before .before .before .before .before .before .before .before .before .before .before .before .judge-text in
     let w = c .before .before .before .before .write-text in
-    load-accepted (now (s .text)) (s .first) (now (s .page)) (now (s .marks)) (fit (c .before .before .before .before .before .before .before .before .before .before .before .before .before .before)) (t .result) (t .ensures) _ (c .before .before .before .before .before .before .before .before .before .before .before .enum-told .given .1)
+    load-accepted (now (s .text)) (s .first) (now (s .page)) (now (s .marks)) (fit (c .before .before .before .before .before .before .before .before .before .before .before .before .before .before)) (t .result) (t .ensures) (sym (c .before .before .before .before .before .before .before .before .before .before .before .before .is-accepted .ensures) ∙ c .before .before .before .before .before .before .before .before .before .before .before .if2 .taken)
     (c .before .before .before .before .before .before .before .before .before .clear .last .0) (w .last .1 .1 .0) (w .last .1 .1 .1 .0) (c .before .before .before .before .before .before .before .before .before .clear .ensures) (w .ensures)
 
 returns-3 : tie.Need-returns-3
 returns-3 c =
     let s = c .before .before .before .before .before .before .before .before .args in
     let t = c .before .before .judge-text in
-    load-refused (now (s .text)) (s .first) (now (s .page)) (now (s .marks)) (fit (c .before .before .before)) (t .result) (t .ensures) _ _ (c .enum-told2 .given .1)
+    load-refused (now (s .text)) (s .first) (now (s .page)) (now (s .marks)) (fit (c .before .before .before)) (t .result) (t .ensures) (sym (c .before .is-accepted .ensures) ∙ c .if2 .left)
 
 pub load-spec : {M : Type 1} → statement M
 load-spec =
@@ -71,10 +68,9 @@ load-spec =
     is-unfit-requires
     returns
     judge-text-requires
-    enum-told
+    is-accepted-requires
     clear-requires
     write-text-requires
-    enum-told-2
     same-length
     same-length-2
     returns-2

@@ -25,7 +25,7 @@ shared-slice-read-if1 c = search needs
 returns : tie.Need-returns Inv-loop μ-loop
 returns c =
     let l = c .before .before .before .loop in
-    good-marks-is (now (c .before .before .before .before .args .marks)) (l .i) (l .inv .0) (λ j k. l .inv .1 j (omega arith) k) (inr (c .if1 .taken))
+    good-marks-is (now (c .before .before .before .before .args .marks)) (l .i) (l .inv .0) (λ j k. l .inv .1 j (omega arith) k) (inr (omega (arith, c .if1 .taken)))
 
 add-i : tie.Need-add-i Inv-loop μ-loop
 add-i c = search needs
@@ -37,7 +37,7 @@ loop-again : tie.Need-loop-again Inv-loop μ-loop
 loop-again c =
     let m = now (c .before .before .before .before .args .marks) in
     let l = c .before .before .before .loop in
-    (search needs, one-more (λ j. getD m j 0 ≤ 1) 0 (l .i) (l .inv .1) (c .if1 .left))
+    (search needs, one-more (λ j. getD m j 0 ≤ 1) 0 (l .i) (l .inv .1) (omega (arith, c .if1 .left)))
 
 returns-2 : tie.Need-returns-2 Inv-loop μ-loop
 returns-2 c =
