@@ -187,7 +187,7 @@ still-full k c h = rw h (go (is-digit (getD (k .bytes) 521 0)))
     go true = length-append (take 521 (k .bytes)) (c ∷ []) ∙ omega (arith, length-take-le 521 (k .bytes) (omega arith))
     go false = h
 
-judged-full : (l : List ℕ) (k : Kept) → length (k .bytes) ≡ 522 → judge (stands-for (foldl push k l)) ≡ judge (stands-for k ++ l)
+pub judged-full : (l : List ℕ) (k : Kept) → length (k .bytes) ≡ 522 → judge (stands-for (foldl push k l)) ≡ judge (stands-for k ++ l)
 judged-full [] k h = rw append-nil
 judged-full (c ∷ l) k h = judged-full l (push k c) (still-full k c h) ∙ step-judged k c l h
 
@@ -211,7 +211,7 @@ stands-itself bytes = ap (λ (l : List ℕ). take 521 bytes ++ l) (none-ahead (d
     none-ahead [] = refl
     none-ahead (c ∷ l) = refl
 
-foldl-on : (a b : List ℕ) (k : Kept) → foldl push k (a ++ b) ≡ foldl push (foldl push k a) b
+pub foldl-on : (a b : List ℕ) (k : Kept) → foldl push k (a ++ b) ≡ foldl push (foldl push k a) b
 foldl-on [] b k = refl
 foldl-on (c ∷ a) b k = foldl-on a b (push k c)
 

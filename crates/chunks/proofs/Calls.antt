@@ -16,7 +16,7 @@ use Rattle.record.specs.Refusals.{Refusal, number-of, pool-full, carry-too-smal
 use Rattle.record.specs.Line.{Said, says, wrong, judge}
 use Rattle.record.specs.Meaning.{Meaning, data-at, end-of-file, extended-segment, start-segment, extended-linear, start-linear, meaning}
 use Rattle.record.specs.Written.{Sayable}
-use Rattle.record.proofs.Tests.{split, if-true, if-false, or-false}
+use Rattle.record.proofs.Tests.{branch, split, if-true, if-false, or-false}
 use Rattle.record.proofs.Standing.{Stands, stands, fault-few}
 use Rattle.record.proofs.Writing.{said-is-sayable}
 use Rattle.reader.specs.Told.{Told, gives, refuses, done}
@@ -26,7 +26,8 @@ use Rattle.reader.proofs.Reading.{full-keeps}
 use Rattle.reader.proofs.Room.{never-full}
 use Rattle.reader.proofs.Stays.{never-done}
 use Rattle.chunks.specs.declared.Chunks.{Chunks}
-use Rattle.chunks.specs.declared.Place.the-variants.{Nowhere}
+use Rattle.chunks.specs.declared.Place.{Place}
+use Rattle.chunks.specs.declared.Place.the-variants.{Nowhere, InCarry}
 use Rattle.chunks.specs.Begun.{Kept, Begun, is-empty, stands-for, with-CR, Sought, ended, unended, look}
 use Rattle.chunks.specs.Next.{Word, tells, used-up, is-record, begun, past-line, over, number-behind, place, in-carry, Outcome, unchanged, answered-line, of-sought, too-small, next-outcome, finish-outcome, Meets}
 use Rattle.chunks.specs.Claims.{Same-heard, Same-but-carry, Same-but-pool, Carry-blind, Pool-blind, Too-small, Carry-first, Eighteen-changes-nothing, Full-keeps, Gives-then, Full-then-room, Only-done, Finish-ends, Done-stays, Moves}
@@ -106,16 +107,16 @@ full-line line n at f = go (judge line) refl f
 apart : {A : Type 0} {t₁ t₂ : Told} → tells t₁ ≡ tells t₂ → t₁ ≢ t₂ → A
 apart e n = absurd (n cc)
 
-not-used-up : {A : Type 0} {t : Told} → used-up ≡ tells t → A
+pub not-used-up : {A : Type 0} {t : Told} → used-up ≡ tells t → A
 not-used-up e = let z : _≡_ {A = ℕ} 0 1 = cc in absurd (omega arith)
 
-fits : (s : Chunks) (carry : List ℕ) → too-small s carry ≡ false → (522 ≤ length carry) × (s .used ≤ 522)
+pub fits : (s : Chunks) (carry : List ℕ) → too-small s carry ≡ false → (522 ≤ length carry) × (s .used ≤ 522)
 unfolding too-small
 fits s carry e =
     let (a, b) = or-false (ltb (length carry) 522) (ltb 522 (s .used)) e in
     (ltb-false (length carry) 522 a, ltb-false 522 (s .used) b)
 
-misfits : (s : Chunks) (carry : List ℕ) → too-small s carry ≡ true → Too-small s carry
+pub misfits : (s : Chunks) (carry : List ℕ) → too-small s carry ≡ true → Too-small s carry
 unfolding too-small
 misfits s carry e = go (ltb (length carry) 522) refl (ltb 522 (s .used)) refl e
   where
@@ -136,11 +137,11 @@ module _ (s : Chunks) (used chunk pool : List ℕ) (at : ℕ) (start : Option (L
   of-line = answered-line s used chunk pool at start n k position last
 
   -- PoolFull, or the line is used up
-  line-full : is-full t ≡ true → of-line ≡ record { word = tells t; state = s; lies = Nowhere; shows = []; carried = used; pool = pool }
+  pub line-full : is-full t ≡ true → of-line ≡ record { word = tells t; state = s; lies = Nowhere; shows = []; carried = used; pool = pool }
   unfolding answered-line
   line-full f = if-true (is-full t) _ _ f
 
-  line-used : is-full t ≡ false → of-line ≡ record {
+  pub line-used : is-full t ≡ false → of-line ≡ record {
     word = tells t;
     state = past-line s position (number-behind s n) (last || ends-row (s .options) t);
     lies = if is-record t then place chunk start (stands-for k) else Nowhere;
@@ -151,7 +152,7 @@ module _ (s : Chunks) (used chunk pool : List ℕ) (at : ℕ) (start : Option (L
   unfolding answered-line
   line-used f = if-false (is-full t) _ _ f
 
-  line-word : of-line .word ≡ tells t
+  pub line-word : of-line .word ≡ tells t
   line-word = go (is-full t) refl
     where
       go : (f : Bool) → is-full t ≡ f → of-line .word ≡ tells t
@@ -169,7 +170,7 @@ module _ (s : Chunks) (chunk carry pool : List ℕ) (at : ℕ) where
   abbrev text : List ℕ
   text = drop (s .position) chunk
 
-  next-ways : (P : Outcome → Type 0)
+  pub next-ways : (P : Outcome → Type 0)
       → (too-small s carry ≡ true → P (unchanged (tells (refuses carry-too-small)) s carry pool))
       → (too-small s carry ≡ false → s .finished ≡ true → P (unchanged (tells done) s carry pool))
       → (too-small s carry ≡ false → s .finished ≡ false → (f : Sought) → look (s .empties) (begun s carry) text ≡ f → P (of-sought s (take (s .used) carry) chunk pool at f))
@@ -191,7 +192,7 @@ module _ (s : Chunks) (carry pool : List ℕ) (at : ℕ) where
   abbrev of-last : Outcome
   of-last = answered-line s (take (s .used) carry) [] pool at none (s .empties) last-line 0 true
 
-  finish-ways : (P : Outcome → Type 0)
+  pub finish-ways : (P : Outcome → Type 0)
       → (too-small s carry ≡ true → P (unchanged (tells (refuses carry-too-small)) s carry pool))
       → (too-small s carry ≡ false → s .finished ≡ true → P (unchanged (tells done) s carry pool))
       → (too-small s carry ≡ false → s .finished ≡ false → is-empty (last-line .bytes) ≡ true → P (nothing-left s pool))
@@ -210,6 +211,40 @@ module _ (s : Chunks) (carry pool : List ℕ) (at : ℕ) where
       by-small : (e : Bool) → too-small s carry ≡ e → P (finish-outcome s carry pool at)
       by-small true x = subst P (sym (finish-18 s carry pool at x)) (a x)
       by-small false x = by-done x (s .finished) refl
+
+-- ---- what a call can be told, and what the pool holds then
+
+pub next-told : (s : Chunks) (chunk carry pool : List ℕ) (at : ℕ) (P : Word → (pool′ : List ℕ) → Type 0) → P (tells (refuses carry-too-small)) pool → P (tells done) pool
+    → ((line : List ℕ) → P (tells (answered (judge line) (length pool) at)) (poured (judge line) pool at)) → P used-up pool
+    → let o = next-outcome s chunk carry pool at in P (o .word) (o .pool)
+unfolding unchanged of-sought
+next-told s chunk carry pool at P small over of-line up = next-ways s chunk carry pool at (λ o. P (o .word) (o .pool)) (λ e. small) (λ e d. over) (λ e d f q. found f)
+  where
+    found : (f : Sought) → let o = of-sought s (take (s .used) carry) chunk pool at f in P (o .word) (o .pool)
+    found (ended start n l rest) =
+        let position = length chunk - length rest in
+        rw (line-word s (take (s .used) carry) chunk pool at start n l position false, line-pool s (take (s .used) carry) chunk pool at start n l position false) (of-line (stands-for l))
+    found (unended n b) = up
+
+pub finish-told : (s : Chunks) (carry pool : List ℕ) (at : ℕ) (P : Word → (pool′ : List ℕ) → Type 0) → P (tells (refuses carry-too-small)) pool → P (tells done) pool
+    → ((line : List ℕ) → P (tells (answered (judge line) (length pool) at)) (poured (judge line) pool at))
+    → let o = finish-outcome s carry pool at in P (o .word) (o .pool)
+unfolding unchanged
+finish-told s carry pool at P small over of-line =
+    finish-ways s carry pool at (λ o. P (o .word) (o .pool)) (λ e. small) (λ e d. over) (λ e d z. over)
+    (λ e d z.
+    let l : Kept = with-CR (begun s carry) in
+    rw (line-word s (take (s .used) carry) [] pool at none (s .empties) l 0 true, line-pool s (take (s .used) carry) [] pool at none (s .empties) l 0 true) (of-line (stands-for l)))
+
+-- what `finish` names does not lie in a chunk
+pub finish-place : (s : Chunks) (carry pool : List ℕ) (at : ℕ) (P : Place → Type 0) → P Nowhere → ((n : ℕ) → P (InCarry n)) → P (finish-outcome s carry pool at .lies)
+unfolding unchanged answered-line place
+finish-place s carry pool at P none-given in-carry =
+    finish-ways s carry pool at (λ o. P (o .lies)) (λ e. none-given) (λ e d. none-given) (λ e d z. none-given)
+    (λ e d z.
+    let l : List ℕ = stands-for (with-CR (begun s carry)) in
+    let t : Told = answered (judge l) (length pool) at in
+    branch (λ (o : Outcome). P (o .lies)) (is-full t) _ _ (λ f. none-given) (λ f. branch P (is-record t) _ _ (λ r. in-carry (length l)) (λ r. none-given)))
 
 -- ---- 18
 
@@ -263,36 +298,46 @@ full-of : (t : Told) → t ≡ refuses pool-full → is-full t ≡ true
 unfolding is-full
 full-of t e = rw e
 
-pub full-stays : Full-keeps
+-- what an outcome leaves that is told PoolFull
+abbrev pub Keeps : (s : Chunks) (carry pool : List ℕ) → Outcome → Type 0
+Keeps s carry pool o =
+    o .word ≡ tells (refuses pool-full) → (o .state ≡ s) × (o .carried ≡ take (s .used) carry) × (length (o .carried) ≡ s .used) × (o .pool ≡ pool)
+
+pub full-outcome : (s : Chunks) (chunk carry pool : List ℕ) (at : ℕ) → Keeps s carry pool (next-outcome s chunk carry pool at) × Keeps s carry pool (finish-outcome s carry pool at)
 unfolding unchanged of-sought
+full-outcome s chunk carry pool at = (
+  next-ways s chunk carry pool at (Keeps s carry pool)
+      (λ e w. apart w eighteen-not) (λ e d w. apart w (done-not pool-full)) (λ e d f q w. found e f w),
+  finish-ways s carry pool at (Keeps s carry pool)
+      (λ e w. apart w eighteen-not) (λ e d w. apart w (done-not pool-full)) (λ e d z w. apart w (done-not pool-full))
+      (λ e d z w. line e [] none (s .empties) (with-CR (begun s carry)) 0 true w),
+)
+  where
+    line : too-small s carry ≡ false → (chunk₀ : List ℕ) (start : Option (List ℕ)) (n : ℕ) (l : Kept) (position : ℕ) (last : Bool)
+        → Keeps s carry pool (answered-line s (take (s .used) carry) chunk₀ pool at start n l position last)
+    line e chunk₀ start n l position last w =
+        let told : tells (answered (judge (stands-for l)) (length pool) at) ≡ tells (refuses pool-full) =
+        sym (line-word s (take (s .used) carry) chunk₀ pool at start n l position last) ∙ w in
+        let (big, few) = fits s carry e in
+        rw (line-full s (take (s .used) carry) chunk₀ pool at start n l position last (full-of (answered (judge (stands-for l)) (length pool) at) cc))
+        (refl, refl, length-take-le (s .used) carry (omega arith), refl)
+
+    found : too-small s carry ≡ false → (f : Sought) → Keeps s carry pool (of-sought s (take (s .used) carry) chunk pool at f)
+    found e (ended start n l rest) w = line e chunk start n l (length chunk - length rest) false w
+    found e (unended n b) w = not-used-up w
+
+pub full-stays : Full-keeps
 full-stays s chunk carry pool at r carry′ pool′ w m = go m
   where
-    Stayed : Type 0
-    Stayed = (r .state ≡ s) × (take (s .used) carry′ ≡ take (s .used) carry) × (pool′ ≡ pool)
+    stayed : (o : Outcome) (chunk₀ : List ℕ) → Keeps s carry pool o → Meets o chunk₀ r carry′ pool′ → (r .state ≡ s) × (take (s .used) carry′ ≡ take (s .used) carry) × (pool′ ≡ pool)
+    stayed o chunk₀ keeps m =
+        let (a, b, n, p) = keeps (sym (m .answer) ∙ w) in
+        (m .state ∙ a, ap (λ (n : ℕ). take n carry′) (sym n) ∙ m .carry ∙ b, m .left ∙ p)
 
-    -- of a line
-    line : too-small s carry ≡ false → (chunk₀ : List ℕ) (start : Option (List ℕ)) (n : ℕ) (l : Kept) (position : ℕ) (last : Bool)
-        → Meets (answered-line s (take (s .used) carry) chunk₀ pool at start n l position last) chunk₀ r carry′ pool′ → Stayed
-    line e chunk₀ start n l position last m =
-        let told : tells (answered (judge (stands-for l)) (length pool) at) ≡ tells (refuses pool-full) =
-        sym (line-word s (take (s .used) carry) chunk₀ pool at start n l position last) ∙ sym (m .answer) ∙ w in
-        let o = subst (λ (o : Outcome). Meets o chunk₀ r carry′ pool′) (line-full s (take (s .used) carry) chunk₀ pool at start n l position last (full-of (answered (judge (stands-for l)) (length pool) at) cc)) m in
-        let (big, few) = fits s carry e in
-        let size : length (take (s .used) carry) ≡ s .used = length-take-le (s .used) carry (omega arith) in
-        (o .state, ap (λ (n : ℕ). take n carry′) (sym size) ∙ o .carry, o .left)
-
-    of-found : too-small s carry ≡ false → (f : Sought) → Meets (of-sought s (take (s .used) carry) chunk pool at f) chunk r carry′ pool′ → Stayed
-    of-found e (ended start n l rest) m = line e chunk start n l (length chunk - length rest) false m
-    of-found e (unended n b) m = not-used-up (sym (m .answer) ∙ w)
-
-    go : Meets (next-outcome s chunk carry pool at) chunk r carry′ pool′ ⊎ Meets (finish-outcome s carry pool at) [] r carry′ pool′ → Stayed
-    go (inl m) =
-        next-ways s chunk carry pool at (λ o. Meets o chunk r carry′ pool′ → Stayed)
-        (λ e m. apart (sym (m .answer) ∙ w) eighteen-not) (λ e d m. apart (sym (m .answer) ∙ w) (done-not pool-full)) (λ e d f q m. of-found e f m) m
-    go (inr m) =
-        finish-ways s carry pool at (λ o. Meets o [] r carry′ pool′ → Stayed)
-        (λ e m. apart (sym (m .answer) ∙ w) eighteen-not) (λ e d m. apart (sym (m .answer) ∙ w) (done-not pool-full)) (λ e d z m. apart (sym (m .answer) ∙ w) (done-not pool-full))
-        (λ e d z m. line e [] none (s .empties) (with-CR (begun s carry)) 0 true m) m
+    go : Meets (next-outcome s chunk carry pool at) chunk r carry′ pool′ ⊎ Meets (finish-outcome s carry pool at) [] r carry′ pool′
+        → (r .state ≡ s) × (take (s .used) carry′ ≡ take (s .used) carry) × (pool′ ≡ pool)
+    go (inl m) = stayed (next-outcome s chunk carry pool at) chunk (full-outcome s chunk carry pool at .0) m
+    go (inr m) = stayed (finish-outcome s carry pool at) [] (full-outcome s chunk carry pool at .1) m
 
 -- a line that was told PoolFull, where there is room
 room-for : (l : Kept) (n at : ℕ) (f : Full-line (stands-for l) n at) (s : Chunks) (used chunk pool : List ℕ) (at′ : ℕ) (start : Option (List ℕ)) (k position : ℕ) (last : Bool) → at′ + length (f .bytes) ≤ length pool
@@ -388,7 +433,7 @@ done-stays s chunk carry pool at =
 
 -- ---- on through the chunk
 
-told-is : {t₁ t₂ : Told} → tells t₁ ≡ tells t₂ → t₁ ≡ t₂
+pub told-is : {t₁ t₂ : Told} → tells t₁ ≡ tells t₂ → t₁ ≡ t₂
 told-is e = cc
 
 pub moves : Moves

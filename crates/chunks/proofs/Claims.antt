@@ -1,11 +1,14 @@
 -- The claims on rows, and that each call has one outcome: a row is the one over the pieces, which are the lines as what is kept of them stands for; a reply
 -- is found again from its word.
 -- Assumes nothing.
-use Prim.Native.Nat.{ℕ}
+use Prim.Native.Nat.{ℕ, _^_, _<_}
 use mathlib.Core.Path.{_≡_, refl, sym, _∙_, ap, ap₂, subst}
-use mathlib.Core.List.{List, [], _∷_}
+use mathlib.Core.Bool.{true}
+use mathlib.Core.Option.{some, Option·map}
+use mathlib.Core.List.{List, [], _∷_, map, map-id}
 use native.Mathlib.Omega.{arith}
 use lib.Dec.{eqb}
+use lib.ListN.{length}
 use Rattle.record.specs.Common.{if_then_else_, Every}
 use Rattle.record.specs.Refusals.{number-of}
 use Rattle.reader.specs.declared.ReaderOptions.{ReaderOptions}
@@ -14,9 +17,9 @@ use Rattle.reader.specs.declared.ReaderError.the-variants.{MissingStartCode, Re
 use Rattle.reader.specs.declared.Answer.{Answer}
 use Rattle.reader.specs.declared.Answer.the-variants as answer
 use Rattle.reader.specs.Told.{Told, gives, refuses, done}
-use Rattle.reader.specs.Lines.{lines}
-use Rattle.reader.specs.Row.{Numbered}
-use Rattle.reader.specs.Calls.{replies}
+use Rattle.reader.specs.Lines.{lines, through}
+use Rattle.reader.specs.Row.{Numbered, sayings, stopped}
+use Rattle.reader.specs.Calls.{Call, replies}
 use Rattle.reader.proofs.Claims.{untold, untold-told}
 use Rattle.reader.proofs.Texts.{rows, lines-few}
 use Rattle.chunks.specs.declared.Chunks.{Chunks}
@@ -26,9 +29,9 @@ use Rattle.chunks.specs.declared.ChunkReply.{ChunkReply}
 use Rattle.chunks.specs.declared.ChunkReply.the-variants.{Read, Refused, UsedUp, Done, CarryTooSmall}
 use Rattle.chunks.specs.declared.ChunkStep.{ChunkStep}
 use Rattle.chunks.specs.Begun.{nothing, look}
-use Rattle.chunks.specs.Next.{Word, tells, used-up, word-of, new-chunks}
-use Rattle.chunks.specs.Rows.{joined, Nth, numbered, showing}
-use Rattle.chunks.specs.Claims.{Examples, Judged-as-kept, Any-cuts, givens-of, Same-row, Shown-there, Shows-the-line, without-pools, Nothing-else, New-unique, Next-unique, Finish-unique, Shown-unique}
+use Rattle.chunks.specs.Next.{Word, tells, used-up, word-of, new-chunks, Outcome, next-outcome, finish-outcome}
+use Rattle.chunks.specs.Rows.{joined, Seen, seen-with, Heard, Hears, Stepped, Nth, numbered, showing}
+use Rattle.chunks.specs.Claims.{Examples, Judged-as-kept, Any-cuts, Any-cuts-by, givens-of, Same-row, Shown-there, Shows-the-line, Alike, without-pools, Nothing-else, New-unique, Next-unique, Finish-unique, Shown-unique}
 use Rattle.chunks.proofs.Brief.{judge-brief}
 use Rattle.chunks.proofs.Pieces.{pieces, pieces-lines}
 use Rattle.chunks.proofs.Rows.{from-place, unseen, rows-met}
@@ -49,33 +52,68 @@ unfolding unseen from-place
 starts options carry [] = refl
 starts options carry (chunk ∷ chunks) = refl
 
+pub any-cuts-by : Any-cuts-by
+any-cuts-by A say Known known options carry chunks calls notes big fed =
+    rows-met options say Known known fed (record { big = big; small = omega arith; options-is = refl })
+    ∙ ap (map say)
+    (ap (λ (left : List Nth). showing options 0 left calls) (starts options carry chunks ∙ pieces-lines 0 (joined chunks))
+    ∙ kept-rows options calls 0 (numbered 1 (lines (joined chunks))))
+
+-- a contract comes to its outcome
+hears : (o : Outcome) (chunk : List ℕ) (h : Heard Seen) → Stepped o chunk h → Hears (λ (x : Seen). x) o h
+hears o chunk h x =
+    let m = x .meets in
+    record {
+      note-is = x .note-is ∙ rw (m .answer, m .state, m .shows, m .left) (as-seen (o .word) (o .pool) (o .state .line) (o .shows));
+      state-is = x .state-is ∙ m .state;
+      begins = m .carry;
+    }
+  where
+    as-seen : (w : Word) (pool : List ℕ) (line : ℕ) (shown : List ℕ) → seen-with w pool line shown ≡ Option·map (λ (x : Seen). x) (seen-with w pool line shown)
+    as-seen (tells t) pool line shown = refl
+    as-seen used-up pool line shown = refl
+
 pub any-cuts : Any-cuts
 any-cuts options carry chunks calls seen big fed =
-    rows-met options fed (record { big = big; small = omega arith; options-is = refl })
-    ∙ ap (λ (left : List Nth). showing options 0 left calls) (starts options carry chunks ∙ pieces-lines 0 (joined chunks))
-    ∙ kept-rows options calls 0 (numbered 1 (lines (joined chunks)))
+    any-cuts-by Seen (λ (x : Seen). x) Stepped
+    (λ s chunk carry pool at h x. hears (next-outcome s chunk carry pool at) chunk h x, λ s carry pool at h x. hears (finish-outcome s carry pool at) [] h x)
+    options carry chunks calls seen big fed
+    ∙ map-id (showing options 0 (numbered 1 (lines (joined chunks))) calls)
+
+-- the row over the lines of a text, without the lines shown, is the text reader's
+pub row-replies : (options : ReaderOptions) (text : List ℕ) (calls : List Call) → length text < 2 ^ 64
+    → givens-of (showing options 0 (numbered 1 (lines text)) calls) ≡ replies options 0 (sayings 1 (lines text)) calls
+row-replies options text calls few =
+    showing-replies options calls 0 (numbered 1 (lines text))
+    ∙ ap (λ (left : List Numbered). replies options 0 left calls) (said-numbered options 1 (lines text) (omega (arith, lines-few text .0)))
 
 pub same-row : Same-row
 same-row options carry chunks calls seen givens few big fed c =
-    ap givens-of (any-cuts options carry chunks calls seen big fed)
-    ∙ showing-replies options calls 0 (numbered 1 (lines (joined chunks)))
-    ∙ ap (λ (left : List Numbered). replies options 0 left calls) (said-numbered options 1 (lines (joined chunks)) (omega (arith, lines-few (joined chunks) .0)))
-    ∙ sym (rows options (joined chunks) few calls givens c)
+    ap givens-of (any-cuts options carry chunks calls seen big fed) ∙ row-replies options (joined chunks) calls few ∙ sym (rows options (joined chunks) few calls givens c)
+
+pub row-shows : (options : ReaderOptions) (text : List ℕ) (calls : List Call) → length text < 2 ^ 64
+    → Every (Shown-right options text) (showing options 0 (numbered 1 (lines text)) calls)
+row-shows options text calls few = shows-right options text calls 0 (numbered 1 (lines text)) (lines-stand options text (omega (arith, lines-few text .0)))
 
 pub shows-the-line : Shows-the-line
 shows-the-line options carry chunks calls seen few big fed =
-    subst (Every (Shown-right options (joined chunks))) (sym (any-cuts options carry chunks calls seen big fed))
-    (shows-right options (joined chunks) calls 0 (numbered 1 (lines (joined chunks))) (lines-stand options (joined chunks) (omega (arith, lines-few (joined chunks) .0))))
+    subst (Every (Shown-right options (joined chunks))) (sym (any-cuts options carry chunks calls seen big fed)) (row-shows options (joined chunks) calls few)
 
 pub shown-there : Shown-there
 shown-there Nowhere chunk carry line x = x .holds
 shown-there (InChunk from len) chunk carry line x = x .holds
 shown-there (InCarry len) chunk carry line x = x .holds
 
+pub row-alike : (options : ReaderOptions) (k : ℕ) (head text₁ text₂ : List ℕ) (calls₁ calls₂ : List Call) → Alike calls₁ calls₂
+    → through k text₁ ≡ some head → through k text₂ ≡ some head → stopped options (sayings 1 (lines head)) ≡ true
+    → without-pools (showing options 0 (numbered 1 (lines text₁)) calls₁) ≡ without-pools (showing options 0 (numbered 1 (lines text₂)) calls₂)
+row-alike options k head text₁ text₂ calls₁ calls₂ alike t₁ t₂ stop =
+    ap without-pools (behind-stop options k text₁ text₂ head calls₁ t₁ t₂ stop) ∙ alike-rows options alike 0 (numbered 1 (lines text₂))
+
 pub nothing-else : Nothing-else
 nothing-else options k head carry₁ carry₂ chunks₁ chunks₂ calls₁ calls₂ seen₁ seen₂ big₁ big₂ alike t₁ t₂ stop fed₁ fed₂ =
-    ap without-pools (any-cuts options carry₁ chunks₁ calls₁ seen₁ big₁ fed₁ ∙ behind-stop options k (joined chunks₁) (joined chunks₂) head calls₁ t₁ t₂ stop)
-    ∙ alike-rows options alike 0 (numbered 1 (lines (joined chunks₂)))
+    ap without-pools (any-cuts options carry₁ chunks₁ calls₁ seen₁ big₁ fed₁)
+    ∙ row-alike options k head (joined chunks₁) (joined chunks₂) calls₁ calls₂ alike t₁ t₂ stop
     ∙ ap without-pools (sym (any-cuts options carry₂ chunks₂ calls₂ seen₂ big₂ fed₂))
 
 -- ---- one outcome each
@@ -118,7 +156,7 @@ step-is r₁ r₂ e f g =
     ap₂ (λ (x : ChunkReply) (y : Chunks). record { reply = x; state = y; lies = r₁ .lies }) e f
     ∙ ap (λ (z : Place). record { reply = r₂ .reply; state = r₂ .state; lies = z }) g
 
-reply-is : (r₁ r₂ : ChunkReply) → word-of r₁ ≡ word-of r₂ → r₁ ≡ r₂
+pub reply-is : (r₁ r₂ : ChunkReply) → word-of r₁ ≡ word-of r₂ → r₁ ≡ r₂
 reply-is r₁ r₂ e = sym (unword-word r₁) ∙ ap unword e ∙ unword-word r₂
 
 pub next-unique : Next-unique

@@ -113,22 +113,22 @@ within-drop chunk position r w = go (ltb (length chunk) position) refl
         drop-of-length-le chunk {i = r} (omega (arith, w .last l)) ∙ sym (drop-of-length-le chunk {i = position} (omega arith))
     go false e = ap (λ (n : ℕ). drop n chunk) (w .same (ltb-false (length chunk) position e))
 
-look-kept : (empties n k : ℕ) (cr : Bool) (carry text : List ℕ) → 0 < n → 0 < length carry → look empties (held carry n k cr) text ≡ seek none empties (held carry n k cr) text
+pub look-kept : (empties n k : ℕ) (cr : Bool) (carry text : List ℕ) → 0 < n → 0 < length carry → look empties (held carry n k cr) text ≡ seek none empties (held carry n k cr) text
 unfolding look is-empty with-CR
 look-kept empties zero k cr carry text p q = absurd (omega arith)
 look-kept empties (suc n) k cr [] text p q = absurd (omega arith)
 look-kept empties (suc n) k true (c ∷ carry) text p q = rw (push-some (record { bytes = c ∷ take n carry; skipped = k }) CR)
 look-kept empties (suc n) k false (c ∷ carry) text p q = refl
 
-look-cr : (empties n k : ℕ) (cr : Bool) (carry text : List ℕ) → n ≡ 0 → cr ≡ true → look empties (held carry n k cr) text ≡ seek none empties (held carry n k cr) text
+pub look-cr : (empties n k : ℕ) (cr : Bool) (carry text : List ℕ) → n ≡ 0 → cr ≡ true → look empties (held carry n k cr) text ≡ seek none empties (held carry n k cr) text
 unfolding look is-empty with-CR
 look-cr empties n k cr carry text z e = rw (z, e)
 
-look-fresh : (empties n k : ℕ) (cr : Bool) (carry text : List ℕ) → n ≡ 0 → k ≡ 0 → cr ≡ false → look empties (held carry n k cr) text ≡ seek (some text) empties nothing text
+pub look-fresh : (empties n k : ℕ) (cr : Bool) (carry text : List ℕ) → n ≡ 0 → k ≡ 0 → cr ≡ false → look empties (held carry n k cr) text ≡ seek (some text) empties nothing text
 unfolding look is-empty with-CR
 look-fresh empties n k cr carry text z y e = rw (z, y, e)
 
-none-out : (s : Chunks) → s .used ≡ 0 → left-out s ≡ 0
+pub none-out : (s : Chunks) → s .used ≡ 0 → left-out s ≡ 0
 none-out s z = rw (lt-ltb (s .used) 522 (omega arith))
 
 module _ (s : Chunks) (chunk carry pool : List ℕ) (at position : ℕ) (r : ChunkStep) (carry′ pool′ : List ℕ)
@@ -170,6 +170,12 @@ module _ (s : Chunks) (chunk carry pool : List ℕ) (at position : ℕ) (r : Chu
 
 -- ---- finish
 
+pub some-line : (n : ℕ) (l : List ℕ) → (n ≡ 0 → ⊥) → 0 < length l → is-empty (take n l) ≡ false
+unfolding is-empty
+some-line zero l z h = absurd (z refl)
+some-line (suc n) [] z h = absurd (omega arith)
+some-line (suc n) (c ∷ l) z h = refl
+
 module _ (s : Chunks) (carry pool : List ℕ) (at n m : ℕ) (carry′ : List ℕ) (big : 522 ≤ length carry) (small : s .used ≤ 522) (on : s .finished ≡ false)
     (g : Grown carry (s .used) (with-CR (begun s carry)) n m carry′) where
   pub finish-none : (state : Chunks) (r : ChunkStep) → n ≡ 0 → state ≡ over s → Plain Done state r → Meets (finish-outcome s carry pool at) [] r carry′ pool
@@ -202,8 +208,3 @@ module _ (s : Chunks) (carry pool : List ℕ) (at n m : ℕ) (carry′ : List �
     where
       stood : is-record (answered (judge (stands-for (kept-in carry′ n m))) (length pool) at) ≡ true → stands-for (kept-in carry′ n m) ≡ take n carry′
       stood e = record-kept (kept-in carry′ n m) (length pool) at e
-
-      some-line : (n : ℕ) (l : List ℕ) → (n ≡ 0 → ⊥) → 0 < length l → is-empty (take n l) ≡ false
-      some-line zero l z h = absurd (z refl)
-      some-line (suc n) [] z h = absurd (omega arith)
-      some-line (suc n) (c ∷ l) z h = refl

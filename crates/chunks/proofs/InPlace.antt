@@ -32,6 +32,13 @@ LF-at [] k h e = absurd (omega arith)
 LF-at (c ∷ text) zero h e = rw (eq-eqb c LF e)
 LF-at (c ∷ text) (suc k) h e = rw (LF-at text k (omega arith) e) (or-true (eqb c LF))
 
+-- in what is left of a text
+pub LF-from : (text : List ℕ) (from k : ℕ) → from ≤ k → k < length text → getD text k 0 ≡ LF → has-LF (drop from text) ≡ true
+LF-from text from k h l e =
+    let is : from + (k - from) ≡ k = omega arith in
+    let size : length (drop from text) ≡ length text - from = length-drop from text in
+    LF-at (drop from text) (k - from) (omega arith) (getD-drop from text (k - from) 0 ∙ ap (λ (j : ℕ). getD text j 0) is ∙ e)
+
 -- it stands before the rest
 pub record Ends-before-rest (text : List ℕ) : Type 0 where
   pub shorter : length (rest text) < length text
@@ -90,17 +97,17 @@ feed-in (c ∷ text) start empties b h = go (eqb c LF) refl h (feed-in text star
         ∙ ap (λ (k : Kept). settled start empties k (rest (c ∷ text))) (sym (settle-CR (b .kept) (b .cr) c text e ∙ whole-more b c text e (eqb c CR) refl))
 
 -- from its first byte on
-line-in : (text : List ℕ) (start : Option (List ℕ)) (empties : ℕ) → has-LF text ≡ true
+pub line-in : (text : List ℕ) (start : Option (List ℕ)) (empties : ℕ) → has-LF text ≡ true
     → seek start empties nothing text ≡ settled start empties (brief (first-line text)) (rest text)
 unfolding waiting
 line-in text start empties h = feed-in text start empties nothing h
 
-ends-some : (start : Option (List ℕ)) (empties : ℕ) (l rest : List ℕ) → 0 < length l → settled start empties (brief l) rest ≡ ended start empties (brief l) rest
+pub ends-some : (start : Option (List ℕ)) (empties : ℕ) (l rest : List ℕ) → 0 < length l → settled start empties (brief l) rest ≡ ended start empties (brief l) rest
 unfolding settled is-empty
 ends-some start empties [] rest h = absurd (omega arith)
 ends-some start empties (c ∷ l) rest h = rw (brief-empty (c ∷ l))
 
-ends-none : (start : Option (List ℕ)) (empties : ℕ) (l rest : List ℕ) → length l ≡ 0 → settled start empties (brief l) rest ≡ seek (some rest) (counted empties) nothing rest
+pub ends-none : (start : Option (List ℕ)) (empties : ℕ) (l rest : List ℕ) → length l ≡ 0 → settled start empties (brief l) rest ≡ seek (some rest) (counted empties) nothing rest
 unfolding settled is-empty
 ends-none start empties [] rest h = refl
 ends-none start empties (c ∷ l) rest h = absurd (omega arith)
@@ -137,16 +144,14 @@ module _ (chunk : List ℕ) (position empties from passed : ℕ) (line : List �
   has-feed e =
       let m = turn-moves in
       let i = turn-inside in
-      LF-at (drop from chunk) (n - 1) (omega (arith, length-drop from chunk)) (last-is ∙ e)
+      LF-from chunk from (from + n - 1) (omega arith) (omega arith) e
 
   turn-open : getD chunk (from + n - 1) 0 ≢ LF → OpenLine chunk position empties from passed
   turn-open ne = record { goes-on = held; inside = omega arith; no-feed = no-feed }
     where
       no-feed : (k : ℕ) → from ≤ k → k < length chunk → getD chunk k 0 ≢ LF
       no-feed k a b e =
-          let size : length (drop from chunk) ≡ length chunk - from = length-drop from chunk in
-          let is : from + (k - from) ≡ k = omega arith in
-          let h = LF-at (drop from chunk) (k - from) (omega arith) (getD-drop from chunk (k - from) 0 ∙ ap (λ (j : ℕ). getD chunk j 0) is ∙ e) in
+          let h = LF-from chunk from k a b e in
           ne (sym last-is ∙ ap (λ (j : ℕ). getD (drop from chunk) (j - 1) 0) (here .place) ∙ LF-before-rest (drop from chunk) h .feed)
 
   behind-is : rest (drop from chunk) ≡ drop (from + n) chunk

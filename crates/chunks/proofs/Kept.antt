@@ -10,8 +10,9 @@ use lib.ListN.{length, getD, length-append}
 use lib.Seq.{getD-append-seam}
 use Rattle.record.specs.Common.{if_then_else_, Every}
 use Rattle.record.specs.Line.{Said, judge}
+use Rattle.record.proofs.Tests.{both-ways}
 use Rattle.reader.specs.declared.ReaderOptions.{ReaderOptions}
-use Rattle.reader.specs.Told.{Told}
+use Rattle.reader.specs.Told.{Told, done}
 use Rattle.reader.specs.Answer.{answered}
 use Rattle.reader.specs.Lines.{lines}
 use Rattle.reader.specs.Row.{Numbered, on, sayings}
@@ -155,3 +156,16 @@ module _ (options : ReaderOptions) where
         ap (λ (x : List ℕ). if is-record (answer-to options l call) then x else []) (sym e),
         ih n (if ends-row options (answer-to options l call) then [] else ls) (cut-every (Stands-in text) (ends-row options (answer-to options l call)) ls h),
       )
+
+  -- a row tells "done", and what lines are answered
+  pub every-told : (P : Told → Type 0) → P done → ((line : List ℕ) (n at : ℕ) → P (answered (judge line) n at))
+      → (calls : List Call) (last : ℕ) (ls : List Nth) → Every (λ (x : Seen). P (x .given .told)) (showing options last ls calls)
+  unfolding showing
+  every-told P over of-line [] last ls = tt
+  every-told P over of-line (call ∷ calls) last [] = (over, every-told P over of-line calls last [])
+  every-told P over of-line (call ∷ calls) last (nth n l ∷ ls) =
+      both-ways (λ f. Every (λ (x : Seen). P (x .given .told)) (if f
+      then record { given = record { told = answer-to options l call; pool = call .pool; line = last }; shown = [] } ∷ showing options last (nth n l ∷ ls) calls
+      else seen-for (nth n l) call ∷ showing options n (if ends-row options (answer-to options l call) then [] else ls) calls)) (is-full (answer-to options l call))
+      (of-line l (length (call .pool)) (call .at), every-told P over of-line calls last (nth n l ∷ ls))
+      (of-line l (length (call .pool)) (call .at), every-told P over of-line calls n (if ends-row options (answer-to options l call) then [] else ls))

@@ -14,3 +14,6 @@ pub mod Stops
 pub mod Calls
 pub mod Claims
 pub mod Runs
+pub mod Ending
+pub mod Looked
+pub mod First

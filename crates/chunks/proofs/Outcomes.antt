@@ -96,7 +96,7 @@ record-short l n at e = short is-record l n at (λ h. long-refused l n at h .no-
 
 -- what is kept stands for a line so short only where it is that line
 module _ (k : Kept) where
-  stood-short : length (stands-for k) < 522 → length (k .bytes) ≤ 521
+  pub stood-short : length (stands-for k) < 522 → length (k .bytes) ≤ 521
   unfolding stands-for
   stood-short h =
       split (length (k .bytes)) 521 (λ g. g)

@@ -4,8 +4,8 @@
 use Prim.Native.Nat.{ℕ, _+_, _-_, _%_, _≤_, _<_}
 use mathlib.Core.Path.{_≡_, refl, sym, _∙_, ap, ap₂}
 use mathlib.Core.Bool.{Bool, true, false, _||_}
-use mathlib.Core.Option.{Option, none, some}
-use mathlib.Core.List.{List, [], _∷_, _++_}
+use mathlib.Core.Option.{Option, none, some, Option·map}
+use mathlib.Core.List.{List, [], _∷_, _++_, map}
 use native.Mathlib.Omega.{arith}
 use native.Mathlib.Nat.{add-zero}
 use lib.Dec.{eqb, ltb}
@@ -17,16 +17,15 @@ use Rattle.record.specs.Line.{judge}
 use Rattle.record.proofs.Tests.{both-ways, if-true, if-false}
 use Rattle.reader.specs.declared.ReaderOptions.{ReaderOptions}
 use Rattle.reader.specs.Told.{Told, done}
-use Rattle.reader.specs.Answer.{answered, poured}
+use Rattle.reader.specs.Answer.{answered}
 use Rattle.reader.specs.Lines.{LF, CR}
 use Rattle.reader.specs.Text.{is-full, ends-row}
 use Rattle.reader.specs.Calls.{Call, given-done}
 use Rattle.reader.proofs.Along.{suffix-at, suffix-drop}
 use Rattle.chunks.specs.declared.Chunks.{Chunks}
-use Rattle.chunks.specs.declared.ChunkStep.{ChunkStep}
 use Rattle.chunks.specs.Begun.{Kept, none-kept, Begun, nothing, is-empty, push, stands-for, with-CR, add, counted, Sought, ended, unended, seek, look}
-use Rattle.chunks.specs.Next.{Word, tells, used-up, word-of, is-record, left-out, begun, holding, past-line, number-behind, at-place, unchanged, answered-line, of-sought, too-small, Meets, NextChunk, Finish}
-use Rattle.chunks.specs.Rows.{joined, Seen, seen-at, Fed, no-more, told-next, next-chunk, told-last, Nth, nth, seen-for, showing}
+use Rattle.chunks.specs.Next.{tells, left-out, begun, holding, past-line, over, number-behind, Outcome, unchanged, answered-line, of-sought, too-small, next-outcome, finish-outcome}
+use Rattle.chunks.specs.Rows.{joined, Seen, seen-of, Heard, Fed-by, no-more, told-next, next-chunk, told-last, Projects, Nth, nth, seen-for, showing}
 use Rattle.chunks.proofs.Brief.{push-more, length-push, still-full}
 use Rattle.chunks.proofs.Pieces.{M, twice, pieces, pieces-end, pieces-mod, found, pieces-look}
 use Rattle.chunks.proofs.FirstTests.{big-enough, next-over, next-on, nothing-left, finish-over, finish-on}
@@ -47,7 +46,7 @@ unfolding Fine
 fine-cons c (ended start n kept rest) text (d, p, e) = (c, d ∷ p, ap (λ (t : List ℕ). c ∷ t) e)
 fine-cons c (unended n b) text h = h
 
-sound-nothing : Sound none-kept
+pub sound-nothing : Sound none-kept
 sound-nothing = record { short = omega arith; none-out = λ _. refl }
 
 sound-push : (k : Kept) (c : ℕ) → Sound k → Sound (push k c)
@@ -135,88 +134,61 @@ module _ (options : ReaderOptions) where
   unfolding showing
   show-line last n line left call calls e = if-false (is-full (answer-to line call)) _ _ e
 
-  seen-is : (t : Told) (p p′ : List ℕ) (l l′ : ℕ) (x x′ : List ℕ) → p ≡ p′ → l ≡ l′ → x ≡ x′
-      → _≡_ {A = Seen} (record { given = record { told = t; pool = p; line = l }; shown = x }) (record { given = record { told = t; pool = p′; line = l′ }; shown = x′ })
-  seen-is t p p′ l l′ x x′ e f g = rw (e, f, g)
+  -- ---- what a call comes to, by its outcome
 
-  module _ (s : Chunks) (carry chunk : List ℕ) (here next : List (List ℕ)) (call : Call) (calls : List Call) (r : ChunkStep) (carry′ pool′ : List ℕ) where
-    -- what a call that was told this comes to
-    unfoldable pub Follows : Word → Type 0
-    Follows (tells t) = Row (s .line) (unseen s carry here) (call ∷ calls) ≡ seen-at t pool′ r chunk carry′ ∷ Row (r .state .line) (unseen (r .state) carry′ here) calls
-    Follows used-up = (unseen s carry here ≡ unseen (r .state) carry′ next) × (s .line ≡ r .state .line)
+  module _ (s : Chunks) (carry : List ℕ) (here next : List (List ℕ)) (call : Call) (calls : List Call) (carry′ : List ℕ) where
+    -- what is seen heads the row; where the chunk is used up the row stays, over the chunks behind it
+    unfoldable pub Follows : Option Seen → Chunks → Type 0
+    Follows (some x) s′ = Row (s .line) (unseen s carry here) (call ∷ calls) ≡ x ∷ Row (s′ .line) (unseen s′ carry′ here) calls
+    Follows none s′ = Row (s .line) (unseen s carry here) (call ∷ calls) ≡ Row (s′ .line) (unseen s′ carry′ next) (call ∷ calls)
 
-    pub record Goes-on : Type 0 where
-      pub row : Follows (word-of (r .reply))
-      pub good : Good options (r .state) carry′
+    pub record Goes-on (o : Outcome) : Type 0 where
+      pub row : Follows (seen-of o) (o .state)
+      pub good : Good options (o .state) carry′
 
-    -- the text is over: `s′` is the state then
-    over-row : s .finished ≡ true → word-of (r .reply) ≡ tells done → r .state ≡ s → at-place (r .lies) chunk carry′ ≡ [] → pool′ ≡ call .pool → Follows (word-of (r .reply))
+    -- nothing is unseen: `s′` is the state then
+    over-row : (s′ : Chunks) → unseen s carry here ≡ [] → s′ .finished ≡ true → s .line ≡ s′ .line → Follows (some (record { given = given-done (s .line) call; shown = [] })) s′
     unfolding Follows
-    over-row d w st l p =
-        let e : r .state .finished ≡ true = ap (λ (x : Chunks). x .finished) st ∙ d in
-        rw w
-        (ap (λ (x : List Nth). Row (s .line) x (call ∷ calls)) (unseen-over s carry here d)
+    over-row s′ e f l =
+        ap (λ (x : List Nth). Row (s .line) x (call ∷ calls)) e
         ∙ show-none (s .line) call calls
-        ∙ ap₂ (λ (x : Seen) (xs : List Seen). x ∷ xs)
-        (seen-is done (call .pool) pool′ (s .line) (r .state .line) [] (at-place (r .lies) chunk carry′) (sym p) (sym (ap (λ (x : Chunks). x .line) st)) (sym l))
-        (ap₂ (λ (k : ℕ) (x : List Nth). Row k x calls) (sym (ap (λ (x : Chunks). x .line) st)) (sym (unseen-over (r .state) carry′ here e))))
+        ∙ ap₂ (λ (k : ℕ) (x : List Nth). record { given = given-done (s .line) call; shown = [] } ∷ Row k x calls) l (sym (unseen-over s′ carry′ here f))
 
     -- a line is answered
-    module _ (used : List ℕ) (start : Option (List ℕ)) (n : ℕ) (kept : Kept) (position : ℕ) (last : Bool) (left : List Nth)
-        (m : Meets (answered-line s used chunk (call .pool) (call .at) start n kept position last) chunk r carry′ pool′)
-        (same-options : s .options ≡ options)
+    module _ (used chunk : List ℕ) (start : Option (List ℕ)) (n : ℕ) (kept : Kept) (position : ℕ) (last : Bool) (left : List Nth)
+        (m : take (length (answered-line s used chunk (call .pool) (call .at) start n kept position last .carried)) carry′ ≡ answered-line s used chunk (call .pool) (call .at) start n kept position last .carried)
+        (g : Good options s carry) (l : length carry′ ≡ length carry)
         (have : unseen s carry here ≡ nth (number-behind s n) (stands-for kept) ∷ left)
         (again : take (length used) carry′ ≡ used → unseen s carry′ here ≡ unseen s carry here)
         (behind : unseen (past-line s position (number-behind s n) (last || ends-row (s .options) (answer-to (stands-for kept) call))) carry′ here
         ≡ (if ends-row (s .options) (answer-to (stands-for kept) call) then [] else left)) where
-      t : Told
+      abbrev t : Told
       t = answer-to (stands-for kept) call
 
       asked : Row (s .line) (unseen s carry here) (call ∷ calls) ≡ Row (s .line) (nth (number-behind s n) (stands-for kept) ∷ left) (call ∷ calls)
       asked = ap (λ (x : List Nth). Row (s .line) x (call ∷ calls)) have
 
-      answered-full : is-full t ≡ true → Follows (word-of (r .reply)) × (r .state ≡ s)
-      unfolding Follows answered-line t
-      answered-full f =
-          let o = rw (if-true (is-full t) _ _ f) at m in
-          let line-is : s .line ≡ r .state .line = sym (ap (λ (x : Chunks). x .line) (o .state)) in
-          let left-is : nth (number-behind s n) (stands-for kept) ∷ left ≡ unseen (r .state) carry′ here =
-          sym have ∙ sym (again (o .carry)) ∙ ap (λ (x : Chunks). unseen x carry′ here) (sym (o .state)) in (
-            rw (o .answer)
-                (asked ∙ show-full (s .line) (number-behind s n) (stands-for kept) left call calls f
-                ∙ ap₂ (λ (x : Seen) (xs : List Seen). x ∷ xs)
-                (seen-is t (call .pool) pool′ (s .line) (r .state .line) [] (at-place (r .lies) chunk carry′) (sym (o .left)) line-is (sym (o .shows)))
-                (ap₂ (λ (k : ℕ) (x : List Nth). Row k x calls) line-is left-is)),
-            o .state,
-          )
-
-      answered-not : is-full t ≡ false
-          → Follows (word-of (r .reply)) × (r .state ≡ past-line s position (number-behind s n) (last || ends-row (s .options) t))
-      unfolding Follows answered-line t
-      answered-not f =
-          let o = rw (if-false (is-full t) _ _ f) at m in
-          let line-is : number-behind s n ≡ r .state .line = sym (ap (λ (x : Chunks). x .line) (o .state)) in
-          let left-is : (if ends-row options t then [] else left) ≡ unseen (r .state) carry′ here =
-          ap (λ (x : ReaderOptions). if ends-row x t then [] else left) (sym same-options) ∙ sym behind ∙ ap (λ (x : Chunks). unseen x carry′ here) (sym (o .state)) in (
-            rw (o .answer)
-                (asked ∙ show-line (s .line) (number-behind s n) (stands-for kept) left call calls f
-                ∙ ap₂ (λ (x : Seen) (xs : List Seen). x ∷ xs)
-                (seen-is t (poured (judge (stands-for kept)) (call .pool) (call .at)) pool′ (number-behind s n) (r .state .line) (if is-record t then stands-for kept else []) (at-place (r .lies) chunk carry′) (sym (o .left)) line-is (sym (o .shows)))
-                (ap₂ (λ (k : ℕ) (x : List Nth). Row k x calls) line-is left-is)),
-            o .state,
-          )
-
-      line-goes-on : Good options s carry → length carry′ ≡ length carry → Goes-on
-      unfolding t
-      line-goes-on g l = go (is-full t) refl
+      line-goes-on : Goes-on (answered-line s used chunk (call .pool) (call .at) start n kept position last)
+      unfolding Follows answered-line
+      line-goes-on = go (is-full t) refl
         where
-          go : (f : Bool) → is-full t ≡ f → Goes-on
+          go : (f : Bool) → is-full t ≡ f → Goes-on (answered-line s used chunk (call .pool) (call .at) start n kept position last)
           go true f =
-              let (row, st) = answered-full f in
-              record { row = row; good = rw st (record { big = omega (arith, g .big); small = g .small; options-is = g .options-is }) }
+              rw (if-true (is-full t) _ _ f)
+              (record {
+                row = asked ∙ show-full (s .line) (number-behind s n) (stands-for kept) left call calls f
+                    ∙ ap (λ (x : List Nth). record { given = record { told = t; pool = call .pool; line = s .line }; shown = [] } ∷ Row (s .line) x calls)
+                    (sym have ∙ sym (again (rw (if-true (is-full t) _ _ f) at m)));
+                good = record { big = omega (arith, g .big); small = g .small; options-is = g .options-is };
+              })
           go false f =
-              let (row, st) = answered-not f in
-              record { row = row; good = rw st (record { big = omega (arith, g .big); small = omega arith; options-is = g .options-is }) }
+              rw (if-false (is-full t) _ _ f)
+              (record {
+                row = asked ∙ show-line (s .line) (number-behind s n) (stands-for kept) left call calls f
+                    ∙ ap (λ (x : List Nth). seen-for (nth (number-behind s n) (stands-for kept)) call ∷ Row (number-behind s n) x calls)
+                    (ap (λ (x : ReaderOptions). if ends-row x t then [] else left) (sym (g .options-is)) ∙ sym behind);
+                good = record { big = omega (arith, g .big); small = omega arith; options-is = g .options-is };
+              })
 
   -- PoolFull keeps what is begun
   kept-begun : (s : Chunks) (carry carry′ : List ℕ) → s .used ≤ length carry → take (length (take (s .used) carry)) carry′ ≡ take (s .used) carry → begun s carry′ ≡ begun s carry
@@ -229,7 +201,7 @@ module _ (options : ReaderOptions) where
 
   -- ---- a call of `next`
 
-  module _ (s : Chunks) (carry chunk : List ℕ) (chunks : List (List ℕ)) (call : Call) (calls : List Call) (r : ChunkStep) (carry′ pool′ : List ℕ)
+  module _ (s : Chunks) (carry chunk : List ℕ) (chunks : List (List ℕ)) (call : Call) (calls : List Call) (carry′ : List ℕ)
       (g : Good options s carry) (l : length carry′ ≡ length carry) where
     abbrev b₀ : Begun
     b₀ = begun s carry
@@ -237,19 +209,19 @@ module _ (options : ReaderOptions) where
     abbrev text₀ : List ℕ
     text₀ = drop (s .position) chunk
 
-    abbrev Next-goes-on : Type 0
-    Next-goes-on = Goes-on s carry chunk (chunk ∷ chunks) chunks call calls r carry′ pool′
+    abbrev Next-goes-on : Outcome → Type 0
+    Next-goes-on o = take (length (o .carried)) carry′ ≡ o .carried → Goes-on s carry (chunk ∷ chunks) chunks call calls carry′ o
 
     unseen-found : s .finished ≡ false → (f : Sought) → look (s .empties) b₀ text₀ ≡ f → unseen s carry (chunk ∷ chunks) ≡ found (s .line) f (joined chunks)
     unfolding from-place joined
     unseen-found d f e = unseen-on s carry (chunk ∷ chunks) d ∙ pieces-look (s .line) (s .empties) b₀ text₀ (joined chunks) ∙ ap (λ (x : Sought). found (s .line) x (joined chunks)) e
 
-    next-ended : s .finished ≡ true → Meets (unchanged (tells done) s carry (call .pool)) chunk r carry′ pool′ → Next-goes-on
+    next-ended : s .finished ≡ true → Next-goes-on (unchanged (tells done) s carry (call .pool))
     unfolding unchanged
     next-ended d m =
         record {
-          row = over-row s carry chunk (chunk ∷ chunks) chunks call calls r carry′ pool′ d (m .answer) (m .state) (m .shows) (m .left);
-          good = rw (m .state) (record { big = omega (arith, g .big); small = g .small; options-is = g .options-is });
+          row = over-row s carry (chunk ∷ chunks) chunks call calls carry′ s (unseen-over s carry (chunk ∷ chunks) d) d refl;
+          good = record { big = omega (arith, g .big); small = g .small; options-is = g .options-is };
         }
 
     held-unseen : (n : ℕ) (b : Begun) → Sound (b .kept) → take (length (b .kept .bytes)) carry′ ≡ b .kept .bytes → unseen (holding s n b) carry′ chunks ≡ pieces (s .line + n) b (joined chunks)
@@ -266,142 +238,133 @@ module _ (options : ReaderOptions) where
         none-dropped [] = refl
         none-dropped (c ∷ cs) = refl
 
-    next-open : s .finished ≡ false → (n : ℕ) (b : Begun) → look (s .empties) b₀ text₀ ≡ unended n b → Sound (b .kept)
-        → Meets (of-sought s (take (s .used) carry) chunk (call .pool) (call .at) (unended n b)) chunk r carry′ pool′ → Next-goes-on
-    unfolding Follows of-sought found
-    next-open d n b e h m =
+    next-found : s .finished ≡ false → (f : Sought) → look (s .empties) b₀ text₀ ≡ f → Fine f text₀ → Next-goes-on (of-sought s (take (s .used) carry) chunk (call .pool) (call .at) f)
+    unfolding Follows Fine of-sought found unseen from-place joined
+    next-found d (unended n b) e h m =
         record {
-          row = rw (m .answer) (
-            unseen-found d (unended n b) e ∙ sym (held-unseen n b h (m .carry)) ∙ ap (λ (x : Chunks). unseen x carry′ chunks) (sym (m .state)),
-            sym (ap (λ (x : Chunks). x .line) (m .state)),
-          );
-          good = rw (m .state) (record { big = omega (arith, g .big); small = h .short; options-is = g .options-is });
+          row = ap (λ (x : List Nth). Row (s .line) x (call ∷ calls)) (unseen-found d (unended n b) e ∙ sym (held-unseen n b h m));
+          good = record { big = omega (arith, g .big); small = h .short; options-is = g .options-is };
         }
-
-    next-found : s .finished ≡ false → (start : Option (List ℕ)) (n : ℕ) (kept : Kept) (rest : List ℕ) → look (s .empties) b₀ text₀ ≡ ended start n kept rest → (p : List ℕ) → text₀ ≡ p ++ rest
-        → Meets (answered-line s (take (s .used) carry) chunk (call .pool) (call .at) start n kept (length chunk - length rest) false) chunk r carry′ pool′ → Next-goes-on
-    unfolding found unseen from-place joined
-    next-found d start n kept rest e p tail m =
-        line-goes-on s carry chunk (chunk ∷ chunks) chunks call calls r carry′ pool′ (take (s .used) carry) start n kept (length chunk - length rest) false left m (g .options-is)
-        (have (unseen-found d (ended start n kept rest) e))
+    next-found d (ended start n kept rest) e (c, p, tail) m =
+        line-goes-on s carry (chunk ∷ chunks) chunks call calls carry′ (take (s .used) carry) chunk start n kept (length chunk - length rest) false left m g l
+        (unseen-found d (ended start n kept rest) e)
         (λ k. same-unseen s carry carry′ (chunk ∷ chunks) (kept-begun s carry carry′ (omega (arith, g .big, g .small)) k))
-        (behind (ends-row (s .options) (answer-to (stands-for kept) call))) g l
+        (behind (ends-row (s .options) (answer-to (stands-for kept) call)))
       where
         left : List Nth
         left = pieces (s .line + counted n) nothing (rest ++ joined chunks)
 
-        have : unseen s carry (chunk ∷ chunks) ≡ found (s .line) (ended start n kept rest) (joined chunks) → unseen s carry (chunk ∷ chunks) ≡ nth (number-behind s n) (stands-for kept) ∷ left
-        have e = e
-
         behind : (b : Bool) → unseen (past-line s (length chunk - length rest) (number-behind s n) b) carry′ (chunk ∷ chunks) ≡ (if b then [] else left)
         behind true = refl
         behind false =
-            ap (λ (x : List ℕ). pieces (number-behind s n + 0) nothing (x ++ joined chunks)) (suffix-at rest chunk (suffix-drop (s .position) rest chunk (p, tail)))
+            ap (λ (x : List ℕ). pieces (number-behind s n + 0) nothing (x ++ joined chunks)) (suffix-at rest chunk (suffix-drop (s .position) rest chunk (c ∷ p, tail)))
             ∙ pieces-mod (rest ++ joined chunks) (number-behind s n + 0) (s .line + counted n) nothing (ap (λ (k : ℕ). k % M) (add-zero (number-behind s n)) ∙ twice (s .line + counted n))
 
-    pub next-goes-on : NextChunk s chunk carry (call .pool) (call .at) r carry′ pool′ → Next-goes-on
-    unfolding of-sought Fine look
-    next-goes-on m = by-done (s .finished) refl
+    pub next-goes-on : Next-goes-on (next-outcome s chunk carry (call .pool) (call .at))
+    unfolding look
+    next-goes-on = by-done (s .finished) refl
       where
         enough : too-small s carry ≡ false
         enough = big-enough s carry (g .big) (g .small)
 
-        by-found : s .finished ≡ false → (f : Sought) → look (s .empties) b₀ text₀ ≡ f → Fine f text₀
-            → Meets (of-sought s (take (s .used) carry) chunk (call .pool) (call .at) f) chunk r carry′ pool′ → Next-goes-on
-        by-found d (ended start n kept rest) e (c, p, tail) m = next-found d start n kept rest e (c ∷ p) tail m
-        by-found d (unended n b) e h m = next-open d n b e h m
-
-        by-done : (t : Bool) → s .finished ≡ t → Next-goes-on
-        by-done true d = next-ended d (rw (next-over s chunk carry (call .pool) (call .at) enough d) at m)
+        by-done : (t : Bool) → s .finished ≡ t → Next-goes-on (next-outcome s chunk carry (call .pool) (call .at))
+        by-done true d = rw (next-over s chunk carry (call .pool) (call .at) enough d) (next-ended d)
         by-done false d =
-            by-found d (look (s .empties) b₀ text₀) refl (fine text₀ _ (s .empties) b₀ (sound-begun s carry (g .big) (g .small)))
-            (rw (next-on s chunk carry (call .pool) (call .at) enough d) at m)
+            rw (next-on s chunk carry (call .pool) (call .at) enough d)
+            (next-found d (look (s .empties) b₀ text₀) refl (fine text₀ _ (s .empties) b₀ (sound-begun s carry (g .big) (g .small))))
 
   -- ---- a call of `finish`
 
-  module _ (s : Chunks) (carry : List ℕ) (call : Call) (calls : List Call) (r : ChunkStep) (carry′ pool′ : List ℕ) (g : Good options s carry) (l : length carry′ ≡ length carry) where
-    abbrev Finish-goes-on : Type 0
-    Finish-goes-on = Goes-on s carry [] [] [] call calls r carry′ pool′
-
-    finish-ended : s .finished ≡ true → Meets (unchanged (tells done) s carry (call .pool)) [] r carry′ pool′ → Finish-goes-on
-    unfolding unchanged
-    finish-ended d m =
-        record {
-          row = over-row s carry [] [] [] call calls r carry′ pool′ d (m .answer) (m .state) (m .shows) (m .left);
-          good = rw (m .state) (record { big = omega (arith, g .big); small = g .small; options-is = g .options-is });
-        }
+  module _ (s : Chunks) (carry : List ℕ) (call : Call) (calls : List Call) (carry′ : List ℕ) (g : Good options s carry) (l : length carry′ ≡ length carry) where
+    abbrev Finish-goes-on : Outcome → Type 0
+    Finish-goes-on o = take (length (o .carried)) carry′ ≡ o .carried → Goes-on s carry [] [] call calls carry′ o
 
     last-piece : s .finished ≡ false → (e : Bool) → is-empty (with-CR (begun s carry) .bytes) ≡ e
         → unseen s carry [] ≡ (if e then [] else nth (number-behind s (s .empties)) (stands-for (with-CR (begun s carry))) ∷ [])
     unfolding from-place joined
     last-piece d e q = unseen-on s carry [] d ∙ pieces-end (s .line) (s .empties) (begun s carry) e q
 
-    finish-none : s .finished ≡ false → is-empty (with-CR (begun s carry) .bytes) ≡ true → Meets (nothing-left s (call .pool)) [] r carry′ pool′ → Finish-goes-on
-    unfolding Follows
-    finish-none d e m =
-        let line-is : s .line ≡ r .state .line = sym (ap (λ (x : Chunks). x .line) (m .state)) in
+    finish-ended : s .finished ≡ true → Finish-goes-on (unchanged (tells done) s carry (call .pool))
+    unfolding unchanged
+    finish-ended d m =
         record {
-          row = rw (m .answer)
-              (ap (λ (x : List Nth). Row (s .line) x (call ∷ calls)) (last-piece d true e)
-              ∙ show-none (s .line) call calls
-              ∙ ap₂ (λ (x : Seen) (xs : List Seen). x ∷ xs)
-              (seen-is done (call .pool) pool′ (s .line) (r .state .line) [] (at-place (r .lies) [] carry′) (sym (m .left)) line-is (sym (m .shows)))
-              (ap₂ (λ (k : ℕ) (x : List Nth). Row k x calls) line-is (sym (unseen-over (r .state) carry′ [] (ap (λ (x : Chunks). x .finished) (m .state))))));
-          good = rw (m .state) (record { big = omega (arith, g .big); small = g .small; options-is = g .options-is });
+          row = over-row s carry [] [] call calls carry′ s (unseen-over s carry [] d) d refl;
+          good = record { big = omega (arith, g .big); small = g .small; options-is = g .options-is };
+        }
+
+    finish-none : s .finished ≡ false → is-empty (with-CR (begun s carry) .bytes) ≡ true → Finish-goes-on (nothing-left s (call .pool))
+    finish-none d e m =
+        record {
+          row = over-row s carry [] [] call calls carry′ (over s) (last-piece d true e) refl refl;
+          good = record { big = omega (arith, g .big); small = g .small; options-is = g .options-is };
         }
 
     finish-found : s .finished ≡ false → is-empty (with-CR (begun s carry) .bytes) ≡ false
-        → Meets (answered-line s (take (s .used) carry) [] (call .pool) (call .at) none (s .empties) (with-CR (begun s carry)) 0 true) [] r carry′ pool′ → Finish-goes-on
+        → Finish-goes-on (answered-line s (take (s .used) carry) [] (call .pool) (call .at) none (s .empties) (with-CR (begun s carry)) 0 true)
     unfolding unseen
     finish-found d e m =
-        line-goes-on s carry [] [] [] call calls r carry′ pool′ (take (s .used) carry) none (s .empties) (with-CR (begun s carry)) 0 true [] m (g .options-is)
+        line-goes-on s carry [] [] call calls carry′ (take (s .used) carry) [] none (s .empties) (with-CR (begun s carry)) 0 true [] m g l
         (last-piece d false e)
         (λ k. same-unseen s carry carry′ [] (kept-begun s carry carry′ (omega (arith, g .big, g .small)) k))
-        (behind (ends-row (s .options) (answer-to (stands-for (with-CR (begun s carry))) call))) g l
+        (behind (ends-row (s .options) (answer-to (stands-for (with-CR (begun s carry))) call)))
       where
         behind : (b : Bool) → unseen (past-line s 0 (number-behind s (s .empties)) true) carry′ [] ≡ (if b then [] else [])
         behind true = refl
         behind false = refl
 
-    pub finish-goes-on : Finish s carry (call .pool) (call .at) r carry′ pool′ → Finish-goes-on
-    finish-goes-on m = by-done (s .finished) refl
+    pub finish-goes-on : Finish-goes-on (finish-outcome s carry (call .pool) (call .at))
+    finish-goes-on = by-done (s .finished) refl
       where
         enough : too-small s carry ≡ false
         enough = big-enough s carry (g .big) (g .small)
 
-        by-empty : s .finished ≡ false → (b : Bool) → is-empty (with-CR (begun s carry) .bytes) ≡ b → Finish-goes-on
-        by-empty d true e = finish-none d e (rw (finish-on s carry (call .pool) (call .at) enough d true e) at m)
-        by-empty d false e = finish-found d e (rw (finish-on s carry (call .pool) (call .at) enough d false e) at m)
+        by-empty : s .finished ≡ false → (b : Bool) → is-empty (with-CR (begun s carry) .bytes) ≡ b → Finish-goes-on (finish-outcome s carry (call .pool) (call .at))
+        by-empty d true e = rw (finish-on s carry (call .pool) (call .at) enough d true e) (finish-none d e)
+        by-empty d false e = rw (finish-on s carry (call .pool) (call .at) enough d false e) (finish-found d e)
 
-        by-done : (t : Bool) → s .finished ≡ t → Finish-goes-on
-        by-done true d = finish-ended d (rw (finish-over s carry (call .pool) (call .at) enough d) at m)
+        by-done : (t : Bool) → s .finished ≡ t → Finish-goes-on (finish-outcome s carry (call .pool) (call .at))
+        by-done true d = rw (finish-over s carry (call .pool) (call .at) enough d) (finish-ended d)
         by-done false d = by-empty d (is-empty (with-CR (begun s carry) .bytes)) refl
 
-  -- ---- the row
+  -- ---- the row, as any caller notes it
 
-  module _ (s : Chunks) (carry chunk : List ℕ) (here next : List (List ℕ)) (call : Call) (calls : List Call) (r : ChunkStep) (carry′ pool′ : List ℕ) where
-    follow-told : (w : Word) (t : Told) → w ≡ tells t → Follows s carry chunk here next call calls r carry′ pool′ w
-        → Row (s .line) (unseen s carry here) (call ∷ calls) ≡ seen-at t pool′ r chunk carry′ ∷ Row (r .state .line) (unseen (r .state) carry′ here) calls
-    unfolding Follows
-    follow-told w t e f = rw e at f
+  module _ {A : Type 0} (say : Seen → A) (Known : Outcome → (chunk : List ℕ) → Heard A → Type 0) (known : Projects say Known) where
+    abbrev Said : (last : ℕ) → List Nth → List Call → List A
+    Said last left calls = map say (Row last left calls)
 
-    follow-used : (w : Word) → w ≡ used-up → Follows s carry chunk here next call calls r carry′ pool′ w
-        → Row (s .line) (unseen s carry here) (call ∷ calls) ≡ Row (r .state .line) (unseen (r .state) carry′ next) (call ∷ calls)
-    unfolding Follows
-    follow-used w e f = let (x, y) = rw e at f in ap₂ (λ (k : ℕ) (left : List Nth). Row k left (call ∷ calls)) y x
+    module _ (s : Chunks) (carry : List ℕ) (here next : List (List ℕ)) (call : Call) (calls : List Call) (carry′ : List ℕ) where
+      follow-told : (x : Option Seen) (s′ : Chunks) (a : A) → Option·map say x ≡ some a → Follows s carry here next call calls carry′ x s′
+          → Said (s .line) (unseen s carry here) (call ∷ calls) ≡ a ∷ Said (s′ .line) (unseen s′ carry′ here) calls
+      unfolding Follows
+      follow-told (some x) s′ a e f = ap (map say) f ∙ ap (λ (y : A). y ∷ Said (s′ .line) (unseen s′ carry′ here) calls) (let y : say x ≡ a = cc in y)
+      follow-told none s′ a e f = let z : _≡_ {A = ℕ} 0 1 = cc in absurd (omega arith)
 
-  pub rows-met : {s : Chunks} {carry : List ℕ} {chunks : List (List ℕ)} {calls : List Call} {seen : List Seen}
-      → Fed s carry chunks calls seen → Good options s carry → seen ≡ Row (s .line) (unseen s carry chunks) calls
-  unfolding showing
-  rows-met no-more g = refl
-  rows-met (told-next {s} {carry} {chunk} {chunks} {call} {calls} r carry′ pool′ t m l e more) g =
-      let n = next-goes-on s carry chunk chunks call calls r carry′ pool′ g l m in
-      ap (λ (x : List Seen). seen-at t pool′ r chunk carry′ ∷ x) (rows-met more (n .good))
-      ∙ sym (follow-told s carry chunk (chunk ∷ chunks) chunks call calls r carry′ pool′ (word-of (r .reply)) t e (n .row))
-  rows-met (next-chunk {s} {carry} {chunk} {chunks} {call} {calls} r carry′ pool′ m l e more) g =
-      let n = next-goes-on s carry chunk chunks call calls r carry′ pool′ g l m in
-      rows-met more (n .good) ∙ sym (follow-used s carry chunk (chunk ∷ chunks) chunks call calls r carry′ pool′ (word-of (r .reply)) e (n .row))
-  rows-met (told-last {s} {carry} {call} {calls} r carry′ pool′ t m l e more) g =
-      let n = finish-goes-on s carry call calls r carry′ pool′ g l m in
-      ap (λ (x : List Seen). seen-at t pool′ r [] carry′ ∷ x) (rows-met more (n .good))
-      ∙ sym (follow-told s carry [] [] [] call calls r carry′ pool′ (word-of (r .reply)) t e (n .row))
+      follow-used : (x : Option Seen) (s′ : Chunks) → Option·map say x ≡ none → Follows s carry here next call calls carry′ x s′
+          → Said (s .line) (unseen s carry here) (call ∷ calls) ≡ Said (s′ .line) (unseen s′ carry′ next) (call ∷ calls)
+      unfolding Follows
+      follow-used (some x) s′ e f = let z : _≡_ {A = ℕ} 0 1 = cc in absurd (omega arith)
+      follow-used none s′ e f = ap (map say) f
+
+    pub rows-met : {s : Chunks} {carry : List ℕ} {chunks : List (List ℕ)} {calls : List Call} {notes : List A}
+        → Fed-by Known s carry chunks calls notes → Good options s carry → notes ≡ Said (s .line) (unseen s carry chunks) calls
+    unfolding showing
+    rows-met no-more g = refl
+    rows-met (told-next {s} {carry} {chunk} {chunks} {call} {calls} {a} h k l e more) g =
+        let o = next-outcome s chunk carry (call .pool) (call .at) in
+        let x = known .0 s chunk carry (call .pool) (call .at) h k in
+        let n = next-goes-on s carry chunk chunks call calls (h .carry) g l (x .begins) in
+        ap (λ (y : List A). a ∷ y) (rows-met more (rw (x .state-is) (n .good)) ∙ ap (λ (z : Chunks). Said (z .line) (unseen z (h .carry) (chunk ∷ chunks)) calls) (x .state-is))
+        ∙ sym (follow-told s carry (chunk ∷ chunks) chunks call calls (h .carry) (seen-of o) (o .state) a (sym (x .note-is) ∙ e) (n .row))
+    rows-met (next-chunk {s} {carry} {chunk} {chunks} {call} {calls} h k l e more) g =
+        let o = next-outcome s chunk carry (call .pool) (call .at) in
+        let x = known .0 s chunk carry (call .pool) (call .at) h k in
+        let n = next-goes-on s carry chunk chunks call calls (h .carry) g l (x .begins) in
+        rows-met more (rw (x .state-is) (n .good))
+        ∙ ap (λ (z : Chunks). Said (z .line) (unseen z (h .carry) chunks) (call ∷ calls)) (x .state-is)
+        ∙ sym (follow-used s carry (chunk ∷ chunks) chunks call calls (h .carry) (seen-of o) (o .state) (sym (x .note-is) ∙ e) (n .row))
+    rows-met (told-last {s} {carry} {call} {calls} {a} h k l e more) g =
+        let o = finish-outcome s carry (call .pool) (call .at) in
+        let x = known .1 s carry (call .pool) (call .at) h k in
+        let n = finish-goes-on s carry call calls (h .carry) g l (x .begins) in
+        ap (λ (y : List A). a ∷ y) (rows-met more (rw (x .state-is) (n .good)) ∙ ap (λ (z : Chunks). Said (z .line) (unseen z (h .carry) []) calls) (x .state-is))
+        ∙ sym (follow-told s carry [] [] call calls (h .carry) (seen-of o) (o .state) a (sym (x .note-is) ∙ e) (n .row))

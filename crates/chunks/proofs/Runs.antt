@@ -61,7 +61,7 @@ front-last line h =
     let none : drop (suc (length line - 1)) line ≡ [] = drop-of-length-le line {i = suc (length line - 1)} (omega arith) in
     split-at line (length line - 1) 0 (omega arith) ∙ rw none
 
-none-is : (line : List ℕ) → length line ≡ 0 → line ≡ []
+pub none-is : (line : List ℕ) → length line ≡ 0 → line ≡ []
 none-is [] h = refl
 none-is (c ∷ line) h = absurd (omega arith)
 
@@ -125,7 +125,7 @@ unfolding has-LF
 has-behind [] ys h = h
 has-behind (x ∷ xs) ys h = rw (has-behind xs ys h) (or-true (eqb x LF))
 
-ended-has : {text line end rest : List ℕ} → text ≡ line ++ (end ++ rest) → Ended line end rest → length line < length text - length rest → has-LF text ≡ true
+pub ended-has : {text line end rest : List ℕ} → text ≡ line ++ (end ++ rest) → Ended line end rest → length line < length text - length rest → has-LF text ≡ true
 unfolding has-LF
 ended-has {line} w (with-CRLF {rest = r}) h = ap has-LF w ∙ has-behind line (CR ∷ LF ∷ r) refl
 ended-has {line} w (with-LF {rest = r} n) h = ap has-LF w ∙ has-behind line (LF ∷ r) refl

@@ -60,7 +60,7 @@ push-some k c = go (ltb (length (k .bytes)) 522) refl (is-digit (getD (k .bytes)
     go false e true = behind (take 521 (k .bytes))
     go false e false = some (k .bytes) (ltb-false (length (k .bytes)) 522 e)
 
-pushes-some : (l : List ℕ) (k : Kept) → is-empty (k .bytes) ≡ false → is-empty (foldl push k l .bytes) ≡ false
+pub pushes-some : (l : List ℕ) (k : Kept) → is-empty (k .bytes) ≡ false → is-empty (foldl push k l .bytes) ≡ false
 pushes-some [] k e = e
 pushes-some (c ∷ l) k e = pushes-some l (push k c) (push-some k c)
 

@@ -6,7 +6,7 @@ use mathlib.Core.Path.{_≡_}
 use mathlib.Core.Logic.{_≢_, _⊎_}
 use mathlib.Core.Bool.{true, false}
 use mathlib.Core.Option.{none, some}
-use mathlib.Core.List.{List, [], _∷_, _++_}
+use mathlib.Core.List.{List, [], _∷_, _++_, map}
 use denote.Ref.{RefT}
 use lib.ListN.{length, getD, take}
 use Rattle.record.specs.Common.{if_then_else_, Every, text, pasted}
@@ -24,7 +24,7 @@ use Rattle.chunks.specs.declared.Place.{Place}
 use Rattle.chunks.specs.declared.ChunkStep.{ChunkStep}
 use Rattle.chunks.specs.Begun.{Kept, nothing, brief, stands-for, ended, unended, look}
 use Rattle.chunks.specs.Next.{tells, word-of, is-record, new-chunks, at-place, Outcome, unchanged, next-outcome, finish-outcome, NextChunk, Finish, NewChunks, Shown}
-use Rattle.chunks.specs.Rows.{joined, Seen, Fed, numbered, showing}
+use Rattle.chunks.specs.Rows.{joined, Seen, Heard, Fed-by, Projects, Fed, numbered, showing}
 
 -- a line that is kept as it is
 abbrev pub kept-whole : String → Kept
@@ -62,6 +62,13 @@ abbrev pub Any-cuts : Type 0
 Any-cuts =
     (options : ReaderOptions) (carry : List ℕ) (chunks : List (List ℕ)) (calls : List Call) (seen : List Seen) → 522 ≤ length carry
     → Fed (new-chunks options) carry chunks calls seen → seen ≡ showing options 0 (numbered 1 (lines (joined chunks))) calls
+
+-- the same of any caller: its notes are what it says of that row
+abbrev pub Any-cuts-by : Type 1
+Any-cuts-by =
+    (A : Type 0) (say : Seen → A) (Known : Outcome → (chunk : List ℕ) → Heard A → Type 0) → Projects say Known
+    → (options : ReaderOptions) (carry : List ℕ) (chunks : List (List ℕ)) (calls : List Call) (notes : List A) → 522 ≤ length carry
+    → Fed-by Known (new-chunks options) carry chunks calls notes → notes ≡ map say (showing options 0 (numbered 1 (lines (joined chunks))) calls)
 
 abbrev pub givens-of : List Seen → List Given
 givens-of [] = []

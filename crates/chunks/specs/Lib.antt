@@ -3,3 +3,4 @@ pub mod Next
 pub mod Helpers
 pub mod Rows
 pub mod Claims
+pub mod First

@@ -2,19 +2,19 @@
 -- Assumes nothing.
 use Prim.Native.Nat.{ℕ, suc, _%_, _^_}
 use mathlib.Core.Path.{_≡_}
+use mathlib.Core.Option.{Option, none, some, Option·map}
 use mathlib.Core.List.{List, [], _∷_, _++_}
-use lib.ListN.{length}
+use lib.ListN.{length, take}
 use Rattle.record.specs.Common.{if_then_else_}
 use Rattle.record.specs.Line.{judge}
 use Rattle.reader.specs.declared.ReaderOptions.{ReaderOptions}
-use Rattle.reader.specs.Told.{Told}
 use Rattle.reader.specs.Answer.{answered}
 use Rattle.reader.specs.Row.{on}
 use Rattle.reader.specs.Text.{is-full, ends-row}
 use Rattle.reader.specs.Calls.{Call, Given, given-done, given-for}
 use Rattle.chunks.specs.declared.Chunks.{Chunks}
 use Rattle.chunks.specs.declared.ChunkStep.{ChunkStep}
-use Rattle.chunks.specs.Next.{tells, used-up, word-of, is-record, at-place, NextChunk, Finish}
+use Rattle.chunks.specs.Next.{Word, tells, used-up, word-of, is-record, at-place, Outcome, next-outcome, finish-outcome, Meets}
 
 unfoldable pub joined : List (List ℕ) → List ℕ
 joined [] = []
@@ -25,22 +25,59 @@ pub record Seen : Type 0 where
   pub given : Given
   pub shown : List ℕ
 
-abbrev pub seen-at : Told → (pool : List ℕ) → ChunkStep → (chunk carry : List ℕ) → Seen
-seen-at t pool r chunk carry = record { given = record { told = t; pool = pool; line = r .state .line }; shown = at-place (r .lies) chunk carry }
+-- what a call lets its caller see: nothing new where the chunk is used up
+abbrev pub seen-with : Word → (pool : List ℕ) (line : ℕ) (shown : List ℕ) → Option Seen
+seen-with (tells t) pool line shown = some (record { given = record { told = t; pool = pool; line = line }; shown = shown })
+seen-with used-up pool line shown = none
 
--- Calls from a state: `next` at the first chunk until it is used up, then at the one behind it, and `finish` where there is none. All
--- that is known of a call is its contract, and that a lent slice keeps its length. Nobody else writes to the carry.
-pub data Fed : (s : Chunks) (carry : List ℕ) (chunks : List (List ℕ)) → List Call → List Seen → Type 0 where
-  no-more : {s : Chunks} {carry : List ℕ} {chunks : List (List ℕ)} → Fed s carry chunks [] []
-  told-next : {s : Chunks} {carry chunk : List ℕ} {chunks : List (List ℕ)} {call : Call} {calls : List Call} {seen : List Seen} (r : ChunkStep) (carry′ pool′ : List ℕ) (t : Told)
-      → NextChunk s chunk carry (call .pool) (call .at) r carry′ pool′ → length carry′ ≡ length carry → word-of (r .reply) ≡ tells t
-      → Fed (r .state) carry′ (chunk ∷ chunks) calls seen → Fed s carry (chunk ∷ chunks) (call ∷ calls) (seen-at t pool′ r chunk carry′ ∷ seen)
-  next-chunk : {s : Chunks} {carry chunk : List ℕ} {chunks : List (List ℕ)} {call : Call} {calls : List Call} {seen : List Seen} (r : ChunkStep) (carry′ pool′ : List ℕ)
-      → NextChunk s chunk carry (call .pool) (call .at) r carry′ pool′ → length carry′ ≡ length carry → word-of (r .reply) ≡ used-up
-      → Fed (r .state) carry′ chunks (call ∷ calls) seen → Fed s carry (chunk ∷ chunks) (call ∷ calls) seen
-  told-last : {s : Chunks} {carry : List ℕ} {call : Call} {calls : List Call} {seen : List Seen} (r : ChunkStep) (carry′ pool′ : List ℕ) (t : Told)
-      → Finish s carry (call .pool) (call .at) r carry′ pool′ → length carry′ ≡ length carry → word-of (r .reply) ≡ tells t
-      → Fed (r .state) carry′ [] calls seen → Fed s carry [] (call ∷ calls) (seen-at t pool′ r [] carry′ ∷ seen)
+abbrev pub seen-of : Outcome → Option Seen
+seen-of o = seen-with (o .word) (o .pool) (o .state .line) (o .shows)
+
+-- ---- calls, whoever makes them
+
+-- What a caller has after a call: a note of what it saw, none where the chunk is used up, and the state and the carry that it hands on.
+pub record Heard (A : Type 0) : Type 0 where
+  pub note : Option A
+  pub state : Chunks
+  pub carry : List ℕ
+
+-- Calls from a state, with the notes that they give: of `next` at the first chunk until it is used up, then at the one after it, and of
+-- `finish` where there is none. All that is known of a call with the outcome o is `Known o chunk h`, and that a lent slice keeps its
+-- length. Nobody else writes to the carry.
+pub data Fed-by {A : Type 0} (Known : Outcome → (chunk : List ℕ) → Heard A → Type 0) : (s : Chunks) (carry : List ℕ) (chunks : List (List ℕ)) → List Call → List A → Type 0 where
+  no-more : {s : Chunks} {carry : List ℕ} {chunks : List (List ℕ)} → Fed-by Known s carry chunks [] []
+  told-next : {s : Chunks} {carry chunk : List ℕ} {chunks : List (List ℕ)} {call : Call} {calls : List Call} {a : A} {notes : List A} (h : Heard A)
+      → Known (next-outcome s chunk carry (call .pool) (call .at)) chunk h → length (h .carry) ≡ length carry → h .note ≡ some a
+      → Fed-by Known (h .state) (h .carry) (chunk ∷ chunks) calls notes → Fed-by Known s carry (chunk ∷ chunks) (call ∷ calls) (a ∷ notes)
+  next-chunk : {s : Chunks} {carry chunk : List ℕ} {chunks : List (List ℕ)} {call : Call} {calls : List Call} {notes : List A} (h : Heard A)
+      → Known (next-outcome s chunk carry (call .pool) (call .at)) chunk h → length (h .carry) ≡ length carry → h .note ≡ none
+      → Fed-by Known (h .state) (h .carry) chunks (call ∷ calls) notes → Fed-by Known s carry (chunk ∷ chunks) (call ∷ calls) notes
+  told-last : {s : Chunks} {carry : List ℕ} {call : Call} {calls : List Call} {a : A} {notes : List A} (h : Heard A)
+      → Known (finish-outcome s carry (call .pool) (call .at)) [] h → length (h .carry) ≡ length carry → h .note ≡ some a
+      → Fed-by Known (h .state) (h .carry) [] calls notes → Fed-by Known s carry [] (call ∷ calls) (a ∷ notes)
+
+-- What each caller's contract comes to: its note is what the outcome lets it see, as it says it, and it hands on the outcome's state
+-- and a carry that begins as the outcome says.
+pub record Hears {A : Type 0} (say : Seen → A) (o : Outcome) (h : Heard A) : Type 0 where
+  pub note-is : h .note ≡ Option·map say (seen-of o)
+  pub state-is : h .state ≡ o .state
+  pub begins : take (length (o .carried)) (h .carry) ≡ o .carried
+
+abbrev pub Projects : {A : Type 0} (say : Seen → A) (Known : Outcome → (chunk : List ℕ) → Heard A → Type 0) → Type 0
+Projects {A} say Known =
+    ((s : Chunks) (chunk carry pool : List ℕ) (at : ℕ) (h : Heard A) → Known (next-outcome s chunk carry pool at) chunk h → Hears say (next-outcome s chunk carry pool at) h)
+    × ((s : Chunks) (carry pool : List ℕ) (at : ℕ) (h : Heard A) → Known (finish-outcome s carry pool at) [] h → Hears say (finish-outcome s carry pool at) h)
+
+-- A call of `Chunks::next` or `Chunks::finish`: all that is known of it is its contract, `NextChunk` or `Finish`.
+pub record Stepped (o : Outcome) (chunk : List ℕ) (h : Heard Seen) : Type 0 where
+  pub step : ChunkStep
+  pub pool : List ℕ
+  pub meets : Meets o chunk step (h .carry) pool
+  pub note-is : h .note ≡ seen-with (word-of (step .reply)) pool (step .state .line) (at-place (step .lies) chunk (h .carry))
+  pub state-is : h .state ≡ step .state
+
+abbrev pub Fed : (s : Chunks) (carry : List ℕ) (chunks : List (List ℕ)) → List Call → List Seen → Type 0
+Fed s carry chunks calls seen = Fed-by Stepped s carry chunks calls seen
 
 -- ---- the row
 

@@ -1,25 +1,25 @@
 -- A text in chunks, in numbers: the state and the place come back from their numbers, and a step told in numbers is the outcome it meets.
 -- Assumes nothing.
 use Prim.Native.Nat.{ℕ, zero, suc, _+_, _≤_}
-use mathlib.Core.Path.{_≡_, refl, sym, ap, subst, _∙_}
+use mathlib.Core.Path.{_≡_, refl, ap, subst, _∙_}
 use mathlib.Core.Bool.{Bool, true, false}
 use mathlib.Core.List.{List, [], _∷_}
 use native.Mathlib.Omega.{arith}
 use denote.Ref.{RefT}
 use lib.Dec.{leb}
 use lib.ListN.{length, take, drop, length-take, length-drop, drop-of-length-le}
-use lib.Seq.{take-nil, take-all}
+use lib.Seq.{take-nil}
 use borrow.Author.Tests.{leb-true, leb-false}
 use Rattle.record.specs.Common.{if_then_else_}
 use Rattle.chunks.specs.declared.Chunks.{Chunks}
 use Rattle.chunks.specs.declared.Place.{Place}
 use Rattle.chunks.specs.declared.Place.the-variants.{Nowhere, InChunk, InCarry}
 use Rattle.chunks.specs.declared.ChunkStep.{ChunkStep}
-use Rattle.chunks.specs.Next.{Word, Outcome, at-place, unchanged, next-outcome, finish-outcome, Meets, Shown}
+use Rattle.chunks.specs.Next.{Word, Outcome, at-place, Meets, Shown}
 use Rattle.ihex.specs.Codes.{Numbers, reading-chunk, chunks-of, chunk-flags-of, Spotted, place-of, buffer-of, start-of}
 use Rattle.ihex.specs.Entries.{Stands, Chunk-read, IhexShown}
 use Rattle.ihex.specs.Helpers.{TellStep}
-use Rattle.ihex.specs.Claims.{State-returns, Place-returns, Unchanged-by, Too-small-keeps}
+use Rattle.ihex.specs.Claims.{State-returns, Place-returns}
 
 -- ---- a step
 
@@ -84,17 +84,6 @@ state-returns s =
 
 pub place-returns : Place-returns
 place-returns p = place-is p (record { lies-is = refl; from-is = refl; len-is = refl })
-
--- ---- refusal 18
-
-all-kept : (x : Outcome) (chunk carry pool : List ℕ) → x .carried ≡ carry → x .pool ≡ pool → Unchanged-by x chunk carry pool
-all-kept x chunk carry pool g h r i l e u m f w o n a b c k p same y =
-    (sym (take-all (length carry) k (omega arith)) ∙ rw g at (y .carry), y .left ∙ h)
-
-pub too-small-keeps : Too-small-keeps
-unfolding next-outcome finish-outcome unchanged
-too-small-keeps s chunk carry pool at h =
-    (all-kept (next-outcome s chunk carry pool at) chunk carry pool (rw h) (rw h), all-kept (finish-outcome s carry pool at) [] carry pool (rw h) (rw h))
 
 -- ---- a part of a buffer, as much of it as there is
 

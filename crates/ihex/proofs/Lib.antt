@@ -3,5 +3,12 @@ pub mod Chunks
 pub mod Texts
 pub mod Listing
 pub mod Claims
+pub mod Calls
+pub mod Readings
+pub mod Loads
+pub mod Writes
+pub mod Rows
+pub mod ByLines
 pub mod RoundTrip
+pub mod Objects
 pub mod Pages

@@ -1,27 +1,35 @@
 -- A page written and loaded through the entry points: the code 0 says that the file was written, and the load's numbers are those of its load.
 -- Assumes nothing.
-use Prim.Native.Nat.{ℕ}
-use mathlib.Core.Path.{_≡_, _∙_, ap}
+use Prim.Native.Nat.{ℕ, _+_, _*_, _≤_, _<_}
+use mathlib.Core.Path.{_≡_, refl, sym, _∙_, ap, subst}
+use mathlib.Core.Logic.{_⊎_, inl, inr}
+use mathlib.Core.Bool.{Bool, true, false}
 use mathlib.Core.Option.{some}
 use mathlib.Core.List.{List}
 use native.Mathlib.Omega.{arith}
+use lib.Dec.{leb}
 use lib.ListN.{length, take}
-use Rattle.record.specs.Refusals.{refusal}
+use borrow.Author.Tests.{leb-false}
+use Rattle.record.specs.Common.{if_then_else_}
+use Rattle.record.specs.Refusals.{output-full}
+use Rattle.record.proofs.Tests.{branch}
 use Rattle.writer.specs.Told.{Told, wrote, refuses}
-use Rattle.writer.specs.Text.{place-behind, if-room}
+use Rattle.writer.specs.Text.{Text, chars, refused, place-behind, if-room}
 use Rattle.loader.specs.Load.{Verdict, load}
-use Rattle.page.specs.declared.Paged.the-variants.{Wrote}
-use Rattle.page.specs.File.{page-text}
-use Rattle.page.specs.Told.{WritePage}
-use Rattle.page.proofs.Calls.{restores-so, loaded-back}
-use Rattle.ihex.specs.Codes.{value, writing, loading}
+use Rattle.page.specs.declared.PageError.the-variants.{BadWindow, BadMark, OutputFull}
+use Rattle.page.specs.declared.Paged.{Paged}
+use Rattle.page.specs.declared.Paged.the-variants.{Wrote, Refused}
+use Rattle.page.specs.File.{file, good-marks, page-text}
+use Rattle.page.specs.Told.{told, WritePage}
+use Rattle.page.specs.Claims.{Why}
+use Rattle.page.proofs.Calls.{restores-so, loaded-back, equal-answers, length-of-lengths}
+use Rattle.page.proofs.Claims.{text-cases, reasons, one-reason}
+use Rattle.page.proofs.Room.{room}
+use Rattle.ihex.specs.Codes.{OK, value, writing, loading}
 use Rattle.ihex.specs.Entries.{IhexWritePage}
 use Rattle.ihex.specs.Claims.{Page-loads-back}
-
--- a code of 0 is no refusal's
-wrote-it : (t : Told) (n : ℕ) → 0 ≡ writing (some t) .code → n ≡ value (writing (some t)) 0 → wrote n ≡ t
-wrote-it (wrote m) n e v = ap wrote v
-wrote-it (refuses (refusal k vs)) n e v = absurd (omega arith)
+use Rattle.ihex.specs.Pages.{OUTPUT-FULL, Ihex-write-page-reasons, Ihex-length-as-written, Ihex-page-room, Ihex-length-of-lengths, Ihex-unmarked-bytes}
+use Rattle.ihex.proofs.Writes.{wrote-it}
 
 was-written : (first : ℕ) (page marks out : List ℕ) (n : ℕ) (out′ : List ℕ) → IhexWritePage first page marks out 0 n out′ → WritePage first page marks out (Wrote n) out′
 was-written first page marks out n out′ w =
@@ -34,3 +42,74 @@ page-loads-back first page marks out n out′ old-page old-marks r l a b page′
       g .a-is ∙ ap (λ (v : Verdict). value (loading v) 0) answer,
       restores-so page marks old-page page′ marks′ (load (take n out′) first old-page old-marks) _ (g .page-is) (g .marks-is) restored,
     )
+
+-- ---- what the library's functions answer
+
+-- an answer of `write_page` with this room, and one of `page_file_length`
+paged : (first : ℕ) (page marks : List ℕ) (room : ℕ) → (r : Paged) × (told r ≡ if-room (place-behind (page-text first page marks) 0) room)
+paged first page marks room =
+    text-cases first page marks (λ t. (r : Paged) × (told r ≡ if-room (place-behind t 0) room))
+    (λ w. (Refused BadWindow, refl)) (λ w f. (Refused (BadMark (good-marks marks)), refl))
+    (λ p. branch (λ (t : Told). (r : Paged) × (told r ≡ t)) (leb (0 + length (file first page marks)) room) _ _
+    (λ e. (Wrote (0 + length (file first page marks)), refl)) (λ e. (Refused OutputFull, refl)))
+
+measured : (first : ℕ) (page marks : List ℕ) → (r : Paged) × (told r ≡ place-behind (page-text first page marks) 0)
+measured first page marks =
+    text-cases first page marks (λ t. (r : Paged) × (told r ≡ place-behind t 0))
+    (λ w. (Refused BadWindow, refl)) (λ w f. (Refused (BadMark (good-marks marks)), refl)) (λ p. (Wrote (0 + length (file first page marks)), refl))
+
+-- ---- the claims of `specs/Pages.antt`
+
+pub ihex-write-page-reasons : Ihex-write-page-reasons
+ihex-write-page-reasons first page marks out r v out′ x =
+    let t = if-room (place-behind (page-text first page marks) 0) (length out) in
+    let (a, e) = paged first page marks (length out) in
+    let why : Why first page marks (length out) t =
+    subst (Why first page marks (length out)) e (reasons first page marks out a out′ (record { answer = e; left = x .left })) in
+    record { answer = t; why = why; code-is = x .code-is; value-is = x .value-is; only = λ t′ because. one-reason first page marks (length out) t′ t because why }
+
+pub ihex-page-room : Ihex-page-room
+ihex-page-room first page marks v x =
+    text-cases first page marks (λ t. OK ≡ writing (some (place-behind t 0)) .code → v ≡ value (writing (some (place-behind t 0))) 0 → (v ≤ 7 * length page + 58) × (v ≤ 458810))
+    (λ w c e. absurd (omega (arith, c))) (λ w f c e. absurd (omega (arith, c)))
+    (λ p c e.
+    let most : length (file first page marks) ≤ 7 * length marks + 58 = room first page marks (p .window) in
+    (omega (arith, e, most, p .window .even), omega (arith, e, most, p .window .even, p .window .small)))
+    (x .code-is) (x .value-is)
+
+pub ihex-length-of-lengths : Ihex-length-of-lengths
+ihex-length-of-lengths first page₁ page₂ marks r₁ v₁ r₂ v₂ l x y =
+    let (a₁, e₁) = measured first page₁ marks in
+    let (a₂, e₂) = measured first page₂ marks in
+    let same : place-behind (page-text first page₁ marks) 0 ≡ place-behind (page-text first page₂ marks) 0 =
+    sym e₁ ∙ ap told (length-of-lengths first page₁ page₂ marks a₁ a₂ l (record { answer = e₁ }) (record { answer = e₂ })) ∙ e₂ in (
+      x .code-is ∙ ap (λ (t : Told). writing (some t) .code) same ∙ sym (y .code-is),
+      x .value-is ∙ ap (λ (t : Told). value (writing (some t)) 0) same ∙ sym (y .value-is),
+    )
+
+pub ihex-unmarked-bytes : Ihex-unmarked-bytes
+ihex-unmarked-bytes first page₁ page₂ marks out r₁ v₁ o₁ r₂ v₂ o₂ l h x y =
+    let (a₁, e₁) = paged first page₁ marks (length out) in
+    let (a₂, e₂) = paged first page₂ marks (length out) in
+    let (a, o) = equal-answers first page₁ page₂ marks out a₁ a₂ o₁ o₂ l h (record { answer = e₁; left = x .left }) (record { answer = e₂; left = y .left }) in
+    let same : if-room (place-behind (page-text first page₁ marks) 0) (length out) ≡ if-room (place-behind (page-text first page₂ marks) 0) (length out) = sym e₁ ∙ ap told a ∙ e₂ in (
+      x .code-is ∙ ap (λ (t : Told). writing (some t) .code) same ∙ sym (y .code-is),
+      x .value-is ∙ ap (λ (t : Told). value (writing (some t)) 0) same ∙ sym (y .value-is),
+      o,
+    )
+
+pub ihex-length-as-written : Ihex-length-as-written
+ihex-length-as-written first page marks out r v r′ v′ out′ x y = go (page-text first page marks) (x .code-is) (x .value-is) (y .code-is) (y .value-is)
+  where
+    go : (t : Text) → r ≡ writing (some (place-behind t 0)) .code → v ≡ value (writing (some (place-behind t 0))) 0
+        → r′ ≡ writing (some (if-room (place-behind t 0) (length out))) .code → v′ ≡ value (writing (some (if-room (place-behind t 0) (length out)))) 0
+        → ((r ≡ r′) × (v ≡ v′)) ⊎ ((r ≡ OK) × (length out < v) × (r′ ≡ OUTPUT-FULL))
+    go (refused w) p q p′ q′ = inl (cc, cc)
+    go (chars cs) p q p′ q′ = fits (leb (0 + length cs) (length out)) refl p′ q′
+      where
+        fits : (b : Bool) → leb (0 + length cs) (length out) ≡ b
+            → r′ ≡ writing (some (if b then wrote (0 + length cs) else refuses output-full)) .code
+            → v′ ≡ value (writing (some (if b then wrote (0 + length cs) else refuses output-full))) 0
+            → ((r ≡ r′) × (v ≡ v′)) ⊎ ((r ≡ OK) × (length out < v) × (r′ ≡ OUTPUT-FULL))
+        fits true e p′ q′ = inl (cc, cc)
+        fits false e p′ q′ = inr (p, omega (arith, leb-false (0 + length cs) (length out) e), p′)

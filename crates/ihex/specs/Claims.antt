@@ -2,7 +2,6 @@
 -- Assumes nothing.
 use Prim.Native.Nat.{ℕ}
 use mathlib.Core.Path.{_≡_}
-use mathlib.Core.Bool.{true}
 use mathlib.Core.Option.{none, some}
 use mathlib.Core.List.{List, [], _∷_, _++_}
 use lib.ListN.{length, take}
@@ -12,7 +11,7 @@ use Rattle.record.specs.declared.Record.the-variants.{Data, EndOfFile, StartSeg
 use Rattle.reader.specs.declared.State.{State}
 use Rattle.chunks.specs.declared.Chunks.{Chunks}
 use Rattle.chunks.specs.declared.Place.{Place}
-use Rattle.chunks.specs.Next.{Outcome, too-small, next-outcome, finish-outcome}
+use Rattle.chunks.specs.Next.{Outcome, next-outcome, finish-outcome}
 use Rattle.loader.specs.Load.{accepted}
 use Rattle.page.specs.Pieces.{pieces}
 use Rattle.page.specs.Claims.{Restores}
@@ -92,16 +91,6 @@ State-returns = (s : Chunks) → chunks-of (s .position) (s .line) (s .empties) 
 
 abbrev pub Place-returns : Type 0
 Place-returns = (p : Place) → place-of (lies-of p) (from-of p) (len-of p) ≡ p
-
--- refusal 18 leaves the carry and the pool as they were, every byte
-abbrev pub Unchanged-by : Outcome → (chunk carry pool : List ℕ) → Type 0
-Unchanged-by x chunk carry pool =
-    (r i l e u m f w o n a b c : ℕ) (k p : List ℕ) → length k ≡ length carry → Chunk-read x chunk r i l e u m f w o n a b c k p → (k ≡ carry) × (p ≡ pool)
-
-abbrev pub Too-small-keeps : Type 0
-Too-small-keeps =
-    (s : Chunks) (chunk carry pool : List ℕ) (at : ℕ) → too-small s carry ≡ true
-    → Unchanged-by (next-outcome s chunk carry pool at) chunk carry pool × Unchanged-by (finish-outcome s carry pool at) [] carry pool
 
 -- ---- a page
 

@@ -8,7 +8,7 @@ use mathlib.Core.List.{List, [], _∷_}
 use lib.Dec.{eqb, leb}
 use lib.ListN.{length, getD}
 use Rattle.record.specs.Common.{if_then_else_}
-use Rattle.record.specs.Refusals.{Refusal, refusal}
+use Rattle.record.specs.Refusals.{Refusal, refusal, pool-full}
 use Rattle.reader.specs.declared.ReaderOptions.{ReaderOptions}
 use Rattle.reader.specs.declared.State.{State}
 use Rattle.reader.specs.Told.{Told, gives, refuses, done}
@@ -30,34 +30,53 @@ pub record Message : Type 0 where
 abbrev pub message : (code : ℕ) (values : List ℕ) → Message
 message code values = record { code = code; values = values }
 
+-- the codes that are not a record's type: IHEX_OK, IHEX_REFUSED, to which the refusal's number is added, and so on
+abbrev pub OK : ℕ
+OK = 0
+
+abbrev pub REFUSED : ℕ
+REFUSED = 256
+
+abbrev pub DONE : ℕ
+DONE = 512
+
+abbrev pub USED-UP : ℕ
+USED-UP = 513
+
+abbrev pub BAD-RECORD : ℕ
+BAD-RECORD = 1024
+
 -- a value from the first on, 0 where there is none
 abbrev pub value : Message → (i : ℕ) → ℕ
 value m i = getD (m .values) i 0
 
--- a refusal's number and 256
 abbrev pub refused-with : Refusal → Message
-refused-with (refusal number values) = message (256 + number) values
+refused-with (refusal number values) = message (REFUSED + number) values
 
--- a record's type as it is, and 512 for "done"
+-- what is returned for a full pool: IHEX_REFUSED + IHEX_POOL_FULL
+abbrev pub POOL-FULL : ℕ
+POOL-FULL = refused-with pool-full .code
+
+-- a record's type as it is, and DONE for "done"
 abbrev pub reading : Told → Message
 reading (gives kind numbers) = message kind numbers
 reading (refuses r) = refused-with r
-reading done = message 512 []
+reading done = message DONE []
 
--- the same of a text in chunks, and 513 for "used up"
+-- the same of a text in chunks, and USED-UP for "used up"
 abbrev pub reading-chunk : Word → Message
 reading-chunk (tells t) = reading t
-reading-chunk used-up = message 513 []
+reading-chunk used-up = message USED-UP []
 
--- 0 and the length, and 1024 where what is to be written is no record
+-- OK and the length, and BAD-RECORD where what is to be written is not a record
 abbrev pub writing : Option Told-written → Message
-writing none = message 1024 []
-writing (some (wrote place)) = message 0 (place ∷ [])
+writing none = message BAD-RECORD []
+writing (some (wrote place)) = message OK (place ∷ [])
 writing (some (refuses-to-write r)) = refused-with r
 
--- 0 and the number of data records
+-- OK and the number of data records
 abbrev pub loading : Verdict → Message
-loading (accepted tally) = message 0 (tally .records ∷ [])
+loading (accepted tally) = message OK (tally .records ∷ [])
 loading (refused r line) = refused-with r
 
 -- the number of the line that a refusal names, and 0 where it names none

@@ -2,5 +2,12 @@ pub mod Codes
 pub mod Entry
 pub mod Helpers
 pub mod Entries
+pub mod Calls
+pub mod Readings
+pub mod Loads
+pub mod Writes
+pub mod Pages
+pub mod Rows
+pub mod ByLines
 pub mod Claims
 pub mod RoundTrip

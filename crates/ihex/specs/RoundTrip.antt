@@ -2,6 +2,7 @@
 -- Assumes nothing.
 use Prim.Native.Nat.{ℕ, _+_, _^_, _≤_, _<_}
 use mathlib.Core.Path.{_≡_}
+use mathlib.Core.Option.{some}
 use mathlib.Core.List.{List, [], _∷_}
 use lib.ListN.{length, take}
 use Rattle.record.specs.Common.{Every, Byte}
@@ -16,6 +17,11 @@ use Rattle.writer.specs.declared.Written.the-variants.{Wrote}
 use Rattle.writer.specs.Text.{chars}
 use Rattle.writer.specs.Object.{object, WriteObject}
 use Rattle.writer.specs.Claims.{In-range}
+use Rattle.ihex.specs.Codes.{OK, DONE, Numbers, reading}
+use Rattle.ihex.specs.Entry.{records-of}
+use Rattle.ihex.specs.Entries.{IhexCreateObjectFileRepresentation}
+use Rattle.ihex.specs.Calls.{Returned}
+use Rattle.ihex.specs.Readings.{From-the-beginning}
 
 -- calls were given these records, each with the same numbers and payload, and then "done"
 abbrev pub Again : List Record → (pool : List ℕ) → List Call → List Given → Type 0
@@ -54,3 +60,24 @@ Written-reads-back =
     (rs : List Record) (pool out : List ℕ) (n : ℕ) (out′ : List ℕ) → Every In-range rs → Every Byte pool → length out < 2 ^ 64 → WriteObject rs pool out (Wrote n) out′
     → (calls : List Call) (givens : List Given) → Has-room rs pool calls
     → Calls (take n out′) (new-state default-options) calls givens → Again rs pool calls givens
+
+-- ---- through the entry points
+
+-- calls of `ihex_next` returned these records, each with the same numbers and payload, and then IHEX_DONE
+abbrev pub Returned-again : List Record → (pool : List ℕ) → List Call → List Returned → Type 0
+Returned-again rs pool [] [] = Unit
+Returned-again rs pool [] (g ∷ gs) = ⊥
+Returned-again rs pool (call ∷ calls) [] = ⊥
+Returned-again [] pool (call ∷ calls) (g ∷ gs) = (g .code ≡ DONE) × Returned-again [] pool calls gs
+Returned-again (r ∷ rs) pool (call ∷ calls) (g ∷ gs) =
+    ((r′ : Record) × Numbers (reading (told (Read r′))) (g .code) (g .a) (g .b) (g .c) × (meant r′ (g .pool) ≡ meant r pool)) × Returned-again rs pool calls gs
+
+-- where `ihex_create_object_file_representation` returns IHEX_OK and n, its list is records, and the n bytes read by `ihex_next` with both
+-- stops on and room in the pools are the same records with the same payloads, then IHEX_DONE
+abbrev pub Ihex-written-reads-back : Type 0
+Ihex-written-reads-back =
+    (list pool out : List ℕ) (n : ℕ) (out′ : List ℕ) → Every Byte list → Every Byte pool → length out < 2 ^ 64
+    → IhexCreateObjectFileRepresentation list pool out OK n out′
+    → (rs : List Record) × (records-of list ≡ some rs)
+    × ((calls : List Call) (returns : List Returned) → Has-room rs pool calls
+    → From-the-beginning default-options (take n out′) calls returns → Returned-again rs pool calls returns)

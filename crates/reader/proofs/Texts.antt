@@ -1,7 +1,7 @@
 -- The claims on texts: a call answers the first that is left and leaves the rest, so calls are given what the lines say, by one induction
 -- over the calls; lines are joined and numbered by induction over the text, cut at its first line.
 -- Assumes nothing.
-use Prim.Native.Nat.{ℕ, zero, suc, _+_, _-_, _≤_}
+use Prim.Native.Nat.{ℕ, zero, suc, _+_, _-_, _^_, _≤_, _<_}
 use mathlib.Core.Path.{_≡_, refl, sym, _∙_, ap, subst}
 use mathlib.Core.Logic.{_≢_, _⊎_, inl, inr}
 use mathlib.Core.Bool.{Bool, true, false}
@@ -15,13 +15,12 @@ use Rattle.record.specs.Line.{Said, judge}
 use Rattle.record.proofs.Tests.{both-ways}
 use Rattle.reader.specs.declared.ReaderOptions.{ReaderOptions}
 use Rattle.reader.specs.declared.State.{State}
-use Rattle.reader.specs.declared.Step.{Step}
 use Rattle.reader.specs.declared.Reply.the-variants as reply
 use Rattle.reader.specs.Told.{done, told}
-use Rattle.reader.specs.Answer.{answered, poured}
+use Rattle.reader.specs.Answer.{answered}
 use Rattle.reader.specs.Lines.{LF, Cut, Joins, nothing, more, rest, lines, later}
 use Rattle.reader.specs.Row.{Numbered, on, sayings, stops, through-stop, row}
-use Rattle.reader.specs.Text.{told-reply, is-full, ends-row, new-state}
+use Rattle.reader.specs.Text.{is-full, ends-row, new-state, Outcome, outcome}
 use Rattle.reader.specs.Calls.{Call, Given, Never-full, Calls, no-more, one-more, given-for, replies, one-by-one}
 use Rattle.reader.specs.Claims.{Lines-join, First-line-unique, Rows, In-order, Bounded, Numbers-are-lines}
 use Rattle.reader.proofs.Cutting.{cut, cut-unique, lines-cons}
@@ -48,57 +47,67 @@ unfolding through-stop
 cut-behind options true left = refl
 cut-behind options false left = refl
 
--- what a call is given that comes to this step and pool
-abbrev got : Step → List ℕ → Given
-got r pool′ = record { told = told-reply (r .reply); pool = pool′; line = r .state .line }
+-- what calls are given by their outcomes alone
+abbrev pub got : Outcome → Given
+got o = record { told = o .told; pool = o .pool; line = o .state .line }
+
+unfoldable pub outcomes : (text : List ℕ) → State → List Call → List Given
+outcomes text s [] = []
+outcomes text s (call ∷ calls) = let o = outcome s text (call .pool) (call .at) in got o ∷ outcomes text (o .state) calls
 
 module _ (text : List ℕ) where
+  -- a call that meets its contract is given what its outcome says
+  of-calls : (s : State) (calls : List Call) (givens : List Given) → Calls text s calls givens → givens ≡ outcomes text s calls
+  unfolding outcomes
+  of-calls s [] givens no-more = refl
+  of-calls s (call ∷ calls) givens (one-more {givens = later-givens} r pool′ meets later-calls) =
+      let i = of-calls (r .state) calls later-givens later-calls in
+      let a = meets .answer in let p = meets .left in let t = meets .state in cc
+
   -- calls from a state that has this left to read
-  rows-from : (s : State) (left : List Numbered) (calls : List Call) (givens : List Given) → unread s text ≡ left → Countable s text
-      → Calls text s calls givens → givens ≡ replies (s .options) (s .line) left calls
-  unfolding replies
-  rows-from s left calls givens u k no-more = refl
-  rows-from s [] (call ∷ calls) givens u k (one-more {givens = later-givens} r pool′ meets later-calls) =
+  rows-from : (s : State) (left : List Numbered) (calls : List Call) → unread s text ≡ left → Countable s text → outcomes text s calls ≡ replies (s .options) (s .line) left calls
+  unfolding replies outcomes
+  rows-from s [] [] u k = refl
+  rows-from s (on n said ∷ left) [] u k = refl
+  rows-from s [] (call ∷ calls) u k =
       let e = ended s text (call .pool) (call .at) k u in
-      let i = rows-from (r .state) [] calls later-givens (ap (λ (x : State). unread x text) (meets .state) ∙ e .left) (subst (λ (x : State). Countable x text) (sym (meets .state)) (e .countable)) later-calls in
-      let o : r .state .options ≡ s .options = ap (λ (x : State). x .options) (meets .state) ∙ e .options in
-      let l : r .state .line ≡ s .line = ap (λ (x : State). x .line) (meets .state) ∙ e .line in
-      let t : told-reply (r .reply) ≡ done = meets .answer ∙ e .tells in
-      let p : pool′ ≡ call .pool = meets .left ∙ e .untouched in
+      let i = rows-from (outcome s text (call .pool) (call .at) .state) [] calls (e .left) (e .countable) in
+      let o = e .options in let l = e .line in let t = e .tells in let p = e .untouched in
       cc
-  rows-from s (on n said ∷ left) (call ∷ calls) givens u k (one-more {givens = later-givens} r pool′ meets later-calls) =
-      go (is-full (answered said (length (call .pool)) (call .at))) refl (λ l v w. rows-from (r .state) l calls later-givens v w later-calls)
+  rows-from s (on n said ∷ left) (call ∷ calls) u k =
+      go (is-full (answered said (length (call .pool)) (call .at))) refl (λ l v w. rows-from (outcome s text (call .pool) (call .at) .state) l calls v w)
     where
+      s′ : State
+      s′ = outcome s text (call .pool) (call .at) .state
+
       go : (b : Bool) → is-full (answered said (length (call .pool)) (call .at)) ≡ b
-          → ((l : List Numbered) → unread (r .state) text ≡ l → Countable (r .state) text → later-givens ≡ replies (r .state .options) (r .state .line) l calls)
-          → got r pool′ ∷ later-givens
+          → ((l : List Numbered) → unread s′ text ≡ l → Countable s′ text → outcomes text s′ calls ≡ replies (s′ .options) (s′ .line) l calls)
+          → got (outcome s text (call .pool) (call .at)) ∷ outcomes text s′ calls
           ≡ (if b
           then record { told = answered said (length (call .pool)) (call .at); pool = call .pool; line = s .line } ∷ replies (s .options) (s .line) (on n said ∷ left) calls
           else given-for (on n said) call ∷ replies (s .options) n (if ends-row (s .options) (answered said (length (call .pool)) (call .at)) then [] else left) calls)
       go true f again =
           let h = heard s text (call .pool) (call .at) k n said left u in
-          let q : r .state ≡ s = meets .state ∙ h .full f in
+          let q : s′ ≡ s = h .full f in
           let i = again (on n said ∷ left) (ap (λ (x : State). unread x text) q ∙ u) (subst (λ (x : State). Countable x text) (sym q) k) in
-          let t : told-reply (r .reply) ≡ answered said (length (call .pool)) (call .at) = meets .answer ∙ h .tells in
-          let p : pool′ ≡ call .pool = meets .left ∙ h .poured-in ∙ full-keeps said (call .pool) (call .at) f in
+          let t = h .tells in let p = h .poured-in ∙ full-keeps said (call .pool) (call .at) f in
           cc
       go false f again =
           let h = heard s text (call .pool) (call .at) k n said left u in
-          let e = ends-row (s .options) (answered said (length (call .pool)) (call .at)) in
-          let i = again (if e then [] else left) (ap (λ (x : State). unread x text) (meets .state) ∙ h .left f) (subst (λ (x : State). Countable x text) (sym (meets .state)) (h .countable)) in
-          let o : r .state .options ≡ s .options = ap (λ (x : State). x .options) (meets .state) ∙ h .options in
-          let l : r .state .line ≡ n = ap (λ (x : State). x .line) (meets .state) ∙ h .line f in
-          let t : told-reply (r .reply) ≡ answered said (length (call .pool)) (call .at) = meets .answer ∙ h .tells in
-          let p : pool′ ≡ poured said (call .pool) (call .at) = meets .left ∙ h .poured-in in
+          let i = again (if ends-row (s .options) (answered said (length (call .pool)) (call .at)) then [] else left) (h .left f) (h .countable) in
+          let o = h .options in let l = h .line f in let t = h .tells in let p = h .poured-in in
           cc
 
 new-left : (options : ReaderOptions) (text : List ℕ) → unread (new-state options) text ≡ sayings 1 (lines text)
 unfolding unread
 new-left options text = refl
 
+-- what the lines of a text say, whatever calls there are
+pub says-row : (options : ReaderOptions) (text : List ℕ) → length text < 2 ^ 64 → (calls : List Call) → outcomes text (new-state options) calls ≡ replies options 0 (sayings 1 (lines text)) calls
+says-row options text small calls = rows-from text (new-state options) (sayings 1 (lines text)) calls (new-left options text) (omega (arith, lines-few text .0))
+
 pub rows : Rows
-rows options text small calls givens c =
-    rows-from text (new-state options) (sayings 1 (lines text)) calls givens (new-left options text) (omega (arith, lines-few text .0)) c
+rows options text small calls givens c = of-calls text (new-state options) calls givens c ∙ says-row options text small calls
 
 -- ---- with room
 

@@ -1,24 +1,26 @@
 -- What is written is in the format, since two capital digits spell each byte and the last byte is the negated sum of the others; so it is
--- admitted, and means the record again, since a number's bytes make the number. It holds nothing but a colon and capital digits.
+-- admitted, and means the record again, since a number's bytes make the number. It holds only a colon and capital digits, and no other line
+-- of the format that does says the same.
 -- Assumes nothing.
 use Prim.Native.Nat.{ℕ, _+_, _*_, _/_, _%_, _<_, _≤_}
 use mathlib.Core.Path.{_≡_, refl, sym, _∙_, ap, ap₂, subst}
+use mathlib.Core.Logic.{inl, inr}
 use mathlib.Core.List.{List, [], _∷_, _++_}
 use native.Mathlib.Omega.{arith}
 use lib.Dec.{ltb, eqb}
 use lib.ListN.{length, take, drop, length-append}
-use borrow.Author.Tests.{ltb-true, ltb-false}
+use borrow.Author.Tests.{ltb-true, ltb-false, lt-ltb, le-ltb}
 use Rattle.checksum.specs.Checksum.{negated-sum}
 use Rattle.checksum.proofs.Laws.{negated-small}
 use Rattle.record.specs.Common.{if_then_else_, Every, Byte}
 use Rattle.record.specs.Digits.{number, big-endian}
-use Rattle.record.specs.Format.{Hex, decimal, capital, Spells, none, more, Size, type-00, type-01, type-02, type-03, type-04, type-05, Format}
+use Rattle.record.specs.Format.{Hex, decimal, capital, small, Spells, none, more, Size, type-00, type-01, type-02, type-03, type-04, type-05, Format}
 use Rattle.record.specs.Meaning.{Meaning, data-at, end-of-file, extended-segment, start-segment, extended-linear, start-linear, meaning}
-use Rattle.record.specs.Written.{capital-digit, spelt, body, written, kind-of, address-of, payload-of, two-bytes, four-bytes, Writable, Sayable}
-use Rattle.record.specs.Claims.{Written-in-format, Reads-back, Said-is-sayable}
+use Rattle.record.specs.Written.{capital-digit, spelt, body, written, kind-of, address-of, payload-of, two-bytes, four-bytes, Capital, Writable, Sayable}
+use Rattle.record.specs.Claims.{Written-in-format, Written-in-capitals, Only-in-capitals, Reads-back, Said-is-sayable}
 use Rattle.record.proofs.Tests.{branch}
-use Rattle.record.proofs.Spelling.{spells-small}
-use Rattle.record.proofs.Judging.{size-fits, check-sums}
+use Rattle.record.proofs.Spelling.{hex-small, last-small, spells-small}
+use Rattle.record.proofs.Judging.{resize, size-fits, check-sums, sums-check}
 use Rattle.record.proofs.Standing.{Stands, stands, admitted}
 
 -- ---- digits
@@ -46,6 +48,38 @@ pub spelt-append : (xs ys : List ℕ) → spelt (xs ++ ys) ≡ spelt xs ++ spelt
 unfolding spelt
 spelt-append [] ys = refl
 spelt-append (x ∷ xs) ys = ap (λ (l : List ℕ). capital-digit (x / 16) ∷ capital-digit (x % 16) ∷ l) (spelt-append xs ys)
+
+-- each digit is a capital one
+capital-in-range : (x : ℕ) → x < 16 → Capital (capital-digit x)
+unfolding capital-digit
+capital-in-range x h =
+    branch Capital (ltb x 10) (48 + x) (55 + x)
+    (λ e. let l = ltb-true x 10 e in inl (omega arith, omega arith))
+    (λ e. let l = ltb-false x 10 e in inr (omega arith, omega arith))
+
+spelt-capitals : (bs : List ℕ) → Every Byte bs → Every Capital (spelt bs)
+unfolding spelt
+spelt-capitals [] h = tt
+spelt-capitals (b ∷ bs) (h, hs) = (capital-in-range (b / 16) (omega arith), (capital-in-range (b % 16) (omega arith), spelt-capitals bs hs))
+
+-- and a digit in capitals has no choice
+capital-only : {c x : ℕ} → Hex c x → Capital c → c ≡ capital-digit x
+unfolding capital-digit
+capital-only {c} {x} (decimal e h) k = rw (lt-ltb x 10 h) e
+capital-only {c} {x} (capital e l h) k = rw (le-ltb x 10 l) (omega arith)
+capital-only (small e l h) (inl (low, high)) = absurd (omega arith)
+capital-only (small e l h) (inr (low, high)) = absurd (omega arith)
+
+spelt-only : {ds bs : List ℕ} → Spells ds bs → Every Capital ds → ds ≡ spelt bs
+unfolding spelt
+spelt-only none k = refl
+spelt-only (more {a} {b} {x} {y} {byte} p q e s) (i, (j, k)) =
+    let m = hex-small p in
+    let n = hex-small q in
+    let high : x ≡ byte / 16 = omega arith in
+    let low : y ≡ byte % 16 = omega arith in
+    ap₂ (λ (c : ℕ) (cs : List ℕ). c ∷ cs) (capital-only p i ∙ ap capital-digit high)
+    (ap₂ (λ (c : ℕ) (cs : List ℕ). c ∷ cs) (capital-only q j ∙ ap capital-digit low) (spelt-only s k))
 
 -- every character is a digit or a letter
 plain-digit : (x : ℕ) → 48 ≤ capital-digit x
@@ -77,10 +111,17 @@ every-snoc : (bs : List ℕ) (c : ℕ) → Every Byte bs → Byte c → Every By
 every-snoc [] c h k = (k, tt)
 every-snoc (b ∷ bs) c (h, hs) k = (h, every-snoc bs c hs k)
 
+-- all of it are bytes, the checksum too
+body-bytes : (kind address : ℕ) (payload : List ℕ) → Writable kind address payload
+    → let b = body kind address payload in Every Byte (b ++ (negated-sum b ∷ []))
+body-bytes kind address payload w =
+    let k = size-fits (w .sized) in
+    let b : List ℕ = body kind address payload in
+    every-snoc b (negated-sum b) (omega (arith, w .most), (omega (arith, w .address-small), (omega arith, (omega arith, w .payload-bytes)))) (negated-small b)
+
 pub written-in-format : Written-in-format
 unfolding written
 written-in-format kind address payload w =
-    let k = size-fits (w .sized) in
     let b : List ℕ = body kind address payload in
     record {
       digits = spelt (b ++ (negated-sum b ∷ []));
@@ -88,11 +129,31 @@ written-in-format kind address payload w =
       low = address % 256;
       check = negated-sum b;
       starts = refl;
-      spells = spelt-spells (b ++ (negated-sum b ∷ [])) (every-snoc b (negated-sum b) (omega (arith, w .most), (omega (arith, w .address-small), (omega arith, (omega arith, w .payload-bytes)))) (negated-small b));
+      spells = spelt-spells (b ++ (negated-sum b ∷ [])) (body-bytes kind address payload w);
       addressed = omega arith;
       sums = check-sums (length payload) (address / 256) (address % 256) kind payload (negated-sum b) refl;
-      sized = w .sized;
+      sized = resize (omega arith) (w .sized);
     }
+
+pub written-in-capitals : Written-in-capitals
+unfolding written
+written-in-capitals kind address payload w =
+    let b : List ℕ = body kind address payload in
+    record { digits = spelt (b ++ (negated-sum b ∷ [])); starts = refl; capitals = spelt-capitals (b ++ (negated-sum b ∷ [])) (body-bytes kind address payload w) }
+
+-- the address and the checksum are those of the bytes that are written
+pub only-in-capitals : Only-in-capitals
+unfolding written
+only-in-capitals line kind address payload f c =
+    let s = spells-small (f .spells) in
+    let small : f .low < 256 = s .1 .1 .0 in
+    let high : f .high ≡ address / 256 = omega (arith, f .addressed) in
+    let low : f .low ≡ address % 256 = omega (arith, f .addressed) in
+    let same : c .digits ≡ f .digits = let e = sym (c .starts) ∙ f .starts in cc in
+    let k : Every Capital (f .digits) = subst (Every Capital) same (c .capitals) in
+    let last : f .check < 256 = last-small (length payload ∷ f .high ∷ f .low ∷ kind ∷ payload) (f .check) (f .spells) in
+    let check = sums-check (length payload) (f .high) (f .low) kind payload (f .check) last (f .sums) in
+    f .starts ∙ ap (λ (ds : List ℕ). 58 ∷ ds) (spelt-only (f .spells) k ∙ rw (← check, high, low))
 
 -- ---- records
 
@@ -201,7 +262,7 @@ formal-sayable {line} {kind} {address} {payload} f =
     let high : f .high < 256 = s .1 .0 in
     let low : f .low < 256 = s .1 .1 .0 in
     let len : length payload < 256 = s .0 in
-    sayable address payload (f .sized) (omega arith) (omega (arith, f .addressed)) (every-front payload (f .check ∷ []) (s .1 .1 .1 .1))
+    sayable address payload (resize (omega arith) (f .sized)) (omega arith) (omega (arith, f .addressed)) (every-front payload (f .check ∷ []) (s .1 .1 .1 .1))
 
 pub said-is-sayable : Said-is-sayable
 said-is-sayable line kind address payload e = formal-sayable (subst (Stands line) e (stands line))

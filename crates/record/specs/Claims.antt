@@ -10,7 +10,7 @@ use Rattle.record.specs.Line.{says, wrong, named, judge}
 use Rattle.record.specs.Format.{Hex, Format}
 use Rattle.record.specs.Faults.{Is-hex, First-offender, Fault}
 use Rattle.record.specs.Meaning.{Meaning, meaning}
-use Rattle.record.specs.Written.{written, Writable, Sayable, kind-of, address-of, payload-of, line-of}
+use Rattle.record.specs.Written.{written, In-capitals, Writable, Sayable, kind-of, address-of, payload-of, line-of}
 use Rattle.record.specs.declared.Record.{Record}
 use Rattle.record.specs.Record.{RecordType}
 
@@ -46,6 +46,16 @@ abbrev pub Written-in-format : Type 0
 Written-in-format =
     (kind address : ℕ) (payload : List ℕ) → Writable kind address payload
     → Format (written kind address payload) kind address payload
+
+-- it is in capitals
+abbrev pub Written-in-capitals : Type 0
+Written-in-capitals = (kind address : ℕ) (payload : List ℕ) → Writable kind address payload → In-capitals (written kind address payload)
+
+-- and no other line of the format for that type, address and payload is
+abbrev pub Only-in-capitals : Type 0
+Only-in-capitals =
+    (line : List ℕ) (kind address : ℕ) (payload : List ℕ)
+    → Format line kind address payload → In-capitals line → line ≡ written kind address payload
 
 -- the line that is written for a record means that record again
 pub record Read-again (m : Meaning) : Type 0 where

@@ -1,6 +1,8 @@
 -- The line that the writer writes for a record: a colon, then capitals, two to a byte, the checksum last.
 -- Assumes nothing.
 use Prim.Native.Nat.{ℕ, _+_, _/_, _%_, _<_, _≤_}
+use mathlib.Core.Path.{_≡_}
+use mathlib.Core.Logic.{_⊎_}
 use mathlib.Core.Option.{Option, none, some}
 use mathlib.Core.List.{List, [], _∷_, _++_}
 use lib.Dec.{ltb}
@@ -85,3 +87,13 @@ Sayable (extended-segment n) = n < 65536
 Sayable (start-segment cs ip) = (cs < 65536) × (ip < 65536)
 Sayable (extended-linear n) = n < 65536
 Sayable (start-linear n) = n < 4294967296
+
+-- a digit that is not a small letter: 0 to 9, or A to F
+abbrev pub Capital : ℕ → Type 0
+Capital c = ((48 ≤ c) × (c ≤ 57)) ⊎ ((65 ≤ c) × (c ≤ 70))
+
+-- a line that has only such digits after its colon
+pub record In-capitals (line : List ℕ) : Type 0 where
+  pub digits : List ℕ
+  pub starts : line ≡ 58 ∷ digits
+  pub capitals : Every Capital digits

@@ -14,13 +14,14 @@ use Rattle.record.specs.Record.{Inside, meant}
 use Rattle.record.specs.Meaning.{Meaning}
 use Rattle.record.specs.Line.{says, judge}
 use Rattle.record.specs.Written.{written, kind-of, address-of, payload-of, line-of, Sayable}
-use Rattle.record.proofs.Writing.{written-in-format, written-plain, writable, reads-back, said-is-sayable, fields-again, every-front}
+use Rattle.record.proofs.Writing.{written-in-format, written-in-capitals, only-in-capitals, written-plain, writable, reads-back, said-is-sayable, fields-again, every-front}
 use Rattle.record.proofs.Claims.{admits}
 use Rattle.record.proofs.Spelling.{spells-small}
-use Rattle.writer.specs.Line.{line-refusal, line, ended-line}
+use Rattle.writer.specs.Line.{line-refusal, line, ended-line, line-text}
 use Rattle.writer.specs.Object.{joined-lines, object}
-use Rattle.writer.specs.Claims.{In-range, Line-in-format, Canonical, Line-injective, Line-plain, Object-injective, Examples}
+use Rattle.writer.specs.Claims.{In-range, Line-in-format, Line-for, Writes-line, One-line, Canonical, Line-injective, Line-plain, Text-for, no-line, then-line, Writes-text, One-text, Object-injective, Examples}
 use Rattle.record.proofs.Parts.{part-length}
+use Rattle.writer.proofs.Answers.{stands-there}
 use Rattle.writer.proofs.Records.{fine-data}
 use Rattle.writer.proofs.Objects.{unless-chars, object-whole}
 
@@ -48,11 +49,30 @@ sayable (StartSegmentAddress cs ip) pool i b f = i
 sayable (ExtendedLinearAddress a) pool i b f = i
 sayable (StartLinearAddress a) pool i b f = i
 
+-- its line is in the format, and in capitals
+line-for : (r : Record) (pool : List ℕ) → In-range r → Every Byte pool → line-refusal r (length pool) ≡ none → Line-for r pool (line r pool)
+line-for r pool i b f =
+    let m = meant r pool in
+    let w = writable m (sayable r pool i b f) in
+    record { formal = written-in-format (kind-of m) (address-of m) (payload-of m) w; capitals = written-in-capitals (kind-of m) (address-of m) (payload-of m) w }
+
 pub line-in-format : Line-in-format
 line-in-format r pool cs i b e =
     let p = unless-chars (line-refusal r (length pool)) (line r pool) cs e in
+    rw (p .1) (line-for r pool i b (p .0) .formal)
+
+pub writes-line : Writes-line
+writes-line r pool out n out′ i b w =
+    let s = stands-there (line-text r pool) out n out′ w .0 in
+    let p = unless-chars (line-refusal r (length pool)) (line r pool) (take n out′) s in
+    rw (p .1) (line-for r pool i b (p .0))
+
+-- both are the line that is written
+pub one-line : One-line
+one-line r pool l l′ f f′ =
     let m = meant r pool in
-    rw (p .1) (written-in-format (kind-of m) (address-of m) (payload-of m) (writable m (sayable r pool i b (p .0))))
+    only-in-capitals l (kind-of m) (address-of m) (payload-of m) (f .formal) (f .capitals)
+    ∙ sym (only-in-capitals l′ (kind-of m) (address-of m) (payload-of m) (f′ .formal) (f′ .capitals))
 
 pub line-plain : Line-plain
 line-plain r pool = written-plain (kind-of (meant r pool)) (address-of (meant r pool)) (payload-of (meant r pool))
@@ -128,6 +148,23 @@ same-lines (r ∷ rs) (r′ ∷ rs′) pool pool′ (i, is) (i′, is′) b b′
     ap₂ (λ (m : Meaning) (ms : List Meaning). m ∷ ms)
     (same-meaning (meant r pool) (meant r′ pool′) (sayable r pool i b f) (sayable r′ pool′ i′ b′ f′) (p .0))
     (same-lines rs rs′ pool pool′ is is′ b b′ fs fs′ (p .1))
+
+-- records that have their lines have a text
+text-for : (rs : List Record) (pool : List ℕ) → Every In-range rs → Every Byte pool → Every (λ r. line-refusal r (length pool) ≡ none) rs → Text-for pool rs (joined-lines rs pool)
+unfolding joined-lines
+text-for [] pool i b f = no-line
+text-for (r ∷ rs) pool (i, is) b (f, fs) =
+    rw append-assoc (then-line (line r pool) (joined-lines rs pool) (line-for r pool i b f) (text-for rs pool is b fs))
+
+pub writes-text : Writes-text
+writes-text rs pool out n out′ i b w =
+    let t = object-whole rs pool (take n out′) (stands-there (object rs pool) out n out′ w .0) in
+    rw (t .lined) (text-for rs pool i b (t .fine))
+
+pub one-text : One-text
+one-text _ pool _ _ no-line no-line = refl
+one-text _ pool _ _ (then-line {r} {rs} l rest f s) (then-line l′ rest′ f′ s′) =
+    ap₂ (λ (x y : List ℕ). x ++ (10 ∷ y)) (one-line r pool l l′ f f′) (one-text rs pool rest rest′ s s′)
 
 pub object-injective : Object-injective
 object-injective rs rs′ pool pool′ cs i i′ b b′ e e′ =

@@ -6,6 +6,7 @@ pub mod Unique
 pub mod Objects
 pub mod Surveying
 pub mod Stepping
+pub mod Reasons
 pub mod Claims
 pub mod Taking
 pub mod Again

@@ -16,7 +16,7 @@ use Rattle.record.specs.Record.{meant, Inside}
 use Rattle.record.specs.Meaning.{meaning}
 use Rattle.record.specs.Line.{says, judge}
 use Rattle.record.specs.Format.{Format}
-use Rattle.record.specs.Written.{written, kind-of, address-of, payload-of}
+use Rattle.record.specs.Written.{written, kind-of, address-of, payload-of, In-capitals}
 use Rattle.writer.specs.declared.WriterError.{WriterError}
 use Rattle.writer.specs.declared.Written.{Written}
 use Rattle.writer.specs.declared.Written.the-variants.{Wrote, Refused}
@@ -47,6 +47,21 @@ abbrev pub Line-in-format : Type 0
 Line-in-format =
     (r : Record) (pool cs : List ℕ) → In-range r → Every Byte pool → line-text r pool ≡ chars cs
     → Format cs (kind-of (meant r pool)) (address-of (meant r pool)) (payload-of (meant r pool))
+
+-- a line of the format that says the record, in capitals, with the address 0000 for all but data
+pub record Line-for (r : Record) (pool l : List ℕ) : Type 0 where
+  pub formal : Format l (kind-of (meant r pool)) (address-of (meant r pool)) (payload-of (meant r pool))
+  pub capitals : In-capitals l
+
+-- the first n bytes that `to_record_string` leaves are such a line
+abbrev pub Writes-line : Type 0
+Writes-line =
+    (r : Record) (pool out : List ℕ) (n : ℕ) (out′ : List ℕ) → In-range r → Every Byte pool
+    → ToRecordString r pool out (Wrote n) out′ → Line-for r pool (take n out′)
+
+-- and there is no second one
+abbrev pub One-line : Type 0
+One-line = (r : Record) (pool l l′ : List ℕ) → Line-for r pool l → Line-for r pool l′ → l ≡ l′
 
 -- a line that says a record, written again: the same type, address and payload, in capitals, with 0000 for all but data
 abbrev pub Canonical : Type 0
@@ -92,6 +107,21 @@ Object-whole = (rs : List Record) (pool cs : List ℕ) → object rs pool ≡ ch
 -- and such a list has it: it is refused by none of 11 to 14. Which one another list gets, `object` says
 abbrev pub Whole-object : Type 0
 Whole-object = (rs : List Record) (pool cs : List ℕ) → Whole rs pool cs → object rs pool ≡ chars cs
+
+-- a text that has such a line for each record, in order, and one LF after each
+pub data Text-for (pool : List ℕ) : List Record → (t : List ℕ) → Type 0 where
+  no-line : Text-for pool [] []
+  then-line : {r : Record} {rs : List Record} (l rest : List ℕ) → Line-for r pool l → Text-for pool rs rest → Text-for pool (r ∷ rs) (l ++ (10 ∷ rest))
+
+-- the first n bytes that a writer of an object leaves are such a text
+abbrev pub Writes-text : Type 0
+Writes-text =
+    (rs : List Record) (pool out : List ℕ) (n : ℕ) (out′ : List ℕ) → Every In-range rs → Every Byte pool
+    → WriteObject rs pool out (Wrote n) out′ → Text-for pool rs (take n out′)
+
+-- and there is no second one
+abbrev pub One-text : Type 0
+One-text = (rs : List Record) (pool t t′ : List ℕ) → Text-for pool rs t → Text-for pool rs t′ → t ≡ t′
 
 -- two lists with the same text are the same, payloads and all
 abbrev pub Object-injective : Type 0

@@ -5,3 +5,4 @@ pub mod Object
 pub mod Survey
 pub mod Helpers
 pub mod Claims
+pub mod Reasons

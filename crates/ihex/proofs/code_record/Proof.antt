@@ -69,7 +69,7 @@ returns-3 : tie.Need-returns-3
 returns-3 c = search needs
 
 returns-4 : tie.Need-returns-4
-returns-4 c = search needs
+returns-4 c = rw (c .before .before .given3 .given .1, c .four4 .ensures) (record { code-is = refl; a-is = refl; b-is = refl; c-is = refl })
 
 returns-5 : tie.Need-returns-5
 returns-5 c = search needs

@@ -48,7 +48,7 @@ returns-5 c = rw (c .if5 .taken, le-leb _ _ (c .before .before .if3 .left))
 
 returns-6 : tie.Need-returns-6
 unfolding record-of
-returns-6 c = rw (c .if6 .taken, le-leb _ _ (c .before .before .before .if3 .left))
+returns-6 c = rw (c .if6 .taken, le-leb _ _ (c .before .before .before .if3 .left)) refl
 
 returns-7 : tie.Need-returns-7
 unfolding record-of

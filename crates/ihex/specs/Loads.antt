@@ -1,0 +1,59 @@
+-- What is claimed of `ihex_load`, in its numbers: demand 3 of document 01, and why it returns what it returns.
+-- Assumes nothing.
+use Prim.Native.Nat.{ℕ, _+_, _<_}
+use mathlib.Core.Path.{_≡_}
+use mathlib.Core.Logic.{_≢_}
+use mathlib.Core.Option.{some}
+use mathlib.Core.List.{List}
+use lib.ListN.{length, getD}
+use Rattle.reader.specs.Lines.{through}
+use Rattle.loader.specs.Load.{Verdict, by, stopping, placements}
+use Rattle.loader.specs.Claims.{Place, Why}
+use Rattle.ihex.specs.Codes.{OK, value, loading, line-at}
+use Rattle.ihex.specs.Entries.{IhexLoad}
+
+-- demand 3, first half: of two texts that are the same through the LF of the line at which the first load stops, into windows of the same
+-- lengths, the same is returned, whatever follows that LF and whatever page and marks held; and if it is IHEX_OK, the marks are the same,
+-- and the bytes at marked places
+abbrev pub Ihex-non-interference : Type 0
+Ihex-non-interference =
+    (text₁ text₂ : List ℕ) (first : ℕ) (page₁ marks₁ page₂ marks₂ : List ℕ)
+    → length page₁ ≡ length page₂ → length marks₁ ≡ length marks₂
+    → (line : ℕ) (v : Verdict) → stopping text₁ first page₁ marks₁ ≡ some (by line v)
+    → (head : List ℕ) → through line text₁ ≡ some head → through line text₂ ≡ some head
+    → (r₁ l₁ a₁ b₁ : ℕ) (p₁ m₁ : List ℕ) (r₂ l₂ a₂ b₂ : ℕ) (p₂ m₂ : List ℕ)
+    → IhexLoad text₁ first page₁ marks₁ r₁ l₁ a₁ b₁ p₁ m₁ → IhexLoad text₂ first page₂ marks₂ r₂ l₂ a₂ b₂ p₂ m₂
+    → ((r₁ ≡ r₂) × (l₁ ≡ l₂) × (a₁ ≡ a₂) × (b₁ ≡ b₂))
+    × (r₁ ≡ OK → (m₁ ≡ m₂) × ((i : ℕ) → getD m₁ i 0 ≡ 1 → getD p₁ i 0 ≡ getD p₂ i 0))
+
+-- demand 3, second half: of one load that returns IHEX_OK, at each place of the window. The mark is 1 exactly where a data record before the
+-- end record states a byte, and there the page holds what the last such record states; else it is 0, and the page keeps its byte
+abbrev pub Ihex-what-is-stored : Type 0
+Ihex-what-is-stored =
+    (text : List ℕ) (first : ℕ) (page marks : List ℕ) (l a b : ℕ) (p m : List ℕ) → IhexLoad text first page marks OK l a b p m
+    → (i : ℕ) → i < length page → Place (placements text) (first + i) (getD page i 0) (getD m i 0) (getD p i 0)
+
+-- a refusal changes no byte of the page and no mark
+abbrev pub Ihex-load-keeps : Type 0
+Ihex-load-keeps =
+    (text : List ℕ) (first : ℕ) (page marks : List ℕ) (r l a b : ℕ) (p m : List ℕ) → IhexLoad text first page marks r l a b p m → r ≢ OK
+    → (p ≡ page) × (m ≡ marks)
+
+-- a verdict, in the numbers of a load
+pub record In-load-numbers (v : Verdict) (r line a b : ℕ) : Type 0 where
+  pub code-is : r ≡ loading v .code
+  pub line-is : line ≡ line-at v
+  pub a-is : a ≡ value (loading v) 0
+  pub b-is : b ≡ value (loading v) 1
+
+-- what is returned has a reason in the text's lines and the window, and nothing else has one
+pub record Reasoned (text : List ℕ) (first : ℕ) (page marks : List ℕ) (r line a b : ℕ) : Type 0 where
+  pub verdict : Verdict
+  pub why : Why text first page marks verdict
+  pub told : In-load-numbers verdict r line a b
+  pub only : (v : Verdict) → Why text first page marks v → v ≡ verdict
+
+abbrev pub Ihex-load-reasons : Type 0
+Ihex-load-reasons =
+    (text : List ℕ) (first : ℕ) (page marks : List ℕ) (r l a b : ℕ) (p m : List ℕ) → IhexLoad text first page marks r l a b p m
+    → Reasoned text first page marks r l a b
