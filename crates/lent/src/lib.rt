@@ -1,5 +1,6 @@
 // The two lent forms, a reader that holds its text and an object from a lent list, called with values: their callers need no proof by hand.
 use reader::Reader;
+use reader::ReaderOptions;
 use reader::Reply;
 use reader::State;
 use reader::Step;
@@ -9,7 +10,7 @@ ghost use Prim.Native.Nat.{_≤_};
 ghost use lib.ListN.{take};
 ghost use Rattle.reader.specs.Text.{Next};
 ghost use Rattle.writer.specs.Object.{WriteObject};
-ghost use Rattle.lent.specs.Lent.{FirstRecord};
+ghost use Rattle.lent.specs.Lent.{FirstRecord, NthOf};
 
 // How many records an array has.
 const MOST: usize = 64;
@@ -31,6 +32,24 @@ pub fn next_of(text: &[u8], state: State, pool: &mut [u8], at: usize) -> Step
     Step {
         reply,
         state: reader.state,
+    }
+}
+
+// The answer of a text after n others, and where the reading stands then. One reader is asked n times and once more, with the same pool and position.
+pub fn nth_of(text: &[u8], options: ReaderOptions, pool: &mut [u8], at: usize, n: usize) -> Step
+    ensures { λ r. ⌜ NthOf options (now (text .entry)) (now (pool .entry)) at n r (now (pool .exit)) ⌝ }
+{
+    let mut reader = Reader::new_with_options(text, options);
+    let mut i = 0;
+    loop {
+        let reply = reader.next(pool, at);
+        if i >= n {
+            return Step {
+                reply,
+                state: reader.state,
+            };
+        }
+        i += 1;
     }
 }
 

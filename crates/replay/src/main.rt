@@ -11,8 +11,9 @@
 // A record is its type, two numbers, and the position and the length of its payload. The first number
 // is the offset of data and the number of types 02 to 05 (of 03: CS, and the second is IP). Bit 0 of
 // the flags is stop_after_first_error, bit 1 stop_after_eof. With bit 2 the first answer alone is told,
-// with both stops on. Texts are read by a reader that holds them, and an object is written from a lent
-// list, of at most 64 records.
+// with both stops on. A text is read by a reader that holds it. For each answer one reader is opened, and
+// asked in a loop from the first answer up to that one. An object is written from a lent list, of at most
+// 64 records.
 //
 // A lent buffer holds one byte in each place before the call: pool EE, output DD, page CC, marks AA.
 // Behind an answer stand ` | ` and the whole buffer; behind one of M the page, and then the marks. A
@@ -47,6 +48,9 @@ use writer::WriterError;
 use writer::Written;
 ghost use mathlib.Core.Path.{_≡_};
 ghost use lib.ListN.{length};
+
+// How many answers of a text are printed at most.
+const MOST_ANSWERS: usize = 40;
 
 // Puts a byte at n, if there is room, and answers where the next one goes.
 fn put(out: &mut [u8], n: usize, b: u8) -> usize {
@@ -282,13 +286,12 @@ fn line_case(text: &[u8]) {
     read_into(front(&bytes, k), size.value as usize, place.value as usize);
 }
 
-// At the beginning of a text, with the stops that the flags name.
-fn begin(flags: u64) -> State {
-    let options = ReaderOptions {
+// The stops that the flags name.
+fn options_of(flags: u64) -> ReaderOptions {
+    ReaderOptions {
         stop_after_first_error: flags % 2 == 1,
         stop_after_eof: flags / 2 % 2 == 1,
-    };
-    State::new_with_options(options)
+    }
 }
 
 // Prints a reply, and answers whether the row goes on behind it.
@@ -325,30 +328,31 @@ fn read_more(text: &[u8], state: State) {
     say_line(behind.line);
 }
 
-// The answers of a text from a state on, and the state behind them.
-fn read_row(text: &[u8], pool: &mut [u8], start: State) -> State {
-    let mut state = start;
-    let mut turns: u64 = 40;
-    while turns > 0 {
-        let step = lent::next_of(text, state, pool, 0);
+// The answers of a text, and the state after them. Each is the last answer of one reader, which has given all answers before it.
+fn read_row(text: &[u8], pool: &mut [u8], options: ReaderOptions) -> State {
+    let mut state = State::new_with_options(options);
+    let mut n = 0;
+    while n < MOST_ANSWERS {
+        preset(pool, 0xEE);
+        let step = lent::nth_of(text, options, pool, 0, n);
         let reply = step.reply;
-        let behind = step.state;
+        state = step.state;
         let more = say_reply(reply);
-        say_line(behind.line);
+        say_line(state.line);
         say(b" | ");
         say_bytes(pool);
         say(b"; ");
-        state = behind;
         if !more {
             break;
         }
-        turns -= 1;
+        n += 1;
     }
     state
 }
 
 // The first answer of a text.
 fn read_first(text: &[u8], pool: &mut [u8]) {
+    preset(pool, 0xEE);
     let reply = lent::first_record(text, pool, 0);
     say_reply(reply);
     say(b" | ");
@@ -356,12 +360,11 @@ fn read_first(text: &[u8], pool: &mut [u8]) {
 }
 
 fn read_text(text: &[u8], pool: &mut [u8], flags: u64) {
-    preset(pool, 0xEE);
     if flags / 4 % 2 == 1 {
         read_first(text, pool);
         return;
     }
-    let state = read_row(text, pool, begin(flags));
+    let state = read_row(text, pool, options_of(flags));
     read_more(text, state);
 }
 

@@ -1,5 +1,6 @@
 //! The two lent forms, a reader that holds its text and an object from a lent list. C cannot call
-//! them; the proved program `replay` does, and is given cases by chance here.
+//! them; the proved program `replay` does, and is given cases by chance here. It asks one reader in a
+//! loop for each answer of a text.
 
 use std::env;
 use std::fs::{self, File, OpenOptions};

@@ -399,6 +399,8 @@ pub struct Outcome {
     pub report: Report,
     /// How many cases of each form were compared, and how many were passed over.
     pub told: String,
+    /// How many were passed over.
+    pub over: usize,
 }
 
 impl List {
@@ -482,6 +484,7 @@ impl List {
                 time: start.elapsed(),
             },
             told: self.told(&given),
+            over: self.cases.len() - given.len(),
         }
     }
 }

@@ -90,6 +90,7 @@ fn what_is_no_case_is_passed_over_and_kept() {
         (14, 0)
     );
     assert!(outcome.told.ends_with("; 10 passed over"));
+    assert_eq!(outcome.over, 10);
     assert_eq!(list.answered().answers, list.answers);
 }
 

@@ -1,10 +1,10 @@
 -- `lent::object_of` meets its contract: an array has 64 records, so its first 64 are the first n where n is more.
 -- Assumes nothing.
-use Prim.Native.Nat.{_≤_}
+use Prim.Native.Nat.{ℕ, _≤_, _<_}
 use mathlib.Core.Path.{sym, _∙_, subst}
 use mathlib.Core.List.{List}
 use native.Mathlib.Omega.{arith}
-use lib.ListN.{length}
+use lib.ListN.{length, take}
 use lib.Seq.{take-all}
 use denote.Ref.{now}
 use borrow.Author.Needs.{needs}
@@ -19,14 +19,16 @@ write-front-requires c κs = search needs
 same-length : tie.Need-same-length
 same-length c = search needs
 
+-- a front that has all records is every longer one
+same-front : {m n : ℕ} (all : List Record) (P : List Record → Type 0) → m < n → length all ≤ m → P (take m all) → P (take n all)
+same-front {m} {n} all P more few p = subst P (take-all m all few ∙ sym (take-all n all (omega (arith, few, more)))) p
+
 returns : tie.Need-returns
 returns c =
     let s = c .before .before .before .before .before .before .before in
-    let all = s .args .records in
-    let few : length all ≤ 64 = omega (arith, s .good .0) in
     let w = c .before .before .write-front in
-    subst (λ (rs : List Record). WriteObject rs (now (s .args .pool)) (now (s .args .out)) (w .result) (w .last .1 .1 .1 .0))
-    (take-all 64 all few ∙ sym (take-all (s .args .n) all (omega (arith, c .before .before .before .before .if1 .taken)))) (w .ensures)
+    same-front (s .args .records) (λ (rs : List Record). WriteObject rs (now (s .args .pool)) (now (s .args .out)) (w .result) (w .last .1 .1 .1 .0))
+    (c .before .before .before .before .if1 .taken) (omega (arith, s .good .0)) (w .ensures)
 
 write-front-requires-2 : tie.Need-write-front-requires-2
 write-front-requires-2 c κs = search needs

@@ -1,5 +1,6 @@
--- `replay::read_row` is safe and ends: the pool keeps its length, and the measure is the number of turns that are left.
+-- `replay::read_row` is safe and ends: the pool keeps its length, and the measure is the number of answers that are left.
 -- Assumes nothing.
+use Prim.Native.Nat.{_-_}
 use lib.ListN.{length}
 use mathlib.Core.Path.{_≡_}
 use borrow.Author.Needs.{needs}
@@ -7,16 +8,22 @@ use Rattle.replay.proofs.read_row.Statement.{statement}
 use Rattle.replay.proofs.read_row.Tie as tie
 
 abbrev Inv-loop : tie.InvT-loop
-Inv-loop text pool₀ state₀ turns₀ t10 t11 pool state turns = length pool ≡ length pool₀
+Inv-loop text pool₀ options state₀ n₀ t9 t10 pool state n = length pool ≡ length pool₀
 
 abbrev μ-loop : tie.MeasureT-loop
-μ-loop text pool₀ state₀ turns₀ t10 t11 pool state turns = turns
+μ-loop text pool₀ options state₀ n₀ t9 t10 pool state n = 40 - n
+
+new-with-options-requires : tie.Need-new-with-options-requires Inv-loop μ-loop
+new-with-options-requires c κs = search needs
 
 loop-holds : tie.Need-loop-holds Inv-loop μ-loop
 loop-holds c = search needs
 
-next-of-requires : tie.Need-next-of-requires Inv-loop μ-loop
-next-of-requires c κs = search needs
+preset-requires : tie.Need-preset-requires Inv-loop μ-loop
+preset-requires c κs = search needs
+
+nth-of-requires : tie.Need-nth-of-requires Inv-loop μ-loop
+nth-of-requires c κs = search needs
 
 say-reply-requires : tie.Need-say-reply-requires Inv-loop μ-loop
 say-reply-requires c κs = search needs
@@ -39,8 +46,8 @@ slice-aggregate-say-2 c = search needs
 say-requires-2 : tie.Need-say-requires-2 Inv-loop μ-loop
 say-requires-2 c κs = search needs
 
-sub-turns : tie.Need-sub-turns Inv-loop μ-loop
-sub-turns c = search needs
+add-n : tie.Need-add-n Inv-loop μ-loop
+add-n c = search needs
 
 loop-less : tie.Need-loop-less Inv-loop μ-loop
 loop-less c = search needs
@@ -66,8 +73,10 @@ read-row-spec =
     (tie.spec
     Inv-loop
     μ-loop
+    new-with-options-requires
     loop-holds
-    next-of-requires
+    preset-requires
+    nth-of-requires
     say-reply-requires
     say-line-requires
     slice-aggregate-say
@@ -75,7 +84,7 @@ read-row-spec =
     say-bytes-requires
     slice-aggregate-say-2
     say-requires-2
-    sub-turns
+    add-n
     loop-less
     loop-again
     same-length
