@@ -1,5 +1,6 @@
 #!/usr/bin/env python3
-"""Runs the built program ihexfollow on texts that come in pieces, and compares what it prints to the byte. `rt check ihexfollow` builds it.
+"""Runs the built program ihexfollow, and the script ./follow that starts it, on texts that come in pieces, and compares what they print to
+the byte. `rt check ihexfollow` builds the program; the script runs with a stand-in for the checker.
 
 The expected listings are written out by hand, or made by the model of the reader in model.py. A piece is sent when the program has
 taken the one before it. The last line is 'N passed, M failed'; the exit status is 1 if any failed.
@@ -17,7 +18,7 @@ import time
 import tty
 
 import model
-from programs import ROOT, command, end, told
+from programs import DEV_FULL, ROOT, children, command, end, helps, in_shell, proves, ran, refuses, says, started, stops, told, with_stub
 
 SECONDS = 30
 MOMENT = 0.02
@@ -28,8 +29,8 @@ COMMAND = command('ihexfollow')
 class Run:
     """The program, with what it has printed so far."""
 
-    def __init__(self, **files):
-        self.child = subprocess.Popen(COMMAND, stdin=subprocess.PIPE, stdout=subprocess.PIPE, stderr=subprocess.PIPE, bufsize=0, **files)
+    def __init__(self, words=COMMAND, **files):
+        self.child = subprocess.Popen(words, stdin=subprocess.PIPE, stdout=subprocess.PIPE, stderr=subprocess.PIPE, bufsize=0, **files)
         self.ends = time.monotonic() + SECONDS
         self.printed, self.closed = b'', False
         os.set_blocking(self.child.stdin.fileno(), False)
@@ -87,9 +88,9 @@ class Run:
         return self.child.wait(), errors
 
 
-def tried(name, body, statuses=(0,)):
+def tried(name, body, statuses=(0,), **files):
     """`body`, on a run of the program, answers '' or what is wrong; the program ends well."""
-    run = Run()
+    run = Run(**files)
     try:
         why = body(run)
     except TimeoutError:
@@ -286,14 +287,20 @@ def stopped(run):
     return differ(run.finish(), b'records\nD 0000 41\nE\n2 answers\n')
 
 
-def from_terminal(name, pieces):
-    """A terminal in raw mode, as a serial line is, with the end record last, where one can be had."""
+def from_terminal(name, pieces, words=COMMAND, already=b'', tenths=None):
+    """A terminal in raw mode, as a serial line is, where one can be had, with `already` sent before the program starts. The end record
+    comes last, or a pause where the line is set to return after one of so many tenths of a second."""
     try:
         line, mine = pty.openpty()
     except OSError:
-        return print('passed over, there is no terminal: %s' % name)
+        return print('-- passed over: %s: there is no terminal' % name)
     tty.setraw(mine)
-    child = subprocess.Popen(COMMAND, stdin=mine, stdout=subprocess.PIPE)
+    if tenths is not None:
+        modes = termios.tcgetattr(mine)
+        modes[6][termios.VMIN], modes[6][termios.VTIME] = 0, tenths
+        termios.tcsetattr(mine, termios.TCSANOW, modes)
+    os.write(line, already)
+    child = subprocess.Popen(words, stdin=mine, stdout=subprocess.PIPE, env=with_stub(), cwd=ROOT)
     os.close(mine)
     for piece in pieces:
         os.write(line, piece)
@@ -304,11 +311,12 @@ def from_terminal(name, pieces):
         child.kill()
         printed = child.communicate()[0]
     os.close(line)
-    why = differ(printed, model.listing(b''.join(pieces)))
+    why = differ(printed, model.listing(already + b''.join(pieces)))
     told(name, not why, why)
 
 
 from_terminal('a terminal line', cut(DATA + b'\r\n\r\n:00\r\n' + FULL + b'\r\n' + END + b'\r\n', 61))
+from_terminal('a pause inside a line, where the line returns after one, is the end of the input', [], already=DATA + b'\r\n' + DATA[:5], tenths=1)
 tried('an answer is printed before the next piece', at_once)
 tried('two lines and a half', two_lines_and_a_half, (0, -9))
 tried('the end record ends the program while its input is open', end_record(b''))
@@ -316,14 +324,6 @@ tried('what stands behind the end record is not shown', end_record(old))
 tried('a program that was stopped goes on', stopped)
 
 # ---- standard input and output that are slow, closed or broken: the program ends
-
-
-def ends(name, ok, **files):
-    try:
-        run = subprocess.run(COMMAND, timeout=SECONDS, stderr=subprocess.DEVNULL, **files)
-    except subprocess.TimeoutExpired:
-        return told(name, False, 'no end within %d s' % SECONDS)
-    told(name, ok(run), 'status %d, wrote %r' % (run.returncode, (run.stdout or b'')[:60]))
 
 
 def broken(run):
@@ -355,10 +355,56 @@ def slow(run):
 
 tried('a broken pipe', broken, (0, -13, 141))
 tried('a slow reader', slow)
-ends('a closed standard input', lambda run: run.stdout == b'records\n0 answers\n', stdout=subprocess.PIPE, preexec_fn=lambda: os.close(0))
-ends('a directory as standard input', lambda run: run.stdout == b'records\n0 answers\n', stdin=os.open(ROOT, os.O_RDONLY), stdout=subprocess.PIPE)
-ends('a closed standard output', lambda run: run.returncode == 0, input=EXAMPLE, preexec_fn=lambda: os.close(1))
-if os.path.exists('/dev/full'):
-    ends('a full device', lambda run: run.returncode == 0, input=EXAMPLE, stdout=open('/dev/full', 'wb'))
+ran('a closed standard input', in_shell('<&-', COMMAND), 0, b'records\n', b'cannot read\n')
+ran('a folder as standard input', COMMAND, 0, b'records\n', b'cannot read\n', stdin=os.open(ROOT, os.O_RDONLY))
+ran('a closed standard output', in_shell('>&-', COMMAND), 0, b'', b'cannot write\n', input=EXAMPLE)
+if DEV_FULL:
+    ran('a full device', in_shell('>' + DEV_FULL, COMMAND), 0, b'', b'cannot write\n', input=EXAMPLE)
+
+
+def breaks_off(name, text, expected, then):
+    """An input that does not wait fails where nothing is there: what was printed so far stays, and no count follows."""
+    reads, writes = os.pipe()
+    os.set_blocking(reads, False)
+    os.write(writes, text)
+    ran(name, COMMAND, 0, expected, then, stdin=reads)
+    os.close(reads)
+    os.close(writes)
+
+
+breaks_off('a read that fails inside a line', DATA + b'\nx\n' + DATA[:5], b'records\nD 0000 41\n! 1\n', b'cannot read\n')
+breaks_off('a read that would fail after the end record', DATA + b'\n' + END + b'\n', b'records\nD 0000 41\nE\n2 answers\n', b'')
+
+# ---- the exit status, and the script ./follow that ends with it
+
+for name, text, status in [
+        ('an end record alone', END + b'\n', 0), ('records and an end record', TANK, 0), ('an end record without LF', END, 0), ('empty lines', b'\n\r\n' + END + b'\n\n', 0),
+        ('a refused line after the end record', END + b'\nx\n', 0), ('a refused line', b'x\n' + END + b'\n', 1), ('a refused line and no end record', b'x', 1),
+        ('no end record', DATA + b'\n', 1), ('an end record that is refused', b':00000001FE\n', 1), ('an empty input', b'', 1), ('65,537 bytes', b'\n' * 65537 + END, 0)]:
+    says(name, COMMAND, text, b'%d' % status)
+    started(name, ['./follow'], status, model.listing(text), input=text)
+says('a folder', in_shell('<samples', COMMAND), None, b'2')
+if DEV_FULL:
+    says('a full device', in_shell('>' + DEV_FULL, COMMAND), EXAMPLE, b'2')
+started('a file by its name', ['./follow', 'samples/tank.hex'], 2, b'', b'usage: ./follow < DEVICE\n')
+refuses('./follow', b'records\n')
+helps('./follow', [b'usage: SENDER | ./follow, or ./follow < DEVICE', b'A read of nothing is the end of the input.', b'`stty min 0 time N`', b'`stty min 1 time 0 -icanon`',
+                   b'0 every line is a record, and there is an end record', b'1 a line was refused, or there is no end record',
+                   b'2 the input cannot be read, the output cannot be written, or the usage is wrong'])
+proves('ihexfollow', ['checksum', 'record', 'reader', 'chunks', 'listing', 'ihexfollow'])
+
+
+def reading(child, notes):
+    """The program, once it has printed its first line."""
+    return children(child.pid) if child.stdout.read(8) == b'records\n' else None
+
+
+for number in (signal.SIGINT, signal.SIGTERM, signal.SIGHUP):
+    stops('./follow, stopped by signal %d while it reads' % number, ['./follow'], number, reading, stdin=subprocess.PIPE)
+
+# through the script too, each answer is printed before the next piece, and its standard input is the program's
+tried('./follow prints an answer before the next piece', at_once, (1,), words=['./follow'], env=with_stub(), cwd=ROOT)
+tried('./follow ends at the end record while its input is open', end_record(b''), words=['./follow'], env=with_stub(), cwd=ROOT)
+from_terminal('./follow on a terminal line', cut(DATA + b'\r\n\r\n:00\r\n' + FULL + b'\r\n' + END + b'\r\n', 61), ['./follow'])
 
 end()

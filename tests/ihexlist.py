@@ -1,5 +1,6 @@
 #!/usr/bin/env python3
-"""Runs the built program ihexlist and compares what it prints to the byte. `rt check ihexlist` builds it.
+"""Runs the built program ihexlist, and the script ./list that starts it, and compares what they print to the byte. `rt check ihexlist`
+builds the program; the script runs with a stand-in for the checker.
 
 The expected listings are written out by hand, or made by the model of the reader in model.py, which knows no code of the program.
 The last line is 'N passed, M failed'; the exit status is 1 if any failed.
@@ -8,7 +9,7 @@ import os
 import subprocess
 
 import model
-from programs import ROOT, command, end, told
+from programs import DEV_FULL, ROOT, command, end, helps, in_shell, proves, ran, refuses, says, started, told
 
 LIMIT = 65536
 SECONDS = 60
@@ -181,11 +182,11 @@ def in_pieces(name, text, size):
 
 in_pieces('input in pieces of 7 bytes', new + old, 7)
 in_pieces('input in pieces of 4,097 bytes', exact, 4097)
-ends('a closed standard input', lambda run: run.stdout == b'records\n0 answers\n', stdout=subprocess.PIPE, preexec_fn=lambda: os.close(0))
-ends('a directory as standard input', lambda run: run.stdout == b'records\n0 answers\n', stdin=os.open(ROOT, os.O_RDONLY), stdout=subprocess.PIPE)
-ends('a closed standard output', lambda run: run.returncode == 0, input=EXAMPLE, preexec_fn=lambda: os.close(1))
-if os.path.exists('/dev/full'):
-    ends('a full device', lambda run: run.returncode == 0, input=EXAMPLE, stdout=open('/dev/full', 'wb'))
+ran('a closed standard input', in_shell('<&-', COMMAND), 0, b'', b'cannot read\n')
+ran('a folder as standard input', COMMAND, 0, b'', b'cannot read\n', stdin=os.open(ROOT, os.O_RDONLY))
+ran('a closed standard output', in_shell('>&-', COMMAND), 0, b'', b'cannot write\n', input=EXAMPLE)
+if DEV_FULL:
+    ran('a full device', in_shell('>' + DEV_FULL, COMMAND), 0, b'', b'cannot write\n', input=EXAMPLE)
 
 # nobody reads the other end: the write fails or the signal SIGPIPE ends the program, and neither hangs
 reads, writes = os.pipe()
@@ -221,5 +222,26 @@ while True:
     got += piece
 os.close(reads)
 told('a slow reader', got == listing(b'x\n' * (LIMIT // 2)) and child.wait(timeout=SECONDS) == 0)
+
+# ---- the exit status, and the script ./list that ends with it
+
+TOO_LONG = b'\n' * (LIMIT + 1)
+for name, text, status in [
+        ('an end record alone', END + b'\n', 0), ('records and an end record', TANK, 0), ('an end record without LF', END, 0), ('empty lines', b'\n\r\n' + END + b'\n\n', 0),
+        ('a refused line after the end record', END + b'\nx\n', 0), ('a refused line', b'x\n' + END + b'\n', 1), ('a refused line and no end record', b'x', 1),
+        ('no end record', b':0100000041BE\n', 1), ('an end record that is refused', b':00000001FE\n', 1), ('an empty input', b'', 1), ('65,537 bytes', TOO_LONG, 2)]:
+    says(name, COMMAND, text, b'%d' % status)
+    started(name, ['./list'], status, listing(text), input=text)
+says('a folder', in_shell('<samples', COMMAND), None, b'2')
+if DEV_FULL:
+    says('a full device', in_shell('>' + DEV_FULL, COMMAND), EXAMPLE, b'2')
+started('a file', ['./list', 'samples/tank.hex'], 0, listing(TANK), stdin=subprocess.DEVNULL)
+started('a folder by its name', ['./list', 'samples'], 2, b'', b'cannot read\n')
+started('a file that is not there', ['./list', 'no/such file'], 2, b'', b'cannot read no/such file\n')
+started('two files', ['./list', 'samples/tank.hex', 'samples/tank.hex'], 2, b'', b'usage: ./list [FILE]\n')
+refuses('./list', b'')
+helps('./list', [b'usage: ./list [FILE]', b'more than 65,536 bytes is not listed', b'0 every line is a record, and there is an end record',
+                 b'1 a line was refused, or there is no end record', b'2 the input cannot be read or is too long, the output cannot be written, or the usage is wrong'])
+proves('ihexlist', ['checksum', 'record', 'reader', 'listing', 'ihexlist'])
 
 end()

@@ -3,15 +3,26 @@ use chunks::ChunkReply;
 use chunks::ChunkStep;
 use chunks::Chunks;
 use listing::Listed;
-use reader::ReaderOptions;
+use listing::Verdict;
 use reader::Reply;
+ghost use mathlib.Core.Path.{_≡_};
+ghost use Rattle.ihexfollow.specs.Replies.{reply-of, is-answer, is-used-up, Asks, Begins};
 
-// Where the reader stands behind so many answers, whether the input may hold more, and whether the output takes them.
+// Where the exit status is written, as one digit. A program has no other way to say it.
+const STATUS_FILENO: i32 = 3;
+
+// The exit status where the input cannot be read or the output cannot be written.
+const FAILED: u8 = 2;
+
+// Where the reader stands, what the answers so far come to and how many there are, whether the input may hold more, whether every
+// read went well, and whether every write did.
 struct Progress {
     state: Chunks,
+    verdict: Verdict,
     count: usize,
     more: bool,
-    open: bool,
+    read: bool,
+    written: bool,
 }
 
 // Prints what was listed, and answers whether that went well.
@@ -46,7 +57,9 @@ fn say_last(count: usize) -> bool {
 }
 
 // The reply that is printed; "done" where there is none.
-fn reply_of(reply: ChunkReply) -> Reply {
+fn reply_of(reply: ChunkReply) -> Reply
+    ensures { λ r. ⌜ r ≡ reply-of reply ⌝ }
+{
     match reply {
         ChunkReply::Read(given) => Reply::Read(given),
         ChunkReply::Refused(e) => Reply::Refused(e),
@@ -57,7 +70,9 @@ fn reply_of(reply: ChunkReply) -> Reply {
 }
 
 // Whether a reply is printed.
-fn is_answer(reply: ChunkReply) -> bool {
+fn is_answer(reply: ChunkReply) -> bool
+    ensures { λ r. ⌜ r ≡ is-answer reply ⌝ }
+{
     match reply {
         ChunkReply::Read(_) => true,
         ChunkReply::Refused(_) => true,
@@ -68,7 +83,9 @@ fn is_answer(reply: ChunkReply) -> bool {
 }
 
 // Whether the next chunk is asked for.
-fn is_used_up(reply: ChunkReply) -> bool {
+fn is_used_up(reply: ChunkReply) -> bool
+    ensures { λ r. ⌜ r ≡ is-used-up reply ⌝ }
+{
     match reply {
         ChunkReply::UsedUp => true,
         ChunkReply::Read(_) => false,
@@ -79,7 +96,9 @@ fn is_used_up(reply: ChunkReply) -> bool {
 }
 
 // Asks for the next answer of a chunk. One of no bytes says that the input has ended.
-fn ask(state: Chunks, chunk: &[u8], carry: &mut [u8], pool: &mut [u8]) -> ChunkStep {
+fn ask(state: Chunks, chunk: &[u8], carry: &mut [u8], pool: &mut [u8]) -> ChunkStep
+    ensures { λ r. ⌜ Asks state (now (chunk .entry)) (now (carry .entry)) (now (pool .entry)) r (now (carry .exit)) (now (pool .exit)) ⌝ }
+{
     if chunk.len() == 0 {
         return state.finish(carry, pool, 0);
     }
@@ -89,52 +108,75 @@ fn ask(state: Chunks, chunk: &[u8], carry: &mut [u8], pool: &mut [u8]) -> ChunkS
 // Prints the answers of a chunk. The turns are counted down from a number that no run uses up.
 fn take(start: Progress, chunk: &[u8], carry: &mut [u8], pool: &mut [u8]) -> Progress {
     let mut state = start.state;
+    let mut verdict = start.verdict;
     let mut count = start.count;
     let mut turns = u64::MAX;
     while turns > 0 {
         let step = ask(state, chunk, carry, pool);
         let reply = step.reply;
-        let behind = step.state;
-        state = behind;
+        let next = step.state;
+        state = next;
         if !is_answer(reply) {
             return Progress {
                 state,
+                verdict,
                 count,
                 more: is_used_up(reply),
-                open: true,
+                read: true,
+                written: true,
             };
         }
-        if !say_reply(reply_of(reply), pool) {
+        let answer = reply_of(reply);
+        if !say_reply(answer, pool) {
             break;
         }
+        verdict = listing::verdict_after(verdict, answer);
         count = std::num::wrapping_add_usize(count, 1);
         turns -= 1;
     }
     Progress {
         state,
+        verdict,
         count,
         more: false,
-        open: false,
+        read: true,
+        written: false,
     }
 }
 
-// Reads once, as much as is there, and prints its answers. A read that fails ends the input.
+// Reads once, as much as is there, and prints its answers. A read of no bytes is the input's end.
 fn read_on(start: Progress, carry: &mut [u8], pool: &mut [u8]) -> Progress {
     let mut chunk = io::buffer();
     let got = libc::read(libc::STDIN_FILENO, &mut chunk);
+    if got < 0 {
+        let state = start.state;
+        let verdict = start.verdict;
+        return Progress {
+            state,
+            verdict,
+            count: start.count,
+            more: false,
+            read: false,
+            written: true,
+        };
+    }
     let n = io::count(got, &chunk);
     take(start, &chunk[..n], carry, pool)
 }
 
-fn begin() -> Progress {
+fn begin() -> Progress
+    ensures { λ r. ⌜ Begins r ⌝ }
+{
     Progress {
-        state: Chunks::new_with_options(ReaderOptions {
-            stop_after_first_error: false,
-            stop_after_eof: true,
-        }),
+        state: Chunks::new_with_options(listing::listing_options()),
+        verdict: Verdict {
+            faulty: false,
+            ended: false,
+        },
         count: 0,
         more: true,
-        open: true,
+        read: true,
+        written: true,
     }
 }
 
@@ -152,14 +194,42 @@ fn follow(carry: &mut [u8], pool: &mut [u8]) -> Progress {
     progress
 }
 
-fn main() {
+// Says on standard error what failed, and returns the exit status for that.
+fn fail(what: &[u8]) -> u8
+    ensures { λ r. ⌜ r ≡ 2 ⌝ }
+{
+    io::write_all(libc::STDERR_FILENO, what);
+    FAILED
+}
+
+// Prints the listing, and returns its exit status.
+fn show() -> u8 {
     if !say_first() {
-        return;
+        return fail(b"cannot write\n");
     }
     let mut carry = io::buffer();
     let mut pool = io::buffer();
     let end = follow(&mut carry, &mut pool);
-    if end.open {
-        say_last(end.count);
+    if !end.read {
+        return fail(b"cannot read\n");
     }
+    if !end.written {
+        return fail(b"cannot write\n");
+    }
+    if !say_last(end.count) {
+        return fail(b"cannot write\n");
+    }
+    let verdict = end.verdict;
+    listing::exit_status(verdict)
+}
+
+// Writes the exit status where the program was started with an argument. Without one, descriptor 3 may be somebody else's.
+fn tell(status: u8) {
+    if os::arg_count() > 1 {
+        io::write_all(STATUS_FILENO, &[std::num::wrapping_add_u8(b'0', status)]);
+    }
+}
+
+fn main() {
+    tell(show());
 }

@@ -10,7 +10,7 @@ use Rattle.listing.specs.declared.Listed.{Listed}
 use Rattle.listing.specs.declared.Listed.the-variants.{Wrote, NoRoom}
 use Rattle.listing.specs.Listing.{listing}
 use Rattle.listing.specs.Listed.{Told, wrote, no-room, told, Writes}
-use Rattle.listing.specs.Claims.{Example, Example-place, List-unique, List-reply-unique, List-first-unique, List-last-unique, Shown-as-listed, Room-for-each}
+use Rattle.listing.specs.Claims.{Example, Example-place, List-unique, List-reply-unique, List-first-unique, List-last-unique, Shown-as-listed, Room-for-each, Listing-options-unique, Verdict-after-unique, Exit-status-unique, Text-status-unique}
 use Rattle.listing.proofs.Turning.{spoken}
 
 pub example : Example
@@ -51,3 +51,15 @@ shown-as-listed line pool reply pool′ a = spoken pool (a .size) reply pool′ 
 
 pub room-for-each : Room-for-each
 room-for-each line pool reply pool′ out a = spoken pool (a .size) reply pool′ line (judge line) refl (a .tells) (a .holds) .room out
+
+pub listing-options-unique : Listing-options-unique
+listing-options-unique r r′ x y = x .answer ∙ sym (y .answer)
+
+pub verdict-after-unique : Verdict-after-unique
+verdict-after-unique verdict reply r r′ x y = x .answer ∙ sym (y .answer)
+
+pub exit-status-unique : Exit-status-unique
+exit-status-unique verdict r r′ x y = x .answer ∙ sym (y .answer)
+
+pub text-status-unique : Text-status-unique
+text-status-unique input r r′ x y = x .answer ∙ sym (y .answer)

@@ -3,6 +3,7 @@ pub mod Decimal
 pub mod Entry
 pub mod Sizes
 pub mod Turning
+pub mod Judging
 pub mod Whole
 pub mod Lines
 pub mod Claims

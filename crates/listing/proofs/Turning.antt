@@ -34,17 +34,20 @@ use Rattle.reader.proofs.Stays.{never-done}
 use Rattle.listing.specs.Listing.{record-entry, refusal-entry, entry, ended, shown, entries, listing-options, answers}
 use Rattle.listing.specs.Listed.{record-room, reply-room}
 use Rattle.listing.specs.Helpers.{Puts, is-done, Lies, Fits-in, EntriesPut}
+use Rattle.listing.specs.declared.Verdict.{Verdict}
+use Rattle.listing.specs.Status.{after-record, after-said, after-reply}
 use Rattle.listing.proofs.Putting.{put-none, put-then, put-as}
 use Rattle.listing.proofs.Entry.{not-full}
 use Rattle.reader.proofs.Texts.{lines-few, cut-behind}
 
 -- ---- one reply
 
--- a reply that tells what is said, with the pool behind it: never PoolFull, shown as what is said, as much the last, and with room in 542 bytes
+-- a reply that tells what is said, with the pool behind it: never PoolFull, shown and judged as what is said, as much the last, and with room in 542 bytes
 pub record Spoken (said : Said) (n : ℕ) (reply : Reply) (pool′ : List ℕ) : Type 0 where
   pub taken : is-full (answered said n 0) ≡ false
   pub last : ends-row listing-options (answered said n 0) ≡ stops listing-options said
   pub shows : shown reply pool′ ≡ ended (entry said)
+  pub judged : (verdict : Verdict) → after-reply verdict reply ≡ after-said verdict said
   pub lies : Lies reply pool′
   pub room : (out : ℕ) → 542 ≤ out → reply-room reply (length pool′) out ≡ true
 
@@ -68,6 +71,7 @@ module _ (pool : List ℕ) (size : 255 ≤ length pool) (reply : Reply) (pool′
             taken = ne-eqb (number-of r) 10 (λ q. omega arith);
             last = refl;
             shows = ap (λ (x : Refusal). ended (refusal-entry x)) same;
+            judged = λ verdict. refl;
             lies = tt;
             room = λ out h. le-leb 32 out (omega arith);
           }
@@ -78,6 +82,7 @@ module _ (pool : List ℕ) (size : 255 ≤ length pool) (reply : Reply) (pool′
     pub taken : is-full (given m (length pool) 0) ≡ false
     pub last : ends-row listing-options (given m (length pool) 0) ≡ is-end m && true
     pub shows : shown reply pool′ ≡ ended (record-entry m)
+    pub judged : (verdict : Verdict) → after-reply verdict reply ≡ after-record verdict (is-end m)
     pub lies : Lies reply pool′
     pub room : (out : ℕ) → 542 ≤ out → reply-room reply (length pool′) out ≡ true
 
@@ -96,31 +101,32 @@ module _ (pool : List ℕ) (size : 255 ≤ length pool) (reply : Reply) (pool′
         taken = rw w;
         last = rw w;
         shows = ap₂ shown e q ∙ ap (λ (bs : List ℕ). ended (record-entry (data-at offset bs))) (take-append-seam bytes (drop (0 + length bytes) pool));
+        judged = λ verdict. ap (after-reply verdict) e;
         lies = subst (λ (x : Reply). Lies x pool′) (sym e) (subst (λ (x : List ℕ). 0 + length bytes ≤ length x) (sym q) (omega arith));
         room = λ out h. ap (λ (x : Reply). reply-room x (length pool′) out) e ∙ rw (le-leb (0 + length bytes) (length pool′) (omega (arith, ap length q))) (le-leb (2 * length bytes + 32) out (omega arith));
       }
   meant-as end-of-file s t p =
       let e = reply-is reply EndOfFile t in
-      record { taken = refl; last = refl; shows = ap (λ (x : Reply). shown x pool′) e; lies = subst (λ (x : Reply). Lies x pool′) (sym e) tt; room = plain _ (λ out. refl) e }
+      record { taken = refl; last = refl; shows = ap (λ (x : Reply). shown x pool′) e; judged = λ verdict. ap (after-reply verdict) e; lies = subst (λ (x : Reply). Lies x pool′) (sym e) tt; room = plain _ (λ out. refl) e }
   meant-as (extended-segment number) s t p =
       let e = reply-is reply (ExtendedSegmentAddress number) t in
-      record { taken = refl; last = refl; shows = ap (λ (x : Reply). shown x pool′) e; lies = subst (λ (x : Reply). Lies x pool′) (sym e) tt; room = plain _ (λ out. refl) e }
+      record { taken = refl; last = refl; shows = ap (λ (x : Reply). shown x pool′) e; judged = λ verdict. ap (after-reply verdict) e; lies = subst (λ (x : Reply). Lies x pool′) (sym e) tt; room = plain _ (λ out. refl) e }
   meant-as (start-segment cs ip) s t p =
       let e = reply-is reply (StartSegmentAddress cs ip) t in
-      record { taken = refl; last = refl; shows = ap (λ (x : Reply). shown x pool′) e; lies = subst (λ (x : Reply). Lies x pool′) (sym e) tt; room = plain _ (λ out. refl) e }
+      record { taken = refl; last = refl; shows = ap (λ (x : Reply). shown x pool′) e; judged = λ verdict. ap (after-reply verdict) e; lies = subst (λ (x : Reply). Lies x pool′) (sym e) tt; room = plain _ (λ out. refl) e }
   meant-as (extended-linear number) s t p =
       let e = reply-is reply (ExtendedLinearAddress number) t in
-      record { taken = refl; last = refl; shows = ap (λ (x : Reply). shown x pool′) e; lies = subst (λ (x : Reply). Lies x pool′) (sym e) tt; room = plain _ (λ out. refl) e }
+      record { taken = refl; last = refl; shows = ap (λ (x : Reply). shown x pool′) e; judged = λ verdict. ap (after-reply verdict) e; lies = subst (λ (x : Reply). Lies x pool′) (sym e) tt; room = plain _ (λ out. refl) e }
   meant-as (start-linear number) s t p =
       let e = reply-is reply (StartLinearAddress number) t in
-      record { taken = refl; last = refl; shows = ap (λ (x : Reply). shown x pool′) e; lies = subst (λ (x : Reply). Lies x pool′) (sym e) tt; room = plain _ (λ out. refl) e }
+      record { taken = refl; last = refl; shows = ap (λ (x : Reply). shown x pool′) e; judged = λ verdict. ap (after-reply verdict) e; lies = subst (λ (x : Reply). Lies x pool′) (sym e) tt; room = plain _ (λ out. refl) e }
 
   pub spoken : (line : List ℕ) (said : Said) → judge line ≡ said → told-reply reply ≡ answered said (length pool) 0 → pool′ ≡ poured said pool 0 → Spoken said (length pool) reply pool′
   unfolding answered poured stops entry
   spoken line (wrong r) j t p = spoken-wrong line r j t
   spoken line (says kind address payload) j t p =
       let m = meant-as (meaning kind address payload) (said-is-sayable line kind address payload j) t p in
-      record { taken = m .taken; last = m .last; shows = m .shows; lies = m .lies; room = m .room }
+      record { taken = m .taken; last = m .last; shows = m .shows; judged = m .judged; lies = m .lies; room = m .room }
 
 -- ---- one call
 
@@ -128,36 +134,50 @@ module _ (pool : List ℕ) (size : 255 ≤ length pool) (reply : Reply) (pool′
 abbrev pub left : State → (input : List ℕ) → List Numbered
 left s input = through-stop listing-options (unread s input)
 
+-- the reader of a listing on its way, with a pool that has room for every payload
+pub record Under-way (input pool : List ℕ) (s : State) : Type 0 where
+  pub same-options : s .options ≡ listing-options
+  pub countable : Countable s input
+  pub pool-size : length pool ≡ 256
+
+pub first-way : (input pool : List ℕ) (s : State) → s ≡ new-state listing-options → length pool ≡ 256 → length input < 2 ^ 64 → Under-way input pool s
+first-way input pool s e p h = rw e (record { same-options = refl; countable = omega (arith, lines-few input .0); pool-size = p })
+
 -- a call that answered: one saying is shown, and the rest is left
 pub record Shown (input : List ℕ) (s : State) (reply : Reply) (s′ : State) (pool′ : List ℕ) : Type 0 where
   pub said : Said
   pub n : ℕ
   pub listed : left s input ≡ on n said ∷ left s′ input
   pub shows : shown reply pool′ ≡ ended (entry said)
+  pub judged : (verdict : Verdict) → after-reply verdict reply ≡ after-said verdict said
   pub lies : Lies reply pool′
-  pub same-options : s′ .options ≡ listing-options
-  pub countable : Countable s′ input
+  pub on-way : (pool : List ℕ) → length pool ≡ 256 → Under-way input pool s′
 
-module _ (input : List ℕ) (s : State) (pool : List ℕ) (size : 255 ≤ length pool) (opts : s .options ≡ listing-options) (small : Countable s input)
+module _ (input : List ℕ) (s : State) (pool : List ℕ) (way : Under-way input pool s)
     (step : Step) (pool′ : List ℕ) (met : Meets (outcome s input pool 0) step pool′) where
   heard-said : (n : ℕ) (said : Said) (more : List Numbered) → unread s input ≡ on n said ∷ more → Shown input s (step .reply) (step .state) pool′
   unfolding through-stop
   heard-said n said more u =
-      let h = heard s input pool 0 small n said more u in
+      let h = heard s input pool 0 (way .countable) n said more u in
       let j = unread-judged s input n said more u in
-      let p = spoken pool size (step .reply) pool′ (j .0) said (j .1) (met .answer ∙ h .tells) (met .left ∙ h .poured-in) in
+      let p = spoken pool (omega (arith, way .pool-size)) (step .reply) pool′ (j .0) said (j .1) (met .answer ∙ h .tells) (met .left ∙ h .poured-in) in
       let rest : unread (step .state) input ≡ (if stops listing-options said then [] else more) =
       ap (λ (x : State). unread x input) (met .state) ∙ h .left (p .taken)
-      ∙ ap (λ (o : _). if ends-row o (answered said (length pool) 0) then [] else more) opts
+      ∙ ap (λ (o : _). if ends-row o (answered said (length pool) 0) then [] else more) (way .same-options)
       ∙ ap (λ (b : Bool). if b then [] else more) (p .last) in
       record {
         said = said;
         n = n;
         listed = ap (through-stop listing-options) u ∙ ap (λ (l : List Numbered). on n said ∷ l) (cut-behind listing-options (stops listing-options said) more ∙ sym (ap (through-stop listing-options) rest));
         shows = p .shows;
+        judged = p .judged;
         lies = p .lies;
-        same-options = ap (λ (x : State). x .options) (met .state) ∙ h .options ∙ opts;
-        countable = subst (λ (x : State). Countable x input) (sym (met .state)) (h .countable);
+        on-way = λ pool z.
+            record {
+              same-options = ap (λ (x : State). x .options) (met .state) ∙ h .options ∙ way .same-options;
+              countable = subst (λ (x : State). Countable x input) (sym (met .state)) (h .countable);
+              pool-size = z;
+            };
       }
 
   pub turned : is-done (step .reply) ≡ false → Shown input s (step .reply) (step .state) pool′
@@ -169,7 +189,7 @@ module _ (input : List ℕ) (s : State) (pool : List ℕ) (size : 255 ≤ length
       not-done Done d e = let z : _≡_ {A = ℕ} 0 1 = cc in omega arith
 
       go : (u : List Numbered) → unread s input ≡ u → Shown input s (step .reply) (step .state) pool′
-      go [] u = absurd (not-done (step .reply) d (met .answer ∙ finished s input pool 0 small u .tells))
+      go [] u = absurd (not-done (step .reply) d (met .answer ∙ finished s input pool 0 (way .countable) u .tells))
       go (on n said ∷ more) u = heard-said n said more u
 
   pub ran-out : is-done (step .reply) ≡ true → left s input ≡ []
@@ -184,7 +204,7 @@ module _ (input : List ℕ) (s : State) (pool : List ℕ) (size : 255 ≤ length
       go : (u : List Numbered) → unread s input ≡ u → left s input ≡ []
       go [] u = ap (through-stop listing-options) u
       go (on n said ∷ more) u =
-          absurd (never-done said (length pool) 0 (sym (heard s input pool 0 small n said more u .tells) ∙ sym (met .answer) ∙ is-told (step .reply) d))
+          absurd (never-done said (length pool) 0 (sym (heard s input pool 0 (way .countable) n said more u .tells) ∙ sym (met .answer) ∙ is-told (step .reply) d))
 
 -- ---- the loop
 
@@ -194,25 +214,21 @@ pub record Turn (input out₀ : List ℕ) (at : ℕ) (out pool : List ℕ) (s : 
   pub puts : Puts out₀ at written place out
   pub whole : written ++ entries (left s input) ≡ entries (answers input)
   pub counted : count + length (left s input) ≡ length (answers input)
-  pub same-options : s .options ≡ listing-options
-  pub countable : Countable s input
+  pub way : Under-way input pool s
   pub kept-length : length out ≡ length out₀
-  pub pool-size : length pool ≡ 256
 
 pub turn-first : (input out : List ℕ) (at : ℕ) (pool : List ℕ) (s : State) → s ≡ new-state listing-options → length pool ≡ 256 → length input < 2 ^ 64 → Turn input out at out pool s at 0
 unfolding unread row entries
 turn-first input out at pool s e p h =
-    rw e
-    (record {
+    let n : left s input ≡ answers input = ap (λ (x : State). left x input) e in
+    record {
       written = [];
       puts = put-none out at;
-      whole = refl;
-      counted = omega arith;
-      same-options = refl;
-      countable = omega (arith, lines-few input .0);
+      whole = ap entries n;
+      counted = omega (arith, ap length n);
+      way = first-way input pool s e p h;
       kept-length = refl;
-      pool-size = p;
-    })
+    }
 
 module _ (input out₀ : List ℕ) (at : ℕ) (out pool : List ℕ) (s : State) (place count : ℕ) (t : Turn input out₀ at out pool s place count)
     (room : at + length (entries (answers input)) ≤ length out₀) where
@@ -251,8 +267,6 @@ module _ (input out₀ : List ℕ) (at : ℕ) (out pool : List ℕ) (s : State) 
           puts = put-then out₀ at (omega (arith, all-length, room)) (t .puts) p;
           whole = all;
           counted = turn-count;
-          same-options = h .same-options;
-          countable = h .countable;
+          way = h .on-way pool′ z;
           kept-length = k ∙ t .kept-length;
-          pool-size = z;
         }

@@ -1,18 +1,24 @@
--- What is claimed of the listing beyond the contracts, and proved in `proofs/Claims.antt` and `proofs/Whole.antt`.
+-- What is claimed of the listing beyond the contracts, and proved in `proofs/Claims.antt`, `proofs/Whole.antt` and `proofs/Judging.antt`.
 -- Assumes nothing.
-use Prim.Native.Nat.{ℕ, _+_, _*_, _≤_}
+use Prim.Native.Nat.{ℕ, _+_, _*_, _≤_, _<_}
 use mathlib.Core.Path.{_≡_}
+use mathlib.Core.Logic.{_⊎_, _↔_}
 use mathlib.Core.Bool.{true}
-use mathlib.Core.List.{List, [], _++_}
+use mathlib.Core.List.{List, [], _∷_, _++_}
 use lib.ListN.{length}
-use Rattle.record.specs.Common.{text}
-use Rattle.record.specs.Line.{judge}
+use Rattle.record.specs.Common.{Every, text}
+use Rattle.record.specs.Line.{says, judge}
+use Rattle.reader.specs.declared.ReaderOptions.{ReaderOptions}
 use Rattle.reader.specs.declared.Reply.{Reply}
 use Rattle.reader.specs.Answer.{answered, poured}
+use Rattle.reader.specs.Lines.{lines}
+use Rattle.reader.specs.Row.{Numbered, on, sayings}
 use Rattle.reader.specs.Text.{told-reply}
 use Rattle.listing.specs.declared.Listed.{Listed}
-use Rattle.listing.specs.Listing.{entry, ended, shown, listing}
+use Rattle.listing.specs.declared.Verdict.{Verdict}
+use Rattle.listing.specs.Listing.{entry, ended, shown, answers, listing}
 use Rattle.listing.specs.Listed.{reply-room, Lists, ListsReply, ListsFirst, ListsLast}
+use Rattle.listing.specs.Status.{row-status, text-status, no-line, after-said, verdict-from, status-of, after-reply, ListingOptions, VerdictAfter, ExitStatus, TextStatus}
 
 -- document 01's example
 abbrev pub Example : Type 0
@@ -54,3 +60,52 @@ Shown-as-listed = (line pool : List ℕ) (reply : Reply) (pool′ : List ℕ) �
 -- an output of 542 bytes has room for it
 abbrev pub Room-for-each : Type 0
 Room-for-each = (line pool : List ℕ) (reply : Reply) (pool′ : List ℕ) (out : ℕ) → Answers line pool reply pool′ → 542 ≤ out → reply-room reply (length pool′) out ≡ true
+
+-- ---- the exit status
+
+-- a line with a record
+pub data Is-record : Numbered → Type 0 where
+  a-record : {n kind address : ℕ} {payload : List ℕ} → Is-record (on n (says kind address payload))
+
+-- records, and then an end record, whatever follows
+pub record Reaches-end (sayings : List Numbered) : Type 0 where
+  pub before : List Numbered
+  pub n : ℕ
+  pub address : ℕ
+  pub payload : List ℕ
+  pub rest : List Numbered
+  pub cut : sayings ≡ before ++ (on n (says 1 address payload) ∷ rest)
+  pub records : Every Is-record before
+
+-- the status of a row is 0 exactly where the lines of the text reach an end record with nothing but records before it; else it is 1
+abbrev pub Zero-means : Type 0
+Zero-means = (input : List ℕ) → (row-status (answers input) ≡ 0) ↔ Reaches-end (sayings 1 (lines input))
+
+abbrev pub Zero-or-one : Type 0
+Zero-or-one = (row : List Numbered) → (row-status row ≡ 0) ⊎ (row-status row ≡ 1)
+
+-- that of a whole text is 2 exactly where it is too long, and else that of its row
+abbrev pub Two-means : Type 0
+Two-means = (input : List ℕ) → ((text-status input ≡ 2) ↔ (65536 < length input)) × (length input ≤ 65536 → text-status input ≡ row-status (answers input))
+
+-- one law for a whole text and for one that comes line by line: a reply to a line changes the verdict as what the line says does, and what
+-- a row comes to so, from no line on, is its status
+abbrev pub Verdict-by-reply : Type 0
+Verdict-by-reply =
+    (line pool : List ℕ) (reply : Reply) (pool′ : List ℕ) → Answers line pool reply pool′
+    → (verdict : Verdict) → after-reply verdict reply ≡ after-said verdict (judge line)
+
+abbrev pub Status-by-verdict : Type 0
+Status-by-verdict = (row : List Numbered) → status-of (verdict-from no-line row) ≡ row-status row
+
+abbrev pub Listing-options-unique : Type 0
+Listing-options-unique = (r r′ : ReaderOptions) → ListingOptions r → ListingOptions r′ → r ≡ r′
+
+abbrev pub Verdict-after-unique : Type 0
+Verdict-after-unique = (verdict : Verdict) (reply : Reply) (r r′ : Verdict) → VerdictAfter verdict reply r → VerdictAfter verdict reply r′ → r ≡ r′
+
+abbrev pub Exit-status-unique : Type 0
+Exit-status-unique = (verdict : Verdict) (r r′ : ℕ) → ExitStatus verdict r → ExitStatus verdict r′ → r ≡ r′
+
+abbrev pub Text-status-unique : Type 0
+Text-status-unique = (input : List ℕ) (r r′ : ℕ) → TextStatus input r → TextStatus input r′ → r ≡ r′

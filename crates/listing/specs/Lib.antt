@@ -1,4 +1,5 @@
 pub mod Listing
 pub mod Listed
 pub mod Helpers
+pub mod Status
 pub mod Claims

@@ -12,15 +12,27 @@ ghost use Rattle.record.specs.Record.{meant};
 ghost use Rattle.record.specs.Written.{capital-digit, spelt, two-bytes};
 ghost use Rattle.record.specs.Meaning.{data-at};
 ghost use Rattle.reader.specs.Told.{refusal-of};
-ghost use Rattle.listing.specs.Listing.{decimal, spaced, record-entry, values-shown, refusal-entry, shown, heading, count-line};
+ghost use Rattle.listing.specs.Listing.{decimal, spaced, record-entry, values-shown, refusal-entry, shown, heading, count-line, answers};
 ghost use Rattle.listing.specs.Listed.{text-room, room, record-room, reply-room, Lists, ListsReply, ListsFirst, ListsLast};
 ghost use Rattle.listing.specs.Helpers.{Puts, Printable, Fits-in, is-done, numbered, EntriesPut, HasRoom};
+ghost use Rattle.listing.specs.Status.{no-line, verdict-from, ListingOptions, VerdictAfter, ExitStatus, TextStatus};
 
 // What is answered: how many characters were written, or that the output may be too small.
 pub enum Listed {
     Wrote(usize),
     NoRoom,
 }
+
+// What the answers of a text come to so far.
+pub struct Verdict {
+    // A line was refused.
+    pub faulty: bool,
+    // The last line is an end record.
+    pub ended: bool,
+}
+
+// The longest text that is listed as a whole.
+const LONGEST_TEXT: usize = 65536;
 
 // The place behind the entries, and how many there are.
 struct Entries {
@@ -242,16 +254,23 @@ fn put_reply(reply: Reply, pool: &[u8], out: &mut [u8], at: usize) -> usize
     }
 }
 
+// The listing's two stops: it goes on after a refused line, and stops at an end record.
+pub fn listing_options() -> ReaderOptions
+    ensures { λ r. ⌜ ListingOptions r ⌝ }
+{
+    ReaderOptions {
+        stop_after_first_error: false,
+        stop_after_eof: true,
+    }
+}
+
 // A line for each answer of a reader that stops at an end record and not at a refusal. No payload is longer than the pool.
 fn put_entries(text: &[u8], out: &mut [u8], at: usize) -> Entries
     requires { ⌜ HasRoom (now text) (now out) at ⌝ }
     ensures { λ r. ⌜ EntriesPut (now (text .entry)) (now (out .entry)) at (r .at) (r .count) (now (out .exit)) ⌝ }
 {
     let mut pool = [0u8; 256];
-    let mut state = State::new_with_options(ReaderOptions {
-        stop_after_first_error: false,
-        stop_after_eof: true,
-    });
+    let mut state = State::new_with_options(listing_options());
     let mut place = at;
     let mut count = 0;
     loop {
@@ -344,7 +363,7 @@ pub fn list(text: &[u8], out: &mut [u8]) -> Listed
     if !text_room(text.len(), out.len()) {
         return Listed::NoRoom;
     }
-    if text.len() > 65536 {
+    if text.len() > LONGEST_TEXT {
         return Listed::Wrote(put_text(b"input too long\n", out, 0));
     }
     let first = put_first(out, 0);
@@ -381,4 +400,65 @@ pub fn list_last(count: usize, out: &mut [u8]) -> Listed
         return Listed::NoRoom;
     }
     Listed::Wrote(put_last(count, out, 0))
+}
+
+// What the answers come to with one more reply; "done" changes nothing.
+pub fn verdict_after(verdict: Verdict, reply: Reply) -> Verdict
+    ensures { λ r. ⌜ VerdictAfter verdict reply r ⌝ }
+{
+    match reply {
+        Reply::Read(given) => Verdict {
+            faulty: verdict.faulty,
+            ended: given.record_type() == record::types::END_OF_FILE,
+        },
+        Reply::Refused(_) => Verdict {
+            faulty: true,
+            ended: false,
+        },
+        Reply::Done => verdict,
+    }
+}
+
+// The exit status of a listing: 0 where every line is a record and the last one is an end record, 1 where not.
+pub fn exit_status(verdict: Verdict) -> u8
+    ensures { λ r. ⌜ ExitStatus verdict r ⌝ }
+{
+    if verdict.faulty {
+        return 1;
+    }
+    if verdict.ended {
+        return 0;
+    }
+    1
+}
+
+// What the answers of a whole text come to.
+fn text_verdict(text: &[u8]) -> Verdict
+    ensures { λ r. ⌜ r ≡ verdict-from no-line (answers (now (text .entry))) ⌝ }
+{
+    let mut pool = [0u8; 256];
+    let mut state = State::new_with_options(listing_options());
+    let mut verdict = Verdict {
+        faulty: false,
+        ended: false,
+    };
+    loop {
+        let step = state.next(text, &mut pool, 0);
+        let reply = step.reply;
+        if done(reply) {
+            return verdict;
+        }
+        verdict = verdict_after(verdict, reply);
+        state = step.state;
+    }
+}
+
+// The exit status of the listing of a whole text: 2 where it is too long to be listed.
+pub fn text_status(text: &[u8]) -> u8
+    ensures { λ r. ⌜ TextStatus (now (text .entry)) r ⌝ }
+{
+    if text.len() > LONGEST_TEXT {
+        return 2;
+    }
+    exit_status(text_verdict(text))
 }

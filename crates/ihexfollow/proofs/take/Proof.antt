@@ -7,10 +7,10 @@ use Rattle.ihexfollow.proofs.take.Statement.{statement}
 use Rattle.ihexfollow.proofs.take.Tie as tie
 
 abbrev Inv-loop : tie.InvT-loop
-Inv-loop chunk carry₀ pool₀ state₀ count₀ turns₀ carry pool state count turns = (length carry ≡ length carry₀) × (length pool ≡ length pool₀)
+Inv-loop chunk carry₀ pool₀ state₀ verdict₀ count₀ turns₀ carry pool state verdict count turns = (length carry ≡ length carry₀) × (length pool ≡ length pool₀)
 
 abbrev μ-loop : tie.MeasureT-loop
-μ-loop chunk carry₀ pool₀ state₀ count₀ turns₀ carry pool state count turns = turns
+μ-loop chunk carry₀ pool₀ state₀ verdict₀ count₀ turns₀ carry pool state verdict count turns = turns
 
 loop-holds : tie.Need-loop-holds Inv-loop μ-loop
 loop-holds c = search needs
@@ -38,6 +38,9 @@ reply-of-requires c κs = search needs
 
 say-reply-requires : tie.Need-say-reply-requires Inv-loop μ-loop
 say-reply-requires c κs = search needs
+
+verdict-after-requires : tie.Need-verdict-after-requires Inv-loop μ-loop
+verdict-after-requires c κs = search needs
 
 wrapping-add-usize-requires : tie.Need-wrapping-add-usize-requires Inv-loop μ-loop
 wrapping-add-usize-requires c κs = search needs
@@ -84,6 +87,7 @@ take-spec =
     returns
     reply-of-requires
     say-reply-requires
+    verdict-after-requires
     wrapping-add-usize-requires
     sub-turns
     loop-less

@@ -1,11 +1,7 @@
--- `ihexlist::main` is safe: the part of the input that was read, and the part of the output that was written, lie within their arrays.
+-- `ihexlist::main` is safe: the part of the input that was read lies within its array.
 -- Assumes nothing.
-use Prim.Native.Nat.{_≤_}
 use mathlib.Core.Path.{sym}
-use native.Mathlib.Omega.{arith}
-use lib.ListN.{length}
 use lib.Seq.{length-take-le}
-use Rattle.listing.proofs.Whole.{wrote-inside}
 use borrow.Author.Needs.{needs}
 use Rattle.ihexlist.proofs.main.Statement.{statement}
 use Rattle.ihexlist.proofs.main.Tie as tie
@@ -13,51 +9,35 @@ use Rattle.ihexlist.proofs.main.Tie as tie
 input-requires : tie.Need-input-requires
 input-requires c κs = search needs
 
-slice-aggregate-read-full : tie.Need-slice-aggregate-read-full
-slice-aggregate-read-full c = search needs
+slice-aggregate-read-all : tie.Need-slice-aggregate-read-all
+slice-aggregate-read-all c = search needs
 
-read-full-requires : tie.Need-read-full-requires
-read-full-requires c κs = search needs
+read-all-requires : tie.Need-read-all-requires
+read-all-requires c κs = search needs
 
-output-requires : tie.Need-output-requires
-output-requires c κs = search needs
+slice-aggregate-complain : tie.Need-slice-aggregate-complain
+slice-aggregate-complain c = search needs
+
+complain-requires : tie.Need-complain-requires
+complain-requires c κs = search needs
+
+tell-requires : tie.Need-tell-requires
+tell-requires c κs = search needs
+
+returns : tie.Need-returns
+returns c = search needs
 
 array-share-prefix-text : tie.Need-array-share-prefix-text
 array-share-prefix-text c = search needs
 
-slice-aggregate-list : tie.Need-slice-aggregate-list
-slice-aggregate-list c = search needs
+slice-aggregate-report : tie.Need-slice-aggregate-report
+slice-aggregate-report c = let r = c .before .before .before .read-all in sym (length-take-le (r .result .n) (r .last .0) (r .ensures))
 
-slice-aggregate-list-2 : tie.Need-slice-aggregate-list-2
-slice-aggregate-list-2 c = search needs
+report-requires : tie.Need-report-requires
+report-requires c κs = search needs
 
-list-requires : tie.Need-list-requires
-list-requires c κs = search needs
-
-enum-known-m : tie.Need-enum-known-m
-enum-known-m c = search needs
-
--- what was written lies within the output
-inside : (c : tie.After-known-told) → c .before .m .given .0 .0 ≤ length (c .before .before .before .before .list .last .1 .0)
-inside c =
-    let l = c .before .before .before .before .list in
-    let h = wrote-inside _ _ _ _ _ (l .ensures) (c .before .m .given .1) in
-    omega (arith, l .kept .1 .0)
-
-array-share-prefix-out : tie.Need-array-share-prefix-out
-array-share-prefix-out c = inside c
-
-slice-aggregate-write-all : tie.Need-slice-aggregate-write-all
-slice-aggregate-write-all c = sym (length-take-le (c .before .before .m .given .0 .0) (c .before .before .before .before .before .list .last .1 .0) (inside (c .before)))
-
-write-all-requires : tie.Need-write-all-requires
-write-all-requires c κs = search needs
-
-enum-told : tie.Need-enum-told
-enum-told c = search needs
-
-returns : tie.Need-returns
-returns c = search needs
+tell-requires-2 : tie.Need-tell-requires-2
+tell-requires-2 c κs = search needs
 
 returns-2 : tie.Need-returns-2
 returns-2 c = search needs
@@ -67,17 +47,14 @@ main-spec =
     tie.close
     (tie.spec
     input-requires
-    slice-aggregate-read-full
-    read-full-requires
-    output-requires
-    array-share-prefix-text
-    slice-aggregate-list
-    slice-aggregate-list-2
-    list-requires
-    enum-known-m
-    array-share-prefix-out
-    slice-aggregate-write-all
-    write-all-requires
-    enum-told
+    slice-aggregate-read-all
+    read-all-requires
+    slice-aggregate-complain
+    complain-requires
+    tell-requires
     returns
+    array-share-prefix-text
+    slice-aggregate-report
+    report-requires
+    tell-requires-2
     returns-2)

@@ -4,6 +4,7 @@ use mathlib.Core.Path.{refl, sym, _∙_, ap}
 use native.Mathlib.Omega.{arith}
 use denote.Ref.{now}
 use lib.ListN.{length}
+use Rattle.reader.specs.Text.{new-state}
 use Rattle.listing.proofs.Turning.{left, Shown, Turn, turn-first, turned, ran-out, turn-last, turn-room, turn-count, turn-more}
 use Rattle.listing.proofs.Sizes.{answers-most}
 use borrow.Author.Needs.{needs}
@@ -20,24 +21,27 @@ abbrev μ-loop : tie.MeasureT-loop
 answered : (c : tie.Else1 Inv-loop μ-loop)
     → let n = c .before .before .before .next in
     let t = c .before .before .before .before .before .loop in
-    Shown (now (c .before .before .before .before .before .before .before .before .before .args .text)) (t .state) (n .result .reply) (n .result .state) (n .last .1 .1 .0)
+    Shown (now (c .before .before .before .before .before .before .before .before .before .before .args .text)) (t .state) (n .result .reply) (n .result .state) (n .last .1 .1 .0)
 answered c =
     let t = c .before .before .before .before .before .loop in
     let n = c .before .before .before .next in
-    let a = c .before .before .before .before .before .before .before .before .before .args in
-    turned (now (a .text)) (t .state) (t .pool) (omega (arith, t .inv .pool-size)) (t .inv .same-options) (t .inv .countable) (n .result) (n .last .1 .1 .0) (n .ensures)
+    let a = c .before .before .before .before .before .before .before .before .before .before .args in
+    turned (now (a .text)) (t .state) (t .pool) (t .inv .way) (n .result) (n .last .1 .1 .0) (n .ensures)
     (sym (c .before .«done» .ensures) ∙ c .if1 .left)
+
+listing-options-requires : tie.Need-listing-options-requires Inv-loop μ-loop
+listing-options-requires c κs = search needs
 
 new-with-options-requires : tie.Need-new-with-options-requires Inv-loop μ-loop
 new-with-options-requires c κs = search needs
 
 loop-holds : tie.Need-loop-holds Inv-loop μ-loop
 loop-holds c =
-    let a = c .before .before .before .args in
-    turn-first (now (a .text)) (now (a .out)) (a .at) _ (c .new-with-options .result) (c .new-with-options .ensures .answer) refl (omega arith)
+    let a = c .before .before .before .before .args in
+    turn-first (now (a .text)) (now (a .out)) (a .at) _ (c .new-with-options .result) (c .new-with-options .ensures .answer ∙ ap new-state (c .before .listing-options .ensures .answer)) refl (omega arith)
 
 slice-aggregate-next : tie.Need-slice-aggregate-next Inv-loop μ-loop
-slice-aggregate-next c = omega (arith, c .before .loop .inv .pool-size)
+slice-aggregate-next c = omega (arith, c .before .loop .inv .way .pool-size)
 
 next-requires : tie.Need-next-requires Inv-loop μ-loop
 next-requires c κs = search needs
@@ -50,35 +54,35 @@ same-length c = search needs
 
 returns : tie.Need-returns Inv-loop μ-loop
 returns c =
-    let a = c .before .before .before .before .before .before .before .before .before .args in
+    let a = c .before .before .before .before .before .before .before .before .before .before .args in
     let t = c .before .before .before .before .before .loop in
     let n = c .before .before .before .next in
-    turn-last (now (a .text)) (now (a .out)) (a .at) (t .out) (t .pool) (t .state) (t .place) (t .count) (t .inv) (c .before .before .before .before .before .before .before .before .before .pre .room)
-    (ran-out (now (a .text)) (t .state) (t .pool) (omega (arith, t .inv .pool-size)) (t .inv .same-options) (t .inv .countable) (n .result) (n .last .1 .1 .0) (n .ensures) (sym (c .before .done .ensures) ∙ c .if1 .taken))
+    turn-last (now (a .text)) (now (a .out)) (a .at) (t .out) (t .pool) (t .state) (t .place) (t .count) (t .inv) (c .before .before .before .before .before .before .before .before .before .before .pre .room)
+    (ran-out (now (a .text)) (t .state) (t .pool) (t .inv .way) (n .result) (n .last .1 .1 .0) (n .ensures) (sym (c .before .done .ensures) ∙ c .if1 .taken))
 
 slice-aggregate-put-reply : tie.Need-slice-aggregate-put-reply Inv-loop μ-loop
 slice-aggregate-put-reply c = search needs
 
 put-reply-requires : tie.Need-put-reply-requires Inv-loop μ-loop
 put-reply-requires c κs =
-    let a = c .before .before .before .before .before .before .before .before .before .before .before .args in
+    let a = c .before .before .before .before .before .before .before .before .before .before .before .before .args in
     let t = c .before .before .before .before .before .before .before .loop in
     let n = c .before .before .before .before .before .next in
     let h = answered (c .before .before) in
-    turn-room (now (a .text)) (now (a .out)) (a .at) (t .out) (t .pool) (t .state) (t .place) (t .count) (t .inv) (c .before .before .before .before .before .before .before .before .before .before .before .pre .room) (n .result .reply) (n .result .state) (n .last .1 .1 .0) h
+    turn-room (now (a .text)) (now (a .out)) (a .at) (t .out) (t .pool) (t .state) (t .place) (t .count) (t .inv) (c .before .before .before .before .before .before .before .before .before .before .before .before .pre .room) (n .result .reply) (n .result .state) (n .last .1 .1 .0) h
 
 add-count : tie.Need-add-count Inv-loop μ-loop
 add-count c =
-    let a = c .before .before .before .before .before .before .before .before .before .before .before .before .before .before .before .args in
+    let a = c .before .before .before .before .before .before .before .before .before .before .before .before .before .before .before .before .args in
     let t = c .before .before .before .before .before .before .before .before .before .before .before .loop in
     let n = c .before .before .before .before .before .before .before .before .before .next in
     let h = answered (c .before .before .before .before .before .before) in
-    let k = turn-count (now (a .text)) (now (a .out)) (a .at) (t .out) (t .pool) (t .state) (t .place) (t .count) (t .inv) (c .before .before .before .before .before .before .before .before .before .before .before .before .before .before .before .pre .room) (n .result .reply) (n .result .state) (n .last .1 .1 .0) h in
-    omega (arith, answers-most (now (a .text)), c .before .before .before .before .before .before .before .before .before .before .before .before .before .before .before .pre .small)
+    let k = turn-count (now (a .text)) (now (a .out)) (a .at) (t .out) (t .pool) (t .state) (t .place) (t .count) (t .inv) (c .before .before .before .before .before .before .before .before .before .before .before .before .before .before .before .before .pre .room) (n .result .reply) (n .result .state) (n .last .1 .1 .0) h in
+    omega (arith, answers-most (now (a .text)), c .before .before .before .before .before .before .before .before .before .before .before .before .before .before .before .before .pre .small)
 
 loop-less : tie.Need-loop-less Inv-loop μ-loop
 loop-less c =
-    let a = c .before .before .before .before .before .before .before .before .before .before .before .before .before .before .before .args in
+    let a = c .before .before .before .before .before .before .before .before .before .before .before .before .before .before .before .before .args in
     let t = c .before .before .before .before .before .before .before .before .before .before .before .loop in
     let n = c .before .before .before .before .before .before .before .before .before .next in
     let h = answered (c .before .before .before .before .before .before) in
@@ -86,13 +90,13 @@ loop-less c =
 
 loop-again : tie.Need-loop-again Inv-loop μ-loop
 loop-again c =
-    let a = c .before .before .before .before .before .before .before .before .before .before .before .before .before .before .before .args in
+    let a = c .before .before .before .before .before .before .before .before .before .before .before .before .before .before .before .before .args in
     let t = c .before .before .before .before .before .before .before .before .before .before .before .loop in
     let n = c .before .before .before .before .before .before .before .before .before .next in
     let h = answered (c .before .before .before .before .before .before) in
     let p = c .before .before .before .put-reply in
-    turn-more (now (a .text)) (now (a .out)) (a .at) (t .out) (t .pool) (t .state) (t .place) (t .count) (t .inv) (c .before .before .before .before .before .before .before .before .before .before .before .before .before .before .before .pre .room) (n .result .reply) (n .result .state) (n .last .1 .1 .0) h
-    (p .last .1 .1 .0) (p .result) (p .ensures) (p .kept .1 .1 .0) (n .kept .1 .1 .0 ∙ t .inv .pool-size)
+    turn-more (now (a .text)) (now (a .out)) (a .at) (t .out) (t .pool) (t .state) (t .place) (t .count) (t .inv) (c .before .before .before .before .before .before .before .before .before .before .before .before .before .before .before .before .pre .room) (n .result .reply) (n .result .state) (n .last .1 .1 .0) h
+    (p .last .1 .1 .0) (p .result) (p .ensures) (p .kept .1 .1 .0) (n .kept .1 .1 .0 ∙ t .inv .way .pool-size)
 
 pub put-entries-spec : {M : Type 1} → statement M
 put-entries-spec =
@@ -100,6 +104,7 @@ put-entries-spec =
     (tie.spec
     Inv-loop
     μ-loop
+    listing-options-requires
     new-with-options-requires
     loop-holds
     slice-aggregate-next

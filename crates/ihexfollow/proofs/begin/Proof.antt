@@ -1,0 +1,24 @@
+-- `ihexfollow::begin` meets its contract: a new reader of chunks with the stops of a listing.
+-- Assumes nothing.
+use mathlib.Core.Path.{refl, _∙_, ap}
+use Rattle.chunks.specs.Next.{new-chunks}
+use borrow.Author.Needs.{needs}
+use Rattle.ihexfollow.proofs.begin.Statement.{statement}
+use Rattle.ihexfollow.proofs.begin.Tie as tie
+
+listing-options-requires : tie.Need-listing-options-requires
+listing-options-requires c κs = search needs
+
+new-with-options-requires : tie.Need-new-with-options-requires
+new-with-options-requires c κs = search needs
+
+returns : tie.Need-returns
+returns c = record {
+  state-is = c .new-with-options .ensures .answer ∙ ap new-chunks (c .before .listing-options .ensures .answer);
+  verdict-is = refl;
+  count-is = refl;
+  more-is = refl;
+}
+
+pub begin-spec : {M : Type 1} → statement M
+begin-spec = tie.close (tie.spec listing-options-requires new-with-options-requires returns)
