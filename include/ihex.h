@@ -117,6 +117,8 @@ uint32_t ihex_next(const uint8_t *text, size_t text_len,
  * behind each line that was answered, and not read while fewer than IHEX_CARRY bytes are used.
  * After IHEX_POOL_FULL position, line, empties, used, skipped, the four flags and the used bytes are as they were: the same call with
  * room gives the record. 18 goes before all else and changes no byte either. A state made up by hand is answered too.
+ * After a line that stops the reader, position is just after its LF, and "done" leaves it there. What follows in the chunk has not been
+ * read: a new state reads on from chunk + position, with chunk_len - position.
  * lies, from, len: where the line lies that gave a record, until the next call. */
 uint32_t ihex_next_chunk(const uint8_t *chunk, size_t chunk_len,
                          uint8_t *carry, size_t carry_len,
@@ -135,7 +137,7 @@ uint32_t ihex_finish(uint8_t *carry, size_t carry_len,
                      uint64_t *a, uint64_t *b, uint64_t *c);
 
 /* The line at a place: returns how many bytes it has in the buffer that `lies` names, and in start where it begins there.
- * What lies behind the buffer's end is left out; 0 and 0 for IHEX_NOWHERE, any other number, and a place behind the end. */
+ * What lies after the buffer's end is left out; 0 and 0 for IHEX_NOWHERE, any other number, and a `from` over the chunk's length. */
 size_t ihex_shown(uint8_t lies, size_t from, size_t len,
                   const uint8_t *chunk, size_t chunk_len,
                   const uint8_t *carry, size_t carry_len,

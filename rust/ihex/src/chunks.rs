@@ -17,7 +17,21 @@ use crate::stranger;
 #[doc = include_str!("../examples/chunks.rs")]
 /// ```
 ///
+/// # Dump after dump
+///
+/// A dump may end in the middle of a chunk, and the next one begin there. A reader that has stopped says with
+/// [`used`] how much of the chunk it has used. After [`begin_next`] the same reader goes on with the rest of the chunk,
+/// `&chunk[reader.used()..]`, and no byte is lost, wherever the cuts fall. A new reader can go on too: hand over what
+/// the stopped one [`held`] first, which is nothing if all answers were asked for, and then the rest of the chunk.
+///
+/// ```
+#[doc = include_str!("../examples/dumps.rs")]
+/// ```
+///
 /// [`ByteReader`]: crate::ByteReader
+/// [`used`]: ChunkReader::used
+/// [`begin_next`]: ChunkReader::begin_next
+/// [`held`]: ChunkReader::held
 #[derive(Clone, Debug)]
 pub struct ChunkReader {
     carry: Box<[u8; ihex_sys::CARRY]>,
@@ -26,9 +40,12 @@ pub struct ChunkReader {
     left: Vec<u8>,
     /// Where the next call goes on: in what is left, or in the chunk where nothing is.
     position: usize,
+    /// How many bytes of the chunk that was handed over last are read or held.
+    taken: usize,
     line: usize,
     empties: usize,
-    used: usize,
+    /// How many bytes of the carry belong to the line that is begun.
+    carried: usize,
     /// How many digits of a line over 522 bytes were left out of the carry.
     skipped: u16,
     flags: u8,
@@ -43,9 +60,10 @@ impl ChunkReader {
             pool: Box::new([0; 255]),
             left: Vec::new(),
             position: 0,
+            taken: 0,
             line: 0,
             empties: 0,
-            used: 0,
+            carried: 0,
             skipped: 0,
             flags: flags(options),
             shown: Vec::new(),
@@ -59,8 +77,9 @@ impl ChunkReader {
 
     /// Hands over the next chunk, which may be empty: the answers to the lines that end in it.
     ///
-    /// Dropping them early loses nothing: what was not asked for is copied, and its answers come ahead
-    /// of those of the next chunk or of the end. After a stop, and after the text's end, there are none.
+    /// Dropping them early loses nothing: what was not asked for is copied, and its answers come before
+    /// those of the next chunk or of the end. After a stop, and after the text's end, there are none, and
+    /// nothing of a chunk is copied: [`used`](ChunkReader::used) says how much of it was used.
     pub fn feed<'a, T>(&'a mut self, chunk: &'a T) -> Answers<'a>
     where
         T: AsRef<[u8]> + ?Sized,
@@ -68,21 +87,58 @@ impl ChunkReader {
         if self.left.is_empty() {
             self.position = 0;
         }
+        self.taken = 0;
         Answers {
             reader: self,
-            chunk: chunk.as_ref(),
-            ends: false,
+            chunk: Some(chunk.as_ref()),
         }
     }
 
     /// Ends the text: the answer to its last line, if no LF ended it. What was not asked for earlier
-    /// comes ahead of it. The text has ended when `None` is given, or the answer to its last line.
+    /// comes before it. The text has ended when `None` is given, or the answer to its last line.
     pub fn finish(&mut self) -> Answers<'_> {
         Answers {
             reader: self,
-            chunk: &[],
-            ends: true,
+            chunk: None,
         }
+    }
+
+    /// Begins the next text: from here on this is a new reader with the same stops, to which what it
+    /// [holds](ChunkReader::held) has been handed over.
+    ///
+    /// Call it when the reader [is finished](ChunkReader::is_finished), and then hand over the rest of the
+    /// chunk, `&chunk[reader.used()..]`. Called before that, it forgets the line that is begun.
+    pub fn begin_next(&mut self) {
+        self.line = 0;
+        self.empties = 0;
+        self.carried = 0;
+        self.skipped = 0;
+        self.flags &= ihex_sys::STOP_AFTER_FIRST_ERROR | ihex_sys::STOP_AFTER_EOF;
+        self.shown.clear();
+    }
+
+    /// Whether there are no more answers: the reader has stopped, or the text has ended.
+    pub fn is_finished(&self) -> bool {
+        self.flags & ihex_sys::FINISHED != 0
+    }
+
+    /// How many bytes of the chunk that was handed over last are used: the reader has read them, or holds
+    /// them until their answers are asked for.
+    ///
+    /// That is the whole chunk, unless the reader has stopped. If a line that ends in this chunk stopped it, it
+    /// is the position just after the LF of that line; empty lines after it are not used. If the reader stopped
+    /// earlier, in what it held or in another chunk, it is 0.
+    pub fn used(&self) -> usize {
+        self.taken
+    }
+
+    /// What the reader holds: the text that was handed over in earlier chunks, and whose answers were not
+    /// asked for. The line that is begun is not part of it.
+    ///
+    /// After a stop it is what follows the line that stopped the reader, if that line was held. It comes
+    /// before the rest of the chunk.
+    pub fn held(&self) -> &[u8] {
+        self.left.get(self.position..).unwrap_or(&[])
     }
 
     /// The number of the line that was answered last, and 0 before any.
@@ -104,7 +160,7 @@ impl ChunkReader {
             &mut self.position,
             &mut self.line,
             &mut self.empties,
-            &mut self.used,
+            &mut self.carried,
             &mut self.skipped,
             &mut self.flags,
         );
@@ -117,12 +173,24 @@ impl ChunkReader {
         self.settle(code, &told, chunk.unwrap_or(&[]))
     }
 
-    /// The next answer of what was left.
+    /// The next answer of what was left. It is left until it is used up, and after a stop too.
     fn next_of_left(&mut self) -> Option<Result<Record, ReaderError>> {
         let left = mem::take(&mut self.left);
         let answer = self.ask(Some(&left));
-        if answer.is_some() {
+        if answer.is_some() || self.is_finished() {
             self.left = left;
+        }
+        answer
+    }
+
+    /// The next answer of a chunk, after those of what was left.
+    fn next_of_chunk(&mut self, chunk: &[u8]) -> Option<Result<Record, ReaderError>> {
+        let answer = self.ask(Some(chunk));
+        if answer.is_none() && !self.is_finished() {
+            self.position = chunk.len();
+        }
+        if self.left.is_empty() {
+            self.taken = self.position;
         }
         answer
     }
@@ -153,18 +221,14 @@ impl ChunkReader {
         Some(answer(code, told.a, told.b, told.c, &self.pool))
     }
 
-    /// Keeps what was not asked for of a chunk, behind what was left before it.
-    fn keep(&mut self, chunk: &[u8]) {
-        if self.flags & ihex_sys::FINISHED != 0 {
-            self.left = Vec::new();
-            return;
-        }
+    /// Drops what was read of what was left, and holds the rest of a chunk after it, unless the reader has
+    /// stopped.
+    fn keep(&mut self, chunk: Option<&[u8]>) {
         let position = mem::take(&mut self.position);
-        if self.left.is_empty() {
-            self.left.extend(chunk.get(position..).unwrap_or(&[]));
-        } else {
-            self.left.drain(..position.min(self.left.len()));
-            self.left.extend(chunk);
+        self.left.drain(..position.min(self.left.len()));
+        if let Some(chunk) = chunk.filter(|_| !self.is_finished()) {
+            self.left.extend(chunk.get(self.taken..).unwrap_or(&[]));
+            self.taken = chunk.len();
         }
     }
 }
@@ -193,10 +257,8 @@ struct Told {
 #[must_use = "an answer is read only when it is asked for"]
 pub struct Answers<'a> {
     reader: &'a mut ChunkReader,
-    /// The chunk, until it is used up.
-    chunk: &'a [u8],
-    /// Whether the text ends behind it.
-    ends: bool,
+    /// The chunk, or nothing at the text's end.
+    chunk: Option<&'a [u8]>,
 }
 
 impl<'a> Answers<'a> {
@@ -208,6 +270,16 @@ impl<'a> Answers<'a> {
     /// The line that was answered last, without its line end, if it gave a record; else nothing.
     pub fn shown(&self) -> &[u8] {
         self.reader.shown()
+    }
+
+    /// How many bytes of the chunk have been read so far: those up to the LF of the line that was answered
+    /// last, and with it. While answers come from earlier chunks, it is 0.
+    ///
+    /// When there are no more answers it is the whole chunk, unless the reader has stopped; then it is still the
+    /// position just after the LF of the line that stopped it. At the text's end there is no chunk, and it
+    /// is what [`ChunkReader::used`] says.
+    pub fn used(&self) -> usize {
+        self.reader.used()
     }
 
     /// The same answers, each with the number of its line.
@@ -226,14 +298,10 @@ impl<'a> Iterator for Answers<'a> {
                 return answer;
             }
         }
-        if self.ends {
-            return self.reader.ask(None);
+        match self.chunk {
+            Some(chunk) => self.reader.next_of_chunk(chunk),
+            None => self.reader.ask(None),
         }
-        let answer = self.reader.ask(Some(self.chunk));
-        if answer.is_none() {
-            self.chunk = &[];
-        }
-        answer
     }
 }
 

@@ -18,6 +18,7 @@ example!(text, "../examples/text.rs");
 example!(bytes, "../examples/bytes.rs");
 example!(lines, "../examples/lines.rs");
 example!(chunks, "../examples/chunks.rs");
+example!(dumps, "../examples/dumps.rs");
 example!(object, "../examples/object.rs");
 example!(load, "../examples/load.rs");
 example!(page, "../examples/page.rs");

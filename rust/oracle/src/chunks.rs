@@ -281,10 +281,10 @@ pub fn port(port: &dyn Port, case: &ChunkCase) -> Option<String> {
 }
 
 /// An answer, its line's number, and the line shown.
-type Shown = (Told, usize, Vec<u8>);
+pub type Shown = (Told, usize, Vec<u8>);
 
 /// Asks for so many answers, if there are as many.
-fn ask(mut answers: ihex::Answers, most: usize, row: &mut Vec<Shown>) {
+pub fn ask(mut answers: ihex::Answers, most: usize, row: &mut Vec<Shown>) {
     for _ in 0..most {
         match answers.next() {
             Some(answer) => row.push((

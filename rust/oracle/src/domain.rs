@@ -7,12 +7,16 @@ use std::str;
 use ihex_sys::{STOP_AFTER_EOF, STOP_AFTER_FIRST_ERROR};
 use original::{Reader, ReaderError, ReaderOptions, Record};
 
+/// Why something is passed over where the crate's source is not at hand.
+pub const NO_SOURCE: &str =
+    "the source of the crate ihex is not found, and nothing was compared with it";
+
 /// Whether the crate's source is at hand. Where it is not, a line says that these tests compared
-/// nothing; it goes past the harness, which shows no line of a test that passes.
+/// nothing. It goes past the harness, which shows no line of a test that passes, and which may have
+/// begun one.
 pub fn at_hand(tests: &str) -> bool {
     if !original::AT_HAND {
-        let why = "the source of the crate ihex is not at hand: nothing was compared with it";
-        let line = format!("{tests}: {why}\n");
+        let line = format!("\n-- passed over: rust/oracle/tests/{tests}.rs: {NO_SOURCE}\n");
         let written = io::stderr().write_all(line.as_bytes());
         written.expect("standard error can be written");
     }

@@ -8,6 +8,7 @@ use std::time::{Duration, Instant};
 use crate::chance::Chance;
 use crate::chunks::{self, ChunkCase};
 use crate::cuts;
+use crate::dumps::{self, Face, RealFace};
 use crate::inputs;
 use crate::joined;
 use crate::lines::{self, LineCase};
@@ -465,6 +466,27 @@ fn face_reads(plan: Plan) -> Vec<Kind<'static>> {
     ]
 }
 
+/// Dumps that follow each other in chunks, each read as a text of its own.
+pub fn of_dumps<'a>(face: &'a dyn Face, plan: Plan) -> Vec<Kind<'a>> {
+    let check = move |case: &ChunkCase| dumps::face(face, case);
+    vec![
+        by_chance(
+            "face: texts in chunks, dump after dump",
+            plan,
+            8,
+            cuts::cut_dumps,
+            check,
+        ),
+        by_block(
+            "face: texts in chunks, dump after dump, cut in two at every place",
+            plan,
+            blocks(60, plan),
+            |_, chance| cuts::cut_dumps_everywhere(chance),
+            check,
+        ),
+    ]
+}
+
 /// Pages, by the Rust face.
 fn face_pages(plan: Plan) -> Vec<Kind<'static>> {
     vec![
@@ -488,6 +510,7 @@ fn face_pages(plan: Plan) -> Vec<Kind<'static>> {
 /// What is compared with the Rust face.
 pub fn of_face(plan: Plan) -> Vec<Kind<'static>> {
     let mut kinds = face_reads(plan);
+    kinds.extend(of_dumps(&RealFace, plan));
     kinds.extend(face_pages(plan));
     kinds.extend([
         by_chance(

@@ -7,6 +7,7 @@ pub mod chance;
 pub mod chunks;
 pub mod cuts;
 pub mod domain;
+pub mod dumps;
 pub mod forms;
 pub mod inputs;
 pub mod joined;

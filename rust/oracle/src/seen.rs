@@ -4,6 +4,7 @@ use std::sync::atomic::{AtomicU64, Ordering};
 
 use ihex_sys::{BAD_RECORD, DONE, REFUSED, USED_UP};
 
+use crate::dumps::STOPS;
 use crate::forms::{Form, FORMS};
 
 /// The entry points, and the codes that each can answer; then the three wraps at a segment's end, and
@@ -95,6 +96,7 @@ const ROW: [AtomicU64; 32] = [NONE; 32];
 static SEEN: [[AtomicU64; 32]; 12] = [ROW; 12];
 static NAMED: [[AtomicU64; 32]; 16] = [ROW; 16];
 static FORMED: [AtomicU64; FORMS.len()] = [NONE; FORMS.len()];
+static STOPPED: [AtomicU64; STOPS.len()] = [NONE; STOPS.len()];
 
 /// The entry point that is given a chunk, or that ends a text in chunks.
 pub fn entry_of(chunk: Option<&[u8]>) -> usize {
@@ -134,6 +136,11 @@ pub fn note_form(form: usize) {
     FORMED[form].fetch_add(1, Ordering::Relaxed);
 }
 
+/// One more stop of the face's chunk reader in this way, by its number among `STOPS`, was called for.
+pub fn note_stop(way: usize) {
+    STOPPED[way].fetch_add(1, Ordering::Relaxed);
+}
+
 /// A kind of places: from its least on, ahead of the next kind's.
 fn places(least: usize) -> String {
     match PLACES.get(kind(least)) {
@@ -162,8 +169,15 @@ fn show_forms() -> bool {
     show_row("every form of a page (form: times)", &counts)
 }
 
-/// Prints how often each answer, each kind of place and each form of a page was called for, and says
-/// whether none is missing.
+/// Prints how often the face's chunk reader stopped in each way, and says whether none is missing.
+fn show_stops() -> bool {
+    let count = |(way, n): (&&str, &AtomicU64)| (way.to_string(), n.load(Ordering::Relaxed));
+    let counts: Vec<(String, u64)> = STOPS.iter().zip(&STOPPED).map(count).collect();
+    show_row("every stop between two dumps (way: times)", &counts)
+}
+
+/// Prints how often each answer, each kind of place, each form of a page and each way to stop was called
+/// for, and says whether none is missing.
 pub fn show() -> bool {
     let mut all = true;
     for (row, (name, codes)) in SEEN.iter().zip(ANSWERS) {
@@ -182,5 +196,5 @@ pub fn show() -> bool {
         let title = format!("every place of refusal 2 of the {name} (place: times)");
         all &= show_row(&title, &counts);
     }
-    all & show_forms()
+    all & show_forms() & show_stops()
 }

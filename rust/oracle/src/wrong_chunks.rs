@@ -1,9 +1,12 @@
 //! Readers of chunks that are wrong in one point each. The comparisons must find every one.
 
+use ihex::ChunkReader;
 use ihex_sys::{CARRY, CR_WAITS, DONE, FINISHED, IN_CARRY, IN_CHUNK, REFUSED, USED_UP};
 
 use crate::carried::{Place, Standing, CARRY_TOO_SMALL};
+use crate::dumps::Face;
 use crate::port::{Port, Real};
+use crate::texts::face_options;
 use crate::wrong::Wrong;
 
 type Numbers<'a> = (&'a mut u64, &'a mut u64, &'a mut u64);
@@ -382,6 +385,11 @@ fn ends() -> Vec<Wrong> {
                 call.state.flags &= !FINISHED;
             }
         }),
+        behind("uses up the chunk at an end record", |code, _, call| {
+            if code == 1 && call.state.flags & FINISHED != 0 {
+                call.state.position = call.chunk.map_or(0, <[u8]>::len);
+            }
+        }),
         ahead("drops a CR at the text's end", |call| {
             if call.chunk.is_none() {
                 call.state.flags &= !CR_WAITS;
@@ -414,5 +422,65 @@ fn small() -> Vec<Wrong> {
                 call.state.used = 0;
             }
         }),
+    ]
+}
+
+/// A face that says another number of used bytes, from the right one and the chunk.
+struct Used(fn(&ChunkReader, &[u8]) -> usize);
+
+impl Face for Used {
+    fn used(&self, reader: &ChunkReader, chunk: &[u8]) -> usize {
+        self.0(reader, chunk).min(chunk.len())
+    }
+}
+
+/// A face that begins the next text in another way, with these stops.
+struct Begun(fn(&mut ChunkReader, u8));
+
+impl Face for Begun {
+    fn begin_next(&self, reader: &mut ChunkReader, flags: u8) {
+        self.0(reader, flags);
+    }
+}
+
+/// A face that is wrong: in what, and the face.
+pub type WrongFace = (&'static str, Box<dyn Face>);
+
+/// Every face that goes on wrongly after a stop.
+pub fn faces() -> Vec<WrongFace> {
+    vec![
+        (
+            "loses what follows a stop in its chunk",
+            Box::new(Used(|_, chunk| chunk.len())),
+        ),
+        (
+            "uses the empty line after a stop",
+            Box::new(Used(|reader, chunk| {
+                let used = reader.used();
+                used + usize::from(chunk.get(used) == Some(&b'\n'))
+            })),
+        ),
+        (
+            "reads the LF of a line that stopped it once more",
+            Box::new(Used(|reader, _| reader.used().saturating_sub(1))),
+        ),
+        (
+            "uses a byte of the chunk though it stopped in what it held",
+            Box::new(Used(|reader, _| reader.used().max(1))),
+        ),
+        (
+            "loses what it held at a stop",
+            Box::new(Begun(|reader, flags| {
+                *reader = ChunkReader::new_with_options(face_options(flags));
+            })),
+        ),
+        (
+            "begins the next text with the default stops",
+            Box::new(Begun(|reader, _| {
+                let mut next = ChunkReader::new();
+                drop(next.feed(reader.held()));
+                *reader = next;
+            })),
+        ),
     ]
 }

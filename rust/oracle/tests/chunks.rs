@@ -4,9 +4,10 @@
 use ihex_sys::CARRY;
 use oracle::chance::Chance;
 use oracle::chunks::ChunkCase;
-use oracle::cuts::{by_hand, cut_everywhere, cut_text};
+use oracle::cuts::{by_hand, cut_dumps, cut_everywhere, cut_text};
 use oracle::domain::at_hand;
-use oracle::kinds::{of_chunks, Plan};
+use oracle::dumps::RealFace;
+use oracle::kinds::{of_chunks, of_dumps, Plan};
 use oracle::long::{long, LENGTHS};
 use oracle::port::Real;
 use oracle::wrong_chunks;
@@ -53,6 +54,26 @@ fn a_text_is_cut_at_every_place() {
     for (place, case) in cases.iter().enumerate() {
         assert_eq!(case.chunks[0].len(), place);
         assert_eq!(case.text(), text);
+    }
+}
+
+#[test]
+fn dumps_follow_each_other() {
+    let cases = cases(cut_dumps);
+    let chunks = || cases.iter().flat_map(|case| &case.chunks);
+    let has = |chunk: &[u8], part: &[u8]| chunk.windows(part.len()).any(|found| found == part);
+    for end in [
+        "\n:00000001FF\n:",
+        "\r\n:00000001FF\r\n:",
+        "\n:00000001FF\n\n",
+    ] {
+        assert!(chunks().any(|chunk| has(chunk, end.as_bytes())), "{end:?}");
+    }
+    assert!(chunks().any(|chunk| chunk.starts_with(b"1FF\n:")));
+    assert!(some(&cases, |one, next| one.ends_with(b":00000001FF\r")
+        && next.starts_with(b"\n")));
+    for flags in 0..4 {
+        assert!(cases.iter().any(|case| case.state.flags == flags));
     }
 }
 
@@ -128,6 +149,34 @@ fn a_wrong_reader_is_told_with_a_small_text() {
     let told = report.smallest.expect("it is found");
     assert!(
         told.starts_with(r#"chunks "\r" "\n" pool 0 carry "#),
+        "{told}"
+    );
+}
+
+#[test]
+fn each_dump_is_read() {
+    if !at_hand("chunks") {
+        return;
+    }
+    for kind in of_dumps(&RealFace, PLAN) {
+        let report = kind();
+        assert_eq!(report.smallest, None, "{}", report.name);
+        assert!(report.inputs > 0);
+    }
+}
+
+#[test]
+fn a_face_that_loses_a_dump_is_told_with_a_small_text() {
+    if !at_hand("chunks") {
+        return;
+    }
+    let mut all = wrong_chunks::faces();
+    let (name, face) = all.remove(0);
+    assert_eq!(name, "loses what follows a stop in its chunk");
+    let report = of_dumps(face.as_ref(), PLAN)[0]();
+    let told = report.smallest.expect("it is found");
+    assert!(
+        told.starts_with(r#"chunks ":00000001ff\n0" pool 0 carry 0"#),
         "{told}"
     );
 }
