@@ -42,7 +42,7 @@ def stages(log):
     yield "|---|---|---|"
     for name, tests, seconds in re.findall(r"^== ([^:\n]+): (\d+) passed(?:, \d+ failed)? \((\S+) s\)", log, re.M):
         yield f"| {name} | {tests} | {seconds} |"
-    whole = re.search(r"^== all: (\S+) s\n(\d+) passed", log, re.M)
+    whole = re.search(r"^== all: (\S+) s\n(?:-- .*\n)*(\d+) passed", log, re.M)
     if whole:
         yield f"| all | {whole[2]} | {whole[1]} |"
 

@@ -3,7 +3,8 @@
     interop.py COMMAND..    the words that start the program pagefile of tests/c
 
 Each page is one test for each reader and one for each writer. Each must have exactly the marked places, with their bytes. Files that a
-tool does not take, and tools that are not there, are passed over and count nothing. The last line is 'N passed, M failed'.
+tool does not take, and tools that are not there, are passed over and count nothing; a line that begins with '-- passed over:' names each.
+The last line is 'N passed, M failed'.
 """
 import collections
 import io
@@ -241,7 +242,7 @@ def compare_all(tool):
         compare(tool.name + ' reads', case, lambda: tool.read(page_file(case)))
         compare(tool.name + ' writes', case, lambda: loaded(case, tool.write(stated(case))))
     if over:
-        print('-- %s: %d pages without a mark passed over, as it refuses a file without data' % (tool.name, over))
+        print('-- passed over: %s, %d pages without a mark: it refuses a file without data' % (tool.name, over))
 
 
 PAGEFILE = sys.argv[1:]
@@ -251,6 +252,6 @@ for each in TOOLS:
     if each.there:
         compare_all(each)
     else:
-        print('-- %s: passed over, as the package %s cannot be had' % (each.name, each.package))
+        print('-- passed over: %s: the package %s cannot be had' % (each.name, each.package))
 told('a tool could be had', any(each.there for each in TOOLS), 'none of the three')
 end()

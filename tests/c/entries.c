@@ -717,6 +717,62 @@ static void cut_texts(void)
             in_chunks(small[i], strlen(small[i]), k, 1, 0);
 }
 
+/* dumps that follow each other, and where the chunk at hand begins and ends in them */
+static char joined[200];
+static size_t chunk_at, chunk_end;
+
+/* one of them, which ends at `past`, through a state of its own, to the answers that it has alone */
+static void one_of_dumps(const char *dump, size_t past, uint8_t stops)
+{
+    struct ihex_chunks s = {0, 0, 0, 0, 0, 0, 0, 0, 0};
+    static uint8_t kept[IHEX_CARRY], pool[IHEX_MAX_PAYLOAD];
+    const struct answer *e = expected;
+    uint64_t x, y, z;
+    uint32_t r;
+    s.flags = stops;
+    read_whole(dump, strlen(dump), stops);
+    do {
+        r = ihex_chunks_next(&s, (uint8_t *)joined + chunk_at, chunk_end - chunk_at, kept, sizeof kept, pool, sizeof pool, 0, &x, &y, &z);
+        if (r == IHEX_USED_UP) {
+            chunk_at = chunk_end;
+            chunk_end = strlen(joined);
+        } else {
+            CHECK(r == e->code && x == e->a && y == e->b && z == e->c && s.line == e->line);
+            CHECK(!(s.flags & IHEX_FINISHED) || chunk_at + s.position == past);
+            e++;
+        }
+    } while (r != IHEX_DONE && chunk_at < strlen(joined));
+    CHECK(r == IHEX_DONE && chunk_at + s.position == past);
+    chunk_at += s.position;
+}
+
+/* all of them, cut in two: where one state stops, the next reads on in the same chunk */
+static void dumps_cut_at(const char *const *dumps, size_t count, size_t cut, uint8_t stops)
+{
+    size_t i, past = 0;
+    begin_case();
+    chunk_at = 0;
+    chunk_end = cut;
+    for (i = 0; i < count; i++)
+        one_of_dumps(dumps[i], past += strlen(dumps[i]), stops);
+    end_case();
+}
+
+/* the second begins with empty lines; the last stops a reader only where it stops after an error */
+static void dumps_in_chunks(void)
+{
+    static const char *const dumps[] = {":0100000041BE\n:00000001FF\n", "\r\n\n:020000021200EA\r\n:00000001FF\r\n",
+                                        ":00000001FF\n", ":00000001FE\n"};
+    size_t k;
+    for (k = 0; k < 3; k++)
+        strcat(joined, dumps[k]);
+    for (k = 0; k <= strlen(joined); k++)
+        dumps_cut_at(dumps, 3, k, IHEX_STOP_AFTER_EOF);
+    strcat(joined, dumps[3]);
+    for (k = 0; k <= strlen(joined); k++)
+        dumps_cut_at(dumps, 4, k, IHEX_STOP_AFTER_FIRST_ERROR | IHEX_STOP_AFTER_EOF);
+}
+
 /* a CR at a chunk's end, and what it becomes */
 static void waiting_CR(void)
 {
@@ -1975,6 +2031,7 @@ int main(void)
     places_in_texts();
     states();
     cut_texts();
+    dumps_in_chunks();
     waiting_CR();
     long_lines();
     places_in_chunks();
