@@ -1,29 +1,25 @@
 -- The claims of `specs/ByLines.antt`: those of `chunks` on outcomes, in numbers.
 -- Assumes nothing.
-use Prim.Native.Nat.{ℕ, _≤_, _<_}
-use mathlib.Core.Path.{_≡_, refl, sym, _∙_, ap, subst, subst₂}
+use Prim.Native.Nat.{ℕ}
+use mathlib.Core.Path.{_≡_, refl, _∙_, ap, subst}
 use mathlib.Core.Logic.{_≢_}
-use mathlib.Core.Bool.{Bool, true, false}
+use mathlib.Core.Bool.{false}
 use mathlib.Core.List.{List, []}
 use native.Mathlib.Omega.{arith}
 use lib.Dec.{ltb}
 use lib.ListN.{length}
 use borrow.Author.Tests.{ltb-true, ltb-false, ne-eqb}
-use Rattle.record.specs.Line.{judge}
 use Rattle.record.specs.Refusals.{refusal}
 use Rattle.reader.specs.Told.{Told, gives, refuses, done}
-use Rattle.reader.specs.Answer.{answered}
 use Rattle.reader.specs.Text.{is-full}
-use Rattle.chunks.specs.declared.Chunks.{Chunks}
 use Rattle.chunks.specs.declared.Place.{Place}
-use Rattle.chunks.specs.declared.Place.the-variants.{Nowhere}
 use Rattle.chunks.specs.Next.{Word, tells, used-up, is-record, Outcome, at-place, next-outcome, finish-outcome}
-use Rattle.chunks.specs.First.{No-line, First-line, Last-line, Shows, gave-record, gave-none, used-up-shows}
+use Rattle.chunks.specs.First.{First-line, Last-line, Shows, gave-record, gave-none, used-up-shows}
 use Rattle.chunks.proofs.Calls.{next-told, finish-told}
 use Rattle.chunks.proofs.First.{next-by-lines, next-shows, finish-by-last-line, finish-shows}
-use Rattle.ihex.specs.Codes.{DONE, USED-UP, POOL-FULL, Numbers, reading, reading-chunk, place-of}
+use Rattle.ihex.specs.Codes.{POOL-FULL, Numbers, reading, reading-chunk}
 use Rattle.ihex.specs.Rows.{Back, Read-back, place-back}
-use Rattle.ihex.specs.ByLines.{Answers-line, Ihex-next-by-lines, Ihex-finish-by-last-line, Ihex-shows, gave-record as shows-record, gave-none as shows-none, Ihex-next-shows, Ihex-finish-shows}
+use Rattle.ihex.specs.ByLines.{Ihex-next-by-lines, Ihex-finish-by-last-line, Ihex-shows, gave-record as shows-record, gave-none as shows-none, Ihex-next-shows, Ihex-finish-shows}
 use Rattle.ihex.proofs.Chunks.{place-returns}
 use Rattle.ihex.proofs.Rows.{word-at, clear-line, next-clear, finish-clear, word-back}
 
