@@ -97,7 +97,10 @@ struct ihex_record {
 uint8_t ihex_checksum(const uint8_t *bytes, size_t bytes_len);
 
 /* Reads one line, without its line end: returns the record's type, or IHEX_REFUSED and the first of 1 to 10 that holds.
- * The payload of a data record goes into the pool from `at` on, and no other byte changes; a, b and c are the values. */
+ * The payload of a data record goes into the pool from `at` on, and no other byte changes; a, b and c are the values.
+ * Noise: change one character of a line that gives a record to any other byte, and read it with the same pool and position. A changed
+ * colon is 1. After the colon, a byte that is not a digit is 2, and a is its position. A digit of another value is 6, in the length and the
+ * checksum too. A letter in its other case gives the same record and the same pool. */
 uint32_t ihex_read_record(const uint8_t *line, size_t line_len,
                           uint8_t *pool, size_t pool_len, size_t at,
                           uint64_t *a, uint64_t *b, uint64_t *c);
@@ -190,7 +193,11 @@ uint32_t ihex_create_object_file_representation(const void *list, size_t list_le
  * in line (else 0), or 13; the refusal's values are in a and b.
  * While a type 02 is the latest extension record, with base 16 times its number, and before any, with base 0, byte i of a data
  * record lies at base + ((offset + i) modulo 65,536). While a type 04 is, with base 65,536 times its number, it lies at
- * (base + offset + i) modulo 2^32. */
+ * (base + offset + i) modulo 2^32.
+ * Noise: let a text be accepted, and then be damaged in one of these ways. One byte is changed, lost or added, or two neighbours are
+ * swapped. It is cut off after any byte. Each line has at most one such slip, and every LF stays as it is. The load of the damaged text
+ * into the same window is refused, or it is the very same load: what is returned, page and marks. Other damage can go unnoticed: two wrong
+ * characters in one line can cancel each other, and a line that is lost whole can leave no trace. */
 uint32_t ihex_load(const uint8_t *text, size_t text_len, uint32_t first,
                    uint8_t *page, size_t page_len,
                    uint8_t *marks, size_t marks_len,

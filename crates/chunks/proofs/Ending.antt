@@ -21,7 +21,8 @@ use Rattle.chunks.specs.Helpers.{seek-at}
 use Rattle.chunks.specs.First.{Ends-at}
 use Rattle.chunks.proofs.Pass.{step-over}
 use Rattle.chunks.proofs.InPlace.{has-LF, LF-from, LF-before-rest, line-in, ends-some, ends-none}
-use Rattle.chunks.proofs.Runs.{none-is, ended-has}
+use Rattle.record.proofs.Parts.{none-left}
+use Rattle.chunks.proofs.Runs.{ended-has}
 
 -- ---- the first LF from a place on
 
@@ -259,7 +260,7 @@ module _ (chunk : List ℕ) where
         back {e} {from} {line} o = record { begins = go (o .begins) (ending chunk from false (o .ends) .line-is); ends = o .ends; some-byte = o .some-byte }
           where
             go : {from : ℕ} → From chunk p from → line ≡ first-line (drop from chunk) → From chunk (suc (f .e)) from
-            go here is = absurd (o .some-byte (is ∙ none-is (first-line (drop p chunk)) z))
+            go here is = absurd (o .some-byte (is ∙ none-left (first-line (drop p chunk)) z))
             go (later {i} a l) is = split i (f .e) (λ k. let q : f .e ≡ i = omega (arith, feed-least (f .at) i a l) in rw q here) (λ k. later k l)
 
         passed : seek-at chunk p n ≡ seek-at chunk (suc (f .e)) (counted n)

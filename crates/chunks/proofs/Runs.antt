@@ -13,6 +13,7 @@ use lib.Seq.{paste, take-paste, split-at, length-take-le, take-take, take-length
 use borrow.Author.Tests.{eqb-true, ltb-true, ltb-false}
 use Rattle.record.specs.Common.{if_then_else_}
 use Rattle.record.proofs.Tests.{or-true}
+use Rattle.record.proofs.Parts.{none-left}
 use Rattle.reader.specs.Lines.{LF, CR, rest, Ended, with-CRLF, with-LF, with-text, Cut}
 use Rattle.reader.proofs.Cutting.{cut}
 use Rattle.reader.proofs.Searching.{tail-is, behind-inside, rest-behind, Cut-off}
@@ -61,12 +62,8 @@ front-last line h =
     let none : drop (suc (length line - 1)) line ≡ [] = drop-of-length-le line {i = suc (length line - 1)} (omega arith) in
     split-at line (length line - 1) 0 (omega arith) ∙ rw none
 
-pub none-is : (line : List ℕ) → length line ≡ 0 → line ≡ []
-none-is [] h = refl
-none-is (c ∷ line) h = absurd (omega arith)
-
 pub none-ends : (line : List ℕ) → length line ≡ 0 → false ≡ ends-in-CR line
-none-ends line h = sym (ap ends-in-CR (none-is line h))
+none-ends line h = sym (ap ends-in-CR (none-left line h))
 
 pub some-CR : (line : List ℕ) → ends-in-CR line ≡ true → 0 < length line
 some-CR line e = go (ltb 0 (length line)) refl
@@ -109,7 +106,7 @@ module _ (kept : Kept) (line : List ℕ) (fits : length (kept .bytes) + length l
           ∙ extended-twice kept (take n line) (getD line n 0 ∷ []) ∙ ap (extended kept) (sym (front-last line l)) in
           last-added l ∙ rw e (ap (λ (x : Kept). record { kept = x; cr = false }) k)
       go false h =
-          let e : line ≡ [] = none-is line (omega (arith, ltb-false 0 (length line) h)) in
+          let e : line ≡ [] = none-left line (omega (arith, ltb-false 0 (length line) h)) in
           ap (foldl add b₀) e
           ∙ ap (λ (x : List ℕ). record { kept = record { bytes = x; skipped = kept .skipped }; cr = false }) (sym (append-nil (kept .bytes)) ∙ ap (λ (x : List ℕ). kept .bytes ++ x) (sym e))
 

@@ -12,3 +12,4 @@ pub mod ByLines
 pub mod RoundTrip
 pub mod Objects
 pub mod Pages
+pub mod Noise

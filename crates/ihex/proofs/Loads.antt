@@ -15,7 +15,7 @@ use Rattle.loader.proofs.OneReason.{one-reason}
 use Rattle.ihex.specs.Codes.{OK, value, loading, line-at}
 use Rattle.ihex.specs.Loads.{Ihex-non-interference, Ihex-what-is-stored, Ihex-load-keeps, Ihex-load-reasons}
 
-was-accepted : (v : Verdict) → loading v .code ≡ OK → (tally : Tally) × (v ≡ accepted tally)
+pub was-accepted : (v : Verdict) → loading v .code ≡ OK → (tally : Tally) × (v ≡ accepted tally)
 was-accepted (accepted tally) e = (tally, refl)
 was-accepted (refused (refusal n vs) line) e = absurd (omega arith)
 

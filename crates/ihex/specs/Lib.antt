@@ -11,3 +11,4 @@ pub mod Rows
 pub mod ByLines
 pub mod Claims
 pub mod RoundTrip
+pub mod Noise

@@ -13,3 +13,6 @@ pub mod Segments
 pub mod Puts
 pub mod Stored
 pub mod Apart
+pub mod Agreeing
+pub mod Edits
+pub mod Noise

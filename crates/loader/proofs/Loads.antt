@@ -114,7 +114,7 @@ module _ (first : ℕ) (text page₀ marks₀ : List ℕ) where
 -- ---- the load
 
 -- an accepted verdict is a line's
-by-line : (d : Option Decision) (t : Tally) → verdict d ≡ accepted t → (m : ℕ) × (d ≡ some (by m (accepted t)))
+pub by-line : (d : Option Decision) (t : Tally) → verdict d ≡ accepted t → (m : ℕ) × (d ≡ some (by m (accepted t)))
 unfolding verdict
 by-line none t e = (0, cc)
 by-line (some (by m v)) t e = (m, cc)

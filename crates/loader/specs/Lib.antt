@@ -4,3 +4,4 @@ pub mod Told
 pub mod Claims
 pub mod Helpers
 pub mod Segments
+pub mod Noise

@@ -16,3 +16,4 @@ pub mod Texts
 pub mod Naming
 pub mod Stays
 pub mod Held
+pub mod Noise

@@ -7,4 +7,5 @@ pub mod Calls
 pub mod Along
 pub mod Helpers
 pub mod Held
+pub mod Noise
 pub mod Claims

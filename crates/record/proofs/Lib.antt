@@ -8,3 +8,5 @@ pub mod Standing
 pub mod Writing
 pub mod Pasting
 pub mod Claims
+pub mod Respelling
+pub mod Noise

@@ -19,6 +19,7 @@ use Rattle.record.specs.Meaning.{Meaning, data-at, end-of-file, extended
 use Rattle.record.specs.Written.{capital-digit, spelt, body, written, kind-of, address-of, payload-of, two-bytes, four-bytes, Capital, Writable, Sayable}
 use Rattle.record.specs.Claims.{Written-in-format, Written-in-capitals, Only-in-capitals, Reads-back, Said-is-sayable}
 use Rattle.record.proofs.Tests.{branch}
+use Rattle.record.proofs.Parts.{none-left, every-front}
 use Rattle.record.proofs.Spelling.{hex-small, last-small, spells-small}
 use Rattle.record.proofs.Judging.{resize, size-fits, check-sums, sums-check}
 use Rattle.record.proofs.Standing.{Stands, stands, admitted}
@@ -214,20 +215,12 @@ pub fields-again : {kind : ℕ} (address : ℕ) (payload : List ℕ) → Size ki
 unfolding meaning
 fields-again address payload (type-00 e) h = rw e (refl, refl, refl)
 fields-again address payload (type-01 e z) h = rw e (refl, refl, sym (none-left payload z))
-  where
-    none-left : (p : List ℕ) → length p ≡ 0 → p ≡ []
-    none-left [] n = refl
-    none-left (a ∷ p) n = absurd (omega arith)
 fields-again address payload (type-02 e z) h = rw e (refl, refl, again-two payload z h)
 fields-again address payload (type-03 e z) h = rw e (refl, refl, again-four payload z h .0)
 fields-again address payload (type-04 e z) h = rw e (refl, refl, again-two payload z h)
 fields-again address payload (type-05 e z) h = rw e (refl, refl, again-four payload z h .1)
 
 -- ---- what is said is sayable
-
-pub every-front : (bs cs : List ℕ) → Every Byte (bs ++ cs) → Every Byte bs
-every-front [] cs h = tt
-every-front (b ∷ bs) cs (h, hs) = (h, every-front bs cs hs)
 
 two-small : (p : List ℕ) → length p ≡ 2 → Every Byte p → big-endian p < 65536
 unfolding number
@@ -262,7 +255,7 @@ formal-sayable {line} {kind} {address} {payload} f =
     let high : f .high < 256 = s .1 .0 in
     let low : f .low < 256 = s .1 .1 .0 in
     let len : length payload < 256 = s .0 in
-    sayable address payload (resize (omega arith) (f .sized)) (omega arith) (omega (arith, f .addressed)) (every-front payload (f .check ∷ []) (s .1 .1 .1 .1))
+    sayable address payload (resize (omega arith) (f .sized)) (omega arith) (omega (arith, f .addressed)) (every-front Byte payload (f .check ∷ []) (s .1 .1 .1 .1))
 
 pub said-is-sayable : Said-is-sayable
 said-is-sayable line kind address payload e = formal-sayable (subst (Stands line) e (stands line))

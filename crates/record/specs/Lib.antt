@@ -7,4 +7,5 @@ pub mod Faults
 pub mod Meaning
 pub mod Record
 pub mod Written
+pub mod Noise
 pub mod Claims

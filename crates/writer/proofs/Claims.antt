@@ -14,7 +14,8 @@ use Rattle.record.specs.Record.{Inside, meant}
 use Rattle.record.specs.Meaning.{Meaning}
 use Rattle.record.specs.Line.{says, judge}
 use Rattle.record.specs.Written.{written, kind-of, address-of, payload-of, line-of, Sayable}
-use Rattle.record.proofs.Writing.{written-in-format, written-in-capitals, only-in-capitals, written-plain, writable, reads-back, said-is-sayable, fields-again, every-front}
+use Rattle.record.proofs.Parts.{every-front}
+use Rattle.record.proofs.Writing.{written-in-format, written-in-capitals, only-in-capitals, written-plain, writable, reads-back, said-is-sayable, fields-again}
 use Rattle.record.proofs.Claims.{admits}
 use Rattle.record.proofs.Spelling.{spells-small}
 use Rattle.writer.specs.Line.{line-refusal, line, ended-line, line-text}
@@ -92,7 +93,7 @@ pub canonical : Canonical
 canonical l kind address payload r pool e m i =
     let f = admits l kind address payload .0 e in
     let s = spells-small (f .spells) in
-    let a = fields-again address payload (f .sized) (every-front payload (f .check ∷ []) (s .1 .1 .1 .1)) in
+    let a = fields-again address payload (f .sized) (every-front Byte payload (f .check ∷ []) (s .1 .1 .1 .1)) in
     let t : Sayable (meant r pool) = rw m (said-is-sayable l kind address payload e) in
     rw (no-fault r pool i t, m, a .0, a .1, a .2)
 
