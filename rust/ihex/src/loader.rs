@@ -95,6 +95,11 @@ impl Error for LoadError {
 /// passes the end of its segment goes on at the segment's start. While a type 04 is, with base 65,536
 /// times its number, it lies at (base + offset + i) modulo 2^32.
 ///
+/// Noise: let a text be accepted, and then be damaged. One byte of it is changed, lost or added, or two
+/// neighbours are swapped; or it is cut off after any byte; or each line has at most one such slip, and
+/// every LF stays as it is. The load of the damaged text into the same window is refused, or it is the
+/// very same load.
+///
 /// ```
 #[doc = include_str!("../examples/load.rs")]
 /// ```
