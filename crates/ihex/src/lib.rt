@@ -654,7 +654,7 @@ fn code_loading(answer: Loading) -> Coded
     ensures { λ r. ⌜ Coded-as (loading (told-loading answer)) r ⌝ }
 {
     match answer {
-        Loading::Accepted(records) => four(0, records as u64, 0, 0),
+        Loading::Accepted(tally) => four(0, tally.records as u64, 0, 0),
         Loading::Refused(e, _) => code_loader_error(e),
     }
 }

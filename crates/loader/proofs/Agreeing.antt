@@ -6,51 +6,40 @@ use Prim.Native.Nat.{ℕ, suc}
 use native.Mathlib.Omega.{arith}
 use mathlib.Core.Bool.{Bool}
 use mathlib.Core.Option.{Option, none, some}
-use mathlib.Core.List.{List, [], _∷_, _++_}
+use mathlib.Core.List.{List, [], _∷_, _++_, map}
 use Rattle.record.specs.Line.{Said, says, wrong, judge}
-use Rattle.record.specs.Meaning.{Meaning, data-at, end-of-file, extended-segment, start-segment, extended-linear, start-linear, meaning}
 use Rattle.record.specs.Noise.{Says-a-record}
-use Rattle.reader.specs.Row.{Numbered, on, sayings, is-end, through-stop}
-use Rattle.loader.specs.Placing.{Placement, Base, segment, linear, placed, steps, stated}
-use Rattle.loader.specs.Load.{Tally, one-more, accepted, by, outside, or-later, decision}
-use Rattle.loader.proofs.Rows.{from-record, said, decided}
+use Rattle.steps.specs.Steps.{Placement, Action, places, finishes, fails, Step, step, Tally, one-more, accepted, by, outside, at-data, turn, onward, decision, stated}
+use Rattle.steps.specs.Source.{steps}
+use Rattle.loader.specs.Placing.{Base, act, base-after, intel, intel-by}
 
--- ---- two rows that are both accepted
+-- ---- two lists of steps that are both accepted
 
 module _ (inside : ℕ → Bool) where
-  -- if both are accepted from the same base and tally on, they come to the same tally and state the same
-  abbrev pub Agreed : (row row′ : List Numbered) → Type 0
-  Agreed row row′ =
-      (base : Base) (tally : Tally) (m m′ : ℕ) (t t′ : Tally)
-      → decided inside base tally row ≡ some (by m (accepted t)) → decided inside base tally row′ ≡ some (by m′ (accepted t′))
-      → (t ≡ t′) × (said base row ≡ said base row′)
+  -- if both are accepted from the same tally on, they come to the same tally and state the same
+  abbrev pub Agreed : (s s′ : List Step) → Type 0
+  Agreed s s′ =
+      (tally : Tally) (m m′ : ℕ) (t t′ : Tally)
+      → decision inside tally s ≡ some (by m (accepted t)) → decision inside tally s′ ≡ some (by m′ (accepted t′))
+      → (t ≡ t′) × (stated s ≡ stated s′)
 
-  agreed-record : (n n′ : ℕ) (a : Meaning) (row row′ : List Numbered) → Agreed row row′
-      → (base : Base) (tally : Tally) (m m′ : ℕ) (t t′ : Tally)
-      → decision inside tally (from-record n base a row) ≡ some (by m (accepted t)) → decision inside tally (from-record n′ base a row′) ≡ some (by m′ (accepted t′))
-      → (t ≡ t′) × (stated (from-record n base a row) ≡ stated (from-record n′ base a row′))
-  unfolding decision steps through-stop stated is-end
-  agreed-record n n′ (data-at offset bytes) row row′ g base tally m m′ t t′ = go (outside inside what)
+  -- the same action before both, on whatever lines
+  agreed-step : (n n′ : ℕ) (a : Action) (s s′ : List Step) → Agreed s s′ → Agreed (step n a ∷ s) (step n′ a ∷ s′)
+  unfolding decision turn stated
+  agreed-step n n′ (places what) s s′ g tally m m′ t t′ = go (outside inside what)
     where
-      what : List Placement
-      what = placed base offset 0 bytes
-
       go : (o : Option ℕ)
-          → or-later n o (decided inside base (one-more tally) row) ≡ some (by m (accepted t))
-          → or-later n′ o (decided inside base (one-more tally) row′) ≡ some (by m′ (accepted t′))
-          → (t ≡ t′) × (what ++ said base row ≡ what ++ said base row′)
-      go none e e′ = let (p, q) = g base (one-more tally) m m′ t t′ e e′ in (p, ap (λ (ps : List Placement). what ++ ps) q)
+          → onward n (at-data n o tally) (λ k. decision inside k s) ≡ some (by m (accepted t))
+          → onward n′ (at-data n′ o tally) (λ k. decision inside k s′) ≡ some (by m′ (accepted t′))
+          → (t ≡ t′) × (what ++ stated s ≡ what ++ stated s′)
+      go none e e′ = let (p, q) = g (one-more tally) m m′ t t′ e e′ in (p, ap (λ (ps : List Placement). what ++ ps) q)
       go (some a) e e′ = (cc, cc)
-  agreed-record n n′ end-of-file row row′ g base tally m m′ t t′ = λ e e′. (cc, refl)
-  agreed-record n n′ (extended-segment x) row row′ g base tally m m′ t t′ = g (segment x) tally m m′ t t′
-  agreed-record n n′ (start-segment cs ip) row row′ g base tally m m′ t t′ = g base tally m m′ t t′
-  agreed-record n n′ (extended-linear x) row row′ g base tally m m′ t t′ = g (linear x) tally m m′ t t′
-  agreed-record n n′ (start-linear x) row row′ g base tally m m′ t t′ = g base tally m m′ t t′
+  agreed-step n n′ finishes s s′ g tally m m′ t t′ = λ e e′. (cc, refl)
+  agreed-step n n′ (fails r) s s′ g tally m m′ t t′ = λ e e′. (cc, refl)
 
-  agreed-said : (n n′ : ℕ) (s : Said) (row row′ : List Numbered) → Agreed row row′ → Agreed (on n s ∷ row) (on n′ s ∷ row′)
-  unfolding decision steps through-stop stated
-  agreed-said n n′ (says kind address payload) row row′ g = agreed-record n n′ (meaning kind address payload) row row′ g
-  agreed-said n n′ (wrong r) row row′ g = λ base tally m m′ t t′ e e′. (cc, cc)
+  agreed-line : (n n′ : ℕ) (acts : List Action) (s s′ : List Step) → Agreed s s′ → Agreed (map (step n) acts ++ s) (map (step n′) acts ++ s′)
+  agreed-line n n′ [] s s′ g = g
+  agreed-line n n′ (a ∷ acts) s s′ g = agreed-step n n′ a (map (step n) acts ++ s) (map (step n′) acts ++ s′) (agreed-line n n′ acts s s′ g)
 
 -- ---- lines that a load passes
 
@@ -67,24 +56,24 @@ word (c ∷ line) = some (judge (c ∷ line))
 module _ (inside : ℕ → Bool) where
   -- the same of lines, wherever their numbers begin
   abbrev pub Agree : (ls ls′ : List (List ℕ)) → Type 0
-  Agree ls ls′ = (n n′ : ℕ) → Agreed inside (sayings n ls) (sayings n′ ls′)
+  Agree ls ls′ = (n n′ : ℕ) (base : Base) → Agreed inside (steps intel base n ls) (steps intel base n′ ls′)
 
   pub agree-swap : (ls ls′ : List (List ℕ)) → Agree ls ls′ → Agree ls′ ls
   agree-swap ls ls′ g n n′ base tally m m′ t t′ e e′ = let (p, q) = g n′ n base tally m′ m t′ t e′ e in (sym p, sym q)
 
   -- a text without an end record is not accepted
   pub agree-none : (ls : List (List ℕ)) → Agree [] ls
-  unfolding decision steps through-stop stated sayings
+  unfolding decision steps
   agree-none ls n n′ base tally m m′ t t′ e e′ = (cc, cc)
 
   -- a line that is accepted is fine
   fine : (line : List ℕ) (ls : List (List ℕ)) (n : ℕ) (base : Base) (tally : Tally) (m : ℕ) (t : Tally)
-      → decided inside base tally (sayings n (line ∷ ls)) ≡ some (by m (accepted t)) → Fine line
-  unfolding decision steps through-stop sayings
+      → decision inside tally (steps intel base n (line ∷ ls)) ≡ some (by m (accepted t)) → Fine line
+  unfolding decision turn steps intel-by act
   fine [] ls n base tally m t e = tt
   fine (c ∷ line) ls n base tally m t e = go (judge (c ∷ line)) refl e
     where
-      go : (s : Said) → judge (c ∷ line) ≡ s → decided inside base tally (on n s ∷ sayings (suc n) ls) ≡ some (by m (accepted t)) → Says-a-record (c ∷ line)
+      go : (s : Said) → judge (c ∷ line) ≡ s → decision inside tally (map (step n) (act base s) ++ steps intel (base-after base s) (suc n) ls) ≡ some (by m (accepted t)) → Says-a-record (c ∷ line)
       go (says kind address payload) q e = (kind, address, payload, q)
       go (wrong r) q e = let z : _≡_ {A = ℕ} 0 1 = cc in absurd (omega arith)
 
@@ -94,18 +83,18 @@ module _ (inside : ℕ → Bool) where
 
   -- lines that say the same
   pub agree-word : (line line′ : List ℕ) (ls ls′ : List (List ℕ)) → word line ≡ word line′ → Agree ls ls′ → Agree (line ∷ ls) (line′ ∷ ls′)
-  unfolding sayings
+  unfolding steps intel-by
   agree-word [] [] ls ls′ w g = λ n n′. g (suc n) (suc n′)
   agree-word [] (c ∷ line′) ls ls′ w g = let z : _≡_ {A = ℕ} 0 1 = cc in absurd (omega arith)
   agree-word (c ∷ line) [] ls ls′ w g = let z : _≡_ {A = ℕ} 0 1 = cc in absurd (omega arith)
-  agree-word (c ∷ line) (c′ ∷ line′) ls ls′ w g = λ n n′.
+  agree-word (c ∷ line) (c′ ∷ line′) ls ls′ w g = λ n n′ base.
       let j : judge (c ∷ line) ≡ judge (c′ ∷ line′) = cc in
-      subst (λ (s : Said). Agreed inside (on n s ∷ sayings (suc n) ls) (on n′ (judge (c′ ∷ line′)) ∷ sayings (suc n′) ls′)) (sym j)
-      (agreed-said inside n n′ (judge (c′ ∷ line′)) (sayings (suc n) ls) (sayings (suc n′) ls′) (g (suc n) (suc n′)))
+      let s = judge (c′ ∷ line′) in
+      rw j (agreed-line inside n n′ (act base s) (steps intel (base-after base s) (suc n) ls) (steps intel (base-after base s) (suc n′) ls′) (g (suc n) (suc n′) (base-after base s)))
 
   -- a line that is empty, if it is accepted
   pub agree-skip : (line : List ℕ) (ls ls′ : List (List ℕ)) → (Fine line → line ≡ []) → Agree ls ls′ → Agree (line ∷ ls) ls′
-  unfolding sayings
+  unfolding steps
   agree-skip [] ls ls′ h g = λ n n′. g (suc n) n′
   agree-skip (c ∷ line) ls ls′ h g = λ n n′ base tally m m′ t t′ e e′.
       let z : c ∷ line ≡ [] = h (fine (c ∷ line) ls n base tally m t e) in

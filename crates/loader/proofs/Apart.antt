@@ -19,11 +19,18 @@ use Rattle.record.specs.Written.{Sayable}
 use Rattle.reader.specs.Lines.{lines}
 use Rattle.reader.specs.Row.{Numbered, on, is-end, row}
 use Rattle.reader.specs.Text.{default-options}
-use Rattle.loader.specs.Placing.{Placement, Base, from-segment, from-linear, from-start, byte-address, placed, base-behind, Action, places, step-at, steps, stated}
-use Rattle.loader.specs.Load.{Tally, no-records, one-more, Decision, by, accepted, refused, verdict, within, outside, or-later, decision, unfit, Loaded, store, stopping-at, steps-of, placements, stopping, load}
-use Rattle.loader.specs.Segments.{flat, flat-steps, flat-load, In-segment, In-segments, Outside, Never-both, Same-or-outside}
-use Rattle.loader.proofs.Stores.{within-true}
-use Rattle.loader.proofs.Demand3.{good-window, stored-answer, accepted-window}
+use Rattle.steps.specs.Steps.{Placement, places, Step, step, Tally, nothing-yet, one-more, Verdict, Decision, accepted, outside, at-data as met, turn, onward, decision, verdict, stated}
+use Rattle.steps.specs.Sites as sites
+use Rattle.steps.specs.Sites.{Loaded, store, stopping-by, stopping-in, load-steps}
+use Rattle.steps.proofs.Sites.{stored-answer}
+use Rattle.window.specs.Window.{within, window, unfit, one-window}
+use Rattle.window.proofs.Tests.{within-true, good-window}
+use Rattle.loader.specs.Placing.{Base, from-segment, from-linear, from-start, byte-address, placed, base-behind, does, act, base-after, intel-by, along}
+use Rattle.loader.specs.Load.{room-of, load}
+use Rattle.loader.specs.Segments.{flat, flat-load, In-segment, In-segments, Outside, Never-both, Same-or-outside}
+use Rattle.loader.specs.Helpers.{left, does-on}
+use Rattle.loader.proofs.Rows.{by-row}
+use Rattle.loader.proofs.Demand3.{accepted-window, accepted-decision}
 use Rattle.loader.proofs.Reasons.{Seen, seen}
 use Rattle.loader.proofs.Puts.{first-inside}
 use Rattle.loader.proofs.Segments.{Low, low-start, length-placed, unwrapped, by-rows}
@@ -33,11 +40,11 @@ module _ (first size : ℕ) (small : size ≤ 65536) where
   inside = within first size
 
   -- two rows of steps come to the same decision and placements
-  abbrev Alike : Tally → (s₁ s₂ : List Action) → Type 0
+  abbrev Alike : Tally → (s₁ s₂ : List Step) → Type 0
   Alike tally s₁ s₂ = (decision inside tally s₁ ≡ decision inside tally s₂) × (stated s₁ ≡ stated s₂)
 
   -- or one of them is refused with 17
-  abbrev Sides : Tally → (s₁ s₂ : List Action) → Type 0
+  abbrev Sides : Tally → (s₁ s₂ : List Step) → Type 0
   Sides tally s₁ s₂ = Alike tally s₁ s₂ ⊎ (Outside (verdict (decision inside tally s₁)) ⊎ Outside (verdict (decision inside tally s₂)))
 
   byte-inside : (base : Base) (offset : ℕ) (bytes : List ℕ) (j : ℕ) → j < length bytes → outside inside (placed base offset 0 bytes) ≡ none
@@ -58,40 +65,40 @@ module _ (first size : ℕ) (small : size ≤ 65536) where
       omega arith
 
   -- the same step ahead of both
-  ahead : (n : ℕ) (what : List Placement) (s₁ s₂ : List Action) → ((t : Tally) → Sides t s₁ s₂) → (tally : Tally) → Sides tally (places n what ∷ s₁) (places n what ∷ s₂)
-  unfolding decision or-later verdict stated
+  ahead : (n : ℕ) (what : List Placement) (s₁ s₂ : List Step) → ((t : Tally) → Sides t s₁ s₂) → (tally : Tally) → Sides tally (step n (places what) ∷ s₁) (step n (places what) ∷ s₂)
+  unfolding decision turn verdict stated
   ahead n what s₁ s₂ h tally = go (outside inside what) (h (one-more tally))
     where
       go : (o : Option ℕ) → Sides (one-more tally) s₁ s₂
-          → ((or-later n o (decision inside (one-more tally) s₁) ≡ or-later n o (decision inside (one-more tally) s₂)) × (what ++ stated s₁ ≡ what ++ stated s₂))
-          ⊎ (Outside (verdict (or-later n o (decision inside (one-more tally) s₁))) ⊎ Outside (verdict (or-later n o (decision inside (one-more tally) s₂))))
+          → ((onward n (met n o tally) (λ t′. decision inside t′ s₁) ≡ onward n (met n o tally) (λ t′. decision inside t′ s₂)) × (what ++ stated s₁ ≡ what ++ stated s₂))
+          ⊎ (Outside (verdict (onward n (met n o tally) (λ t′. decision inside t′ s₁))) ⊎ Outside (verdict (onward n (met n o tally) (λ t′. decision inside t′ s₂))))
       go (some a) x = inr (inl (a, n, refl))
       go none (inl (d, e)) = inl (d, ap (λ (ps : List Placement). what ++ ps) e)
       go none (inr x) = inr x
 
   -- the steps of a record that passes its segment's end
-  parted : (n base offset : ℕ) (bytes : List ℕ) (s₁ s₂ : List Action) → base + 65536 ≤ 2 ^ 32 → offset < 65536 → 65536 < offset + length bytes
-      → (tally : Tally) → Sides tally (places n (placed (from-linear base) offset 0 bytes) ∷ s₁) (places n (placed (from-segment base) offset 0 bytes) ∷ s₂)
-  unfolding decision or-later verdict stated
+  parted : (n base offset : ℕ) (bytes : List ℕ) (s₁ s₂ : List Step) → base + 65536 ≤ 2 ^ 32 → offset < 65536 → 65536 < offset + length bytes
+      → (tally : Tally) → Sides tally (step n (places (placed (from-linear base) offset 0 bytes)) ∷ s₁) (step n (places (placed (from-segment base) offset 0 bytes)) ∷ s₂)
+  unfolding decision turn verdict stated
   parted n base offset bytes s₁ s₂ b o h tally = inr (go (outside inside (placed (from-linear base) offset 0 bytes)) (outside inside (placed (from-segment base) offset 0 bytes)) refl refl)
     where
       go : (p q : Option ℕ) → outside inside (placed (from-linear base) offset 0 bytes) ≡ p → outside inside (placed (from-segment base) offset 0 bytes) ≡ q
-          → Outside (verdict (or-later n p (decision inside (one-more tally) s₁))) ⊎ Outside (verdict (or-later n q (decision inside (one-more tally) s₂)))
+          → Outside (verdict (onward n (met n p tally) (λ t′. decision inside t′ s₁))) ⊎ Outside (verdict (onward n (met n q tally) (λ t′. decision inside t′ s₂)))
       go (some a) q x y = inl (a, n, refl)
       go none (some a) x y = inr (a, n, refl)
       go none none x y = absurd (not-both base offset bytes b o h x y)
 
   abbrev Parts : Base → List Numbered → Type 0
-  Parts base row = (tally : Tally) → Sides tally (flat-steps base row) (steps base row)
+  Parts base row = (tally : Tally) → Sides tally (along flat base row) (left base row)
 
-  step-parts : (n : ℕ) (base : Base) (m : Meaning) (s₁ s₂ : List Action) → Sayable m → Low base → ((t : Tally) → Sides t s₁ s₂)
-      → (tally : Tally) → Sides tally (step-at n (flat base) m ++ s₁) (step-at n base m ++ s₂)
-  unfolding step-at flat decision stated Low
+  step-parts : (n : ℕ) (base : Base) (m : Meaning) (s₁ s₂ : List Step) → Sayable m → Low base → ((t : Tally) → Sides t s₁ s₂)
+      → (tally : Tally) → Sides tally (does-on n (flat base) m ++ s₁) (does-on n base m ++ s₂)
+  unfolding does flat decision turn stated Low
   step-parts n (from-linear base) (data-at offset bytes) s₁ s₂ s h f tally = ahead n (placed (from-linear base) offset 0 bytes) s₁ s₂ f tally
   step-parts n (from-segment base) (data-at offset bytes) s₁ s₂ s h f tally = go (ltb 65536 (offset + length bytes)) refl
     where
       go : (t : Bool) → ltb 65536 (offset + length bytes) ≡ t
-          → Sides tally (places n (placed (from-linear base) offset 0 bytes) ∷ s₁) (places n (placed (from-segment base) offset 0 bytes) ∷ s₂)
+          → Sides tally (step n (places (placed (from-linear base) offset 0 bytes)) ∷ s₁) (step n (places (placed (from-segment base) offset 0 bytes)) ∷ s₂)
       go true e = parted n base offset bytes s₁ s₂ h (s .0) (ltb-true 65536 (offset + length bytes) e) tally
       go false e =
           rw (unwrapped base offset 0 bytes h (omega (arith, ltb-false 65536 (offset + length bytes) e))) (ahead n (placed (from-segment base) offset 0 bytes) s₁ s₂ f tally)
@@ -103,11 +110,11 @@ module _ (first size : ℕ) (small : size ≤ 65536) where
 
   record-parts : (n : ℕ) (base : Base) (kind address : ℕ) (payload : List ℕ) (row : List Numbered) → let m = meaning kind address payload in
       Sayable m → Low base → (is-end m ≡ true → row ≡ []) → Parts (base-behind base m) row → Parts base (on n (says kind address payload) ∷ row)
-  unfolding flat-steps steps
+  unfolding along act base-after
   record-parts n base kind address payload row s h ends f = step-parts n base (meaning kind address payload) _ _ s h f
 
   parts : (text : List ℕ) → Parts from-start (row default-options text)
-  unfolding row flat-steps steps decision stated
+  unfolding row along act decision turn stated
   parts text = by-rows Parts (λ base tally. inl (refl, refl)) (λ n base r tally. inl (refl, refl)) record-parts 1 (lines text) from-start low-start
 
   -- a decision that accepts
@@ -116,25 +123,25 @@ module _ (first size : ℕ) (small : size ≤ 65536) where
 
   -- where both rows of steps are accepted, no record passes its segment's end
   abbrev Whole : Base → List Numbered → Type 0
-  Whole base row = (tally : Tally) → Accept (decision inside tally (flat-steps base row)) → Accept (decision inside tally (steps base row)) → In-segments base row
+  Whole base row = (tally : Tally) → Accept (decision inside tally (along flat base row)) → Accept (decision inside tally (left base row)) → In-segments base row
 
   -- a record that is passed lies inside, and what is behind it is accepted
-  passed : (n : ℕ) (o : Option ℕ) (d : Option Decision) → Accept (or-later n o d) → (o ≡ none) × Accept d
-  unfolding or-later verdict
-  passed n none d x = (refl, x)
-  passed n (some a) d (t, e) = let z : _≡_ {A = ℕ} 0 1 = cc in absurd (omega arith)
+  passed : (n : ℕ) (o : Option ℕ) (s : List Step) (t : Tally) → Accept (onward n (met n o t) (λ t′. decision inside t′ s)) → (o ≡ none) × Accept (decision inside (one-more t) s)
+  unfolding verdict
+  passed n none s t x = (refl, x)
+  passed n (some a) s t′ (t, e) = let z : _≡_ {A = ℕ} 0 1 = cc in absurd (omega arith)
 
-  step-whole : (n : ℕ) (base : Base) (m : Meaning) (s₁ s₂ : List Action) (K : Type 0) → Sayable m → Low base → (is-end m ≡ true → K)
+  step-whole : (n : ℕ) (base : Base) (m : Meaning) (s₁ s₂ : List Step) (K : Type 0) → Sayable m → Low base → (is-end m ≡ true → K)
       → ((t : Tally) → Accept (decision inside t s₁) → Accept (decision inside t s₂) → K)
-      → (tally : Tally) → Accept (decision inside tally (step-at n (flat base) m ++ s₁)) → Accept (decision inside tally (step-at n base m ++ s₂)) → In-segment base m × K
-  unfolding step-at flat decision or-later verdict Low is-end
+      → (tally : Tally) → Accept (decision inside tally (does-on n (flat base) m ++ s₁)) → Accept (decision inside tally (does-on n base m ++ s₂)) → In-segment base m × K
+  unfolding does flat decision turn verdict Low is-end
   step-whole n (from-linear base) (data-at offset bytes) s₁ s₂ K s h k f tally = λ x y.
-      let p = passed n (outside inside (placed (from-linear base) offset 0 bytes)) _ x in
-      let q = passed n (outside inside (placed (from-linear base) offset 0 bytes)) _ y in
+      let p = passed n (outside inside (placed (from-linear base) offset 0 bytes)) s₁ tally x in
+      let q = passed n (outside inside (placed (from-linear base) offset 0 bytes)) s₂ tally y in
       (tt, f (one-more tally) (p .1) (q .1))
   step-whole n (from-segment base) (data-at offset bytes) s₁ s₂ K s h k f tally = λ x y.
-      let p = passed n (outside inside (placed (from-linear base) offset 0 bytes)) _ x in
-      let q = passed n (outside inside (placed (from-segment base) offset 0 bytes)) _ y in
+      let p = passed n (outside inside (placed (from-linear base) offset 0 bytes)) s₁ tally x in
+      let q = passed n (outside inside (placed (from-segment base) offset 0 bytes)) s₂ tally y in
       let in-it : ¬ (65536 < offset + length bytes) = λ c. not-both base offset bytes h (s .0) c (p .0) (q .0) in
       (omega arith, f (one-more tally) (p .1) (q .1))
   step-whole n base end-of-file s₁ s₂ K s h k f tally = λ x y. (tt, k refl)
@@ -145,7 +152,7 @@ module _ (first size : ℕ) (small : size ≤ 65536) where
 
   record-whole : (n : ℕ) (base : Base) (kind address : ℕ) (payload : List ℕ) (row : List Numbered) → let m = meaning kind address payload in
       Sayable m → Low base → (is-end m ≡ true → row ≡ []) → Whole (base-behind base m) row → Whole base (on n (says kind address payload) ∷ row)
-  unfolding flat-steps steps
+  unfolding along act base-after
   record-whole n base kind address payload row s h ends f =
       let m = meaning kind address payload in
       step-whole n base m _ _ (In-segments (base-behind base m) row) s h (λ e. rw (ends e) tt) f
@@ -154,41 +161,64 @@ module _ (first size : ℕ) (small : size ≤ 65536) where
   unfolding row
   whole text = by-rows Whole (λ base tally x y. tt) (λ n base r tally x y. tt) record-whole 1 (lines text) from-start low-start
 
+-- ---- the two loads
+
+module _ (text : List ℕ) (first : ℕ) (page marks : List ℕ) where
+  -- the steps of what is read, placed by a function of the base
+  abbrev read : (Base → Base) → List Step
+  read f = along f from-start (row default-options text)
+
+  -- what decides the load of these steps
+  abbrev judged : (Base → Base) → Verdict
+  judged f = verdict (stopping-in (room-of first page marks) (read f))
+
+  answer-is : (f : Base → Base) → (sites.load (intel-by f) (room-of first page marks) text page marks) .answer ≡ judged f
+  unfolding load-steps
+  answer-is f =
+      ap (λ (l : Loaded). l .answer) (by-row f (room-of first page marks) text page marks)
+      ∙ stored-answer (room-of first page marks .site) (stated (read f)) page marks (judged f)
+
 pub never-both : Never-both
-unfolding load flat-load placements stopping
+unfolding load flat-load
 never-both text first page marks t t′ x y =
-    let s₁ = flat-steps from-start (row default-options text) in
-    let bad = unfit first (length page) (length marks) in
-    let x′ = sym (stored-answer first (stated s₁) page marks (verdict (stopping-at s₁ first page marks))) ∙ x in
-    let y′ = sym (stored-answer first (stated (steps-of text)) page marks (verdict (stopping-at (steps-of text) first page marks))) ∙ y in
-    let good : bad ≡ false = accepted-window bad (decision (within first (length page)) no-records s₁) t x′ in
-    whole first (length page) (good-window first page marks good .small) text no-records (t, rw good at x′) (t′, rw good at y′)
+    let x′ = sym (answer-is text first page marks flat) ∙ x in
+    let y′ = sym (answer-is text first page marks (λ base. base)) ∙ y in
+    let w = accepted-window first page marks (read text first page marks flat) t x′ in
+    whole first (length page) (w .small) text nothing-yet
+    (t, accepted-decision first page marks (read text first page marks flat) t x′)
+    (t′, accepted-decision first page marks (read text first page marks (λ base. base)) t′ y′)
 
 pub same-or-outside : Same-or-outside
-unfolding load flat-load placements stopping
-same-or-outside text first page marks = go (unfit first (length page) (length marks)) refl
+unfolding load flat-load load-steps one-window stopping-by
+same-or-outside text first page marks =
+    rw (by-row flat (room-of first page marks) text page marks, by-row (λ base. base) (room-of first page marks) text page marks) apart
   where
     inside-it : ℕ → Bool
     inside-it = within first (length page)
 
+    s₁ : List Step
+    s₁ = along flat from-start (row default-options text)
+
+    s₂ : List Step
+    s₂ = left from-start (row default-options text)
+
     -- the load of steps, once it is known whether the window is refused
-    kept : Bool → List Action → Loaded
-    kept b s = store first (stated s) page marks (verdict (if b then some (by 0 (refused bad-window 0)) else decision inside-it no-records s))
+    kept : Bool → List Step → Loaded
+    kept b s = store (window first (length page)) (stated s) page marks (verdict (stopping-by (if b then some bad-window else none) inside-it s))
 
-    answers : (s : List Action) → Outside (verdict (decision inside-it no-records s)) → Outside ((kept false s) .answer)
-    answers s (a, n, e) = (a, n, stored-answer first (stated s) page marks (verdict (decision inside-it no-records s)) ∙ e)
+    answers : (s : List Step) → Outside (verdict (stopping-by none inside-it s)) → Outside ((kept false s) .answer)
+    answers s (a, n, e) = (a, n, stored-answer (window first (length page)) (stated s) page marks (verdict (stopping-by none inside-it s)) ∙ e)
 
-    s₁ : List Action
-    s₁ = flat-steps from-start (row default-options text)
-
-    s₂ : List Action
-    s₂ = steps-of text
+    sides : (small : length page ≤ 65536) → Sides first (length page) small nothing-yet s₁ s₂ → (kept false s₁ ≡ kept false s₂) ⊎ (Outside ((kept false s₁) .answer) ⊎ Outside ((kept false s₂) .answer))
+    sides small (inl (d, q)) = inl (ap₂ (λ (ps : List Placement) (o : Option Decision). store (window first (length page)) ps page marks (verdict o)) q d)
+    sides small (inr (inl o)) = inr (inl (answers s₁ o))
+    sides small (inr (inr o)) = inr (inr (answers s₂ o))
 
     go : (b : Bool) → unfit first (length page) (length marks) ≡ b → (kept b s₁ ≡ kept b s₂) ⊎ (Outside ((kept b s₁) .answer) ⊎ Outside ((kept b s₂) .answer))
     go true e = inl refl
-    go false e = sides (parts first (length page) (good-window first page marks e .small) text no-records)
-      where
-        sides : Sides first (length page) (good-window first page marks e .small) no-records s₁ s₂ → (kept false s₁ ≡ kept false s₂) ⊎ (Outside ((kept false s₁) .answer) ⊎ Outside ((kept false s₂) .answer))
-        sides (inl (d, q)) = inl (ap₂ (λ (ps : List Placement) (o : Option Decision). store first ps page marks (verdict o)) q d)
-        sides (inr (inl o)) = inr (inl (answers s₁ o))
-        sides (inr (inr o)) = inr (inr (answers s₂ o))
+    go false e = let small = good-window first page marks e .small in sides small (parts first (length page) small text nothing-yet)
+
+    apart : let l = load-steps (room-of first page marks) s₂ page marks in
+        let f = load-steps (room-of first page marks) s₁ page marks in
+        (f ≡ l) ⊎ (Outside (f .answer) ⊎ Outside (l .answer))
+    apart = go (unfit first (length page) (length marks)) refl

@@ -30,25 +30,28 @@ use Rattle.loader.specs.declared.LoaderError.{LoaderError}
 use Rattle.loader.specs.declared.LoaderError.the-variants.{Line, MissingEndOfFileRecord, BadWindow, OutsideWindow}
 use Rattle.loader.specs.declared.Loading.{Loading}
 use Rattle.loader.specs.declared.Loading.the-variants.{Accepted, Refused}
-use Rattle.loader.specs.Load.{no-records, Verdict, accepted, refused, Decision, by, within, decision, verdict, unfit, placements, steps-of, stopping, load}
+use Rattle.steps.specs.Steps.{nothing-yet, Verdict, accepted, refused, Decision, by, decision, verdict}
+use Rattle.steps.specs.Source as source
+use Rattle.steps.specs.Sites.{stopping-by, stopping-in}
+use Rattle.window.specs.Window.{within, unfit, one-window}
+use Rattle.window.specs.Claims.{Window}
+use Rattle.window.proofs.Tests.{good-window, no-window}
+use Rattle.loader.specs.declared.Tally.{Tally as CodeTally}
+use Rattle.loader.specs.Placing.{intel-by}
+use Rattle.loader.specs.Load.{room-of, placements, steps-of, stopping, load}
 use Rattle.loader.specs.Told.{refusal-by, told}
-use Rattle.loader.specs.Claims.{Window, in-force, data-records, Stops, the-end, no-record, first-outside, Decided, Why, bad-one, no-end, at-line, Reasons, Load-names-the-offender, Among, Total, Told-apart, Load-unique, Is-unfit-unique, Unfit-is-no-window, Examples}
-use Rattle.loader.proofs.Demand3.{good-window, load-answer}
+use Rattle.loader.specs.Claims.{in-force, data-records, Stops, the-end, no-record, first-outside, Decided, Why, bad-one, no-end, at-line, Reasons, Load-names-the-offender, Among, Total, Told-apart, Load-unique, Examples}
+use Rattle.loader.proofs.Demand3.{load-answer}
 use Rattle.loader.proofs.Reasons.{Walked, walked}
 
 pub examples : Examples
-unfolding load judge meaning number
+unfolding load stopping placements intel-by judge meaning number
 examples = record { sixth-place = refl; below-it = refl; wraps = refl }
 
 -- ---- reasons
 
-pub no-window : (first : ℕ) (page marks : List ℕ) → unfit first (length page) (length marks) ≡ true → ¬ Window first page marks
-unfolding unfit
-no-window first page marks e w =
-    true≢false (sym e ∙ rw (eq-eqb (length page) (length marks) (w .even), le-ltb 65536 (length page) (w .small), le-ltb (2 ^ 32) (first + length page) (w .below)))
-
 pub reasons : Reasons
-unfolding stopping placements row in-force data-records verdict
+unfolding stopping placements steps-of source.steps-of in-force data-records verdict one-window stopping-by intel-by
 reasons text first page marks =
     rw (load-answer text first page marks) (go (unfit first (length page) (length marks)) refl)
   where
@@ -60,10 +63,9 @@ reasons text first page marks =
     by-its-line w (some (by m v)) f =
         at-line m v w (record { ahead = f .mid; line = f .line; later = f .later; whole = f .whole; number = omega (arith, f .number); pass = f .pass; stops = f .stops; stated = f .states })
 
-    go : (b : Bool) → unfit first (length page) (length marks) ≡ b
-        → Why text first page marks (verdict (if b then some (by 0 (refused bad-window 0)) else decision inside no-records (steps-of text)))
+    go : (b : Bool) → unfit first (length page) (length marks) ≡ b → Why text first page marks (verdict (stopping-by (if b then some bad-window else none) inside (steps-of text)))
     go true e = bad-one (no-window first page marks e)
-    go false e = by-its-line (good-window first page marks e) (decision inside no-records (steps-of text)) (walked inside (lines text) 1 [] no-records refl)
+    go false e = by-its-line (good-window first page marks e) (decision inside nothing-yet (steps-of text)) (walked inside (lines text) 1 [] nothing-yet (record { records = refl }))
 
 -- ---- totality
 
@@ -151,7 +153,7 @@ again BadWindow = refl
 again (OutsideWindow a) = refl
 
 untold-load : Verdict → Loading
-untold-load (accepted t) = Accepted (t .records)
+untold-load (accepted t) = Accepted (record { records = t .records })
 untold-load (refused r n) = Refused (error r) n
 
 told-again : (l : Loading) → untold-load (told l) ≡ l
@@ -165,14 +167,3 @@ told-apart a b e = sym (told-again a) ∙ ap untold-load e ∙ told-again b
 pub load-unique : Load-unique
 load-unique text first page marks r r′ p p′ m m′ x y =
     (told-apart r r′ (x .answer ∙ sym (y .answer)), x .page ∙ sym (y .page), x .marks ∙ sym (y .marks))
-
-pub is-unfit-unique : Is-unfit-unique
-is-unfit-unique first page marks r r′ x y = x .answer ∙ sym (y .answer)
-
-pub unfit-is-no-window : Unfit-is-no-window
-unfit-is-no-window first page marks r x =
-    (λ e. good-window first page marks (sym (x .answer) ∙ e), λ w. fit (unfit first (length page) (length marks)) refl w)
-  where
-    fit : (b : Bool) → unfit first (length page) (length marks) ≡ b → Window first page marks → r ≡ false
-    fit true e w = absurd (no-window first page marks e w)
-    fit false e w = x .answer ∙ e

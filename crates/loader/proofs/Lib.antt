@@ -1,10 +1,9 @@
-pub mod Pages
 pub mod Rows
 pub mod Demand3
 pub mod Reasons
 pub mod Claims
 pub mod OneReason
-pub mod Stores
+pub mod Runs
 pub mod Calls
 pub mod Meeting
 pub mod Passes

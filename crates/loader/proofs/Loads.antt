@@ -1,168 +1,156 @@
 -- The passes from beginning to end: each turn hands on that what is left comes to the same as the whole, and at the end nothing is left.
--- So the first pass tells the load's verdict and the second leaves its page and marks.
+-- So the first pass returns the load's verdict and the second leaves its page and marks.
 -- Assumes nothing.
 use mathlib.Core.Path.{_≡_, refl, sym, ap, _∙_, subst}
-use Prim.Native.Nat.{ℕ, _^_, _<_}
+use Prim.Native.Nat.{ℕ, suc, _+_, _^_, _≤_, _<_}
+use native.Mathlib.Omega.{arith}
 use mathlib.Core.Bool.{Bool, true, false}
-use mathlib.Core.Option.{Option, none, some}
-use mathlib.Core.List.{List, [], map}
+use mathlib.Core.List.{List, [], _∷_, map}
 use lib.ListN.{length, replicate}
 use Rattle.record.specs.Refusals.{Refusal, bad-window}
-use Rattle.reader.specs.Row.{through-stop}
 use Rattle.reader.specs.Along.{unread}
-use Rattle.record.proofs.Tests.{if-true, if-false}
+use Rattle.steps.specs.Steps.{Tally, nothing-yet, accepted, refused, decision, verdict, stated}
+use Rattle.steps.specs.Sites.{Loaded, painted, marked, stopping-by}
+use Rattle.steps.specs.Runs.{as-mark, cleared}
+use Rattle.steps.proofs.Places.{painted-none}
+use Rattle.steps.proofs.Runs.{marks-by-ones}
+use Rattle.steps.proofs.Sites as general
+use Rattle.window.specs.Window.{within, window, unfit, one-window}
+use Rattle.window.specs.Contracts.{Painted}
+use Rattle.window.proofs.Tests.{good-window}
+use Rattle.window.proofs.Storing.{shows}
 use Rattle.loader.specs.declared.LoaderError.{LoaderError}
 use Rattle.loader.specs.declared.LoaderError.the-variants.{BadWindow}
 use Rattle.loader.specs.declared.Loading.{Loading}
 use Rattle.loader.specs.declared.Loading.the-variants.{Accepted, Refused}
+use Rattle.loader.specs.declared.Tally.{Tally as CodeTally}
 use Rattle.loader.specs.declared.Turn.{Turn}
 use Rattle.loader.specs.declared.Turn.the-variants.{On, Stop}
+use Rattle.loader.specs.declared.Further.{Further}
+use Rattle.loader.specs.declared.Further.the-variants as further
 use Rattle.loader.specs.declared.Walk.{Walk}
-use Rattle.loader.specs.Placing.{steps, stated}
-use Rattle.loader.specs.Load.{Tally, no-records, accepted, refused, Decision, by, within, decision, verdict, unfit, painted, Loaded, placements, steps-of, stopping, load}
-use Rattle.loader.specs.Told.{refusal-by, told, Load}
-use Rattle.loader.specs.Helpers.{as-mark, Painted, tally-of, ahead-of, Under-way, Few, Onward, Judged, is-accepted, Accepts, Ready, Wrote}
-use Rattle.loader.proofs.Pages.{painted-none, marked-painted}
-use Rattle.loader.proofs.Demand3.{accepted-load}
+use Rattle.loader.specs.Placing.{intel}
+use Rattle.loader.specs.Load.{room-of, placements, steps-of, stopping, load}
+use Rattle.loader.specs.Told.{refusal-by, tallied, told, Load}
+use Rattle.loader.specs.Helpers.{ahead-of, Under-way, Few, Onward, Judged, is-accepted, Same-painting, Written-on, Wrote}
+use Rattle.loader.proofs.Demand3.{fit-stopping, accepted-load}
 use Rattle.loader.proofs.Passes.{start, start-under-way, start-few, start-ahead}
 
 -- ---- the first pass
 
-pub record Judging (inside : ℕ → Bool) (text pool : List ℕ) (w : Walk) (records : ℕ) : Type 0 where
+pub record Judging (inside : ℕ → Bool) (text pool : List ℕ) (w : Walk) (tally : CodeTally) : Type 0 where
   pub under-way : Under-way text w
-  pub few : Few text w records
+  pub few : Few text w tally
   pub room : length pool ≡ 255
-  pub same : decision inside (tally-of records) (ahead-of w text) ≡ decision inside no-records (steps-of text)
+  pub same : decision inside (tallied tally) (ahead-of w text) ≡ decision inside nothing-yet (steps-of text)
 
 module _ (inside : ℕ → Bool) (text pool : List ℕ) where
-  pub judging-start : length text < 2 ^ 64 → length pool ≡ 255 → (w : Walk) → w ≡ start → Judging inside text pool w 0
+  pub judging-start : length text < 2 ^ 64 → length pool ≡ 255 → (w : Walk) → w ≡ start → Judging inside text pool w (record { records = 0 })
   judging-start h l w e =
-      rw e (record { under-way = start-under-way text h; few = start-few text; room = l; same = ap (decision inside no-records) (start-ahead text) })
+      rw e (record { under-way = start-under-way text h; few = start-few text; room = l; same = ap (decision inside nothing-yet) (start-ahead text) })
 
-  module _ (w : Walk) (records : ℕ) (j : Judging inside text pool w records) (t : Turn) (h : Judged inside text w records t) where
-    onward : (w′ : Walk) (records′ : ℕ) → t ≡ On w′ records′ → Onward inside text w records w′ records′
-    onward w′ records′ e = subst (Judged inside text w records) e h
+  module _ (w : Walk) (tally : CodeTally) (j : Judging inside text pool w tally) (t : Turn) (h : Judged inside text w tally t) where
+    onward : (w′ : Walk) (tally′ : CodeTally) → t ≡ On w′ tally′ → Onward inside text w tally w′ tally′
+    onward w′ tally′ e = subst (Judged inside text w tally) e h
 
-    pub judging-less : (w′ : Walk) (records′ : ℕ) → t ≡ On w′ records′ → length (unread (w′ .state) text) < length (unread (w .state) text)
-    judging-less w′ records′ e = onward w′ records′ e .less
+    pub judging-less : (w′ : Walk) (tally′ : CodeTally) → t ≡ On w′ tally′ → length (unread (w′ .state) text) < length (unread (w .state) text)
+    judging-less w′ tally′ e = onward w′ tally′ e .less
 
-    pub judging-again : (w′ : Walk) (records′ : ℕ) → t ≡ On w′ records′ → (pool′ : List ℕ) → length pool′ ≡ length pool → Judging inside text pool′ w′ records′
-    judging-again w′ records′ e pool′ l =
-        let o = onward w′ records′ e in
+    pub judging-again : (w′ : Walk) (tally′ : CodeTally) → t ≡ On w′ tally′ → (pool′ : List ℕ) → length pool′ ≡ length pool → Judging inside text pool′ w′ tally′
+    judging-again w′ tally′ e pool′ l =
+        let o = onward w′ tally′ e in
         record { under-way = o .under-way; few = o .few; room = l ∙ j .room; same = o .same ∙ j .same }
 
-    pub judging-end : (l : Loading) → t ≡ Stop l → told l ≡ verdict (decision inside no-records (steps-of text))
-    judging-end l e = subst (Judged inside text w records) e h ∙ ap verdict (j .same)
+    pub judging-end : (l : Loading) → t ≡ Stop l → told l ≡ verdict (decision inside nothing-yet (steps-of text))
+    judging-end l e = subst (Judged inside text w tally) e h ∙ ap verdict (j .same)
 
 -- ---- the second pass
 
-pub record Writing (first : ℕ) (text page₀ marks₀ page marks pool : List ℕ) (w : Walk) (finished : Bool) : Type 0 where
+pub record Writing (first : ℕ) (text page₀ marks₀ page marks pool : List ℕ) (w : Walk) : Type 0 where
   pub under-way : Under-way text w
   pub room : length pool ≡ 255
-  pub size : length page ≡ length page₀
-  pub even : length page ≡ length marks
-  pub flag : finished ≡ w .state .finished
-  pub page-same : painted first (stated (ahead-of w text)) page ≡ painted first (placements text) page₀
-  pub marks-same : painted first (map as-mark (stated (ahead-of w text))) marks ≡ painted first (map as-mark (placements text)) marks₀
-  pub accepts : finished ≡ false → Accepts (within first (length page)) (ahead-of w text)
+  pub sizes : length marks ≡ length marks₀
+  pub same : Same-painting first (steps-of text) page₀ marks₀ (ahead-of w text) page marks
 
 module _ (first : ℕ) (text page₀ marks₀ : List ℕ) where
-  pub writing-start : (pool : List ℕ) → length text < 2 ^ 64 → length pool ≡ 255 → length page₀ ≡ length marks₀
-      → Accepts (within first (length page₀)) (steps-of text) → (w : Walk) → w ≡ start → Writing first text page₀ marks₀ page₀ marks₀ pool w false
-  unfolding placements
-  writing-start pool h l even a w e =
-      rw e (record {
-        under-way = start-under-way text h;
-        room = l;
-        size = refl;
-        even = even;
-        flag = refl;
-        page-same = rw (start-ahead text);
-        marks-same = rw (start-ahead text);
-        accepts = λ f. rw (start-ahead text) a;
-      })
+  pub writing-start : (pool : List ℕ) → length text < 2 ^ 64 → length pool ≡ 255 → (w : Walk) → w ≡ start → Writing first text page₀ marks₀ page₀ marks₀ pool w
+  writing-start pool h l w e =
+      rw e (record { under-way = start-under-way text h; room = l; sizes = refl; same = record { size = refl; page = rw (start-ahead text); marks = rw (start-ahead text) } })
 
-  module _ (page marks pool : List ℕ) (w : Walk) (finished : Bool) (s : Writing first text page₀ marks₀ page marks pool w finished) where
-    pub writing-ready : finished ≡ false → Ready first text w pool page marks
-    writing-ready f = record { under-way = s .under-way; pool-room = s .room; even = s .even; accepts = s .accepts f }
+  module _ (page marks pool : List ℕ) (w : Walk) (s : Writing first text page₀ marks₀ page marks pool w) (t : Further) (page′ marks′ : List ℕ) (o : Wrote first text w page marks t page′ marks′) where
+    written : (w′ : Walk) → t ≡ further.On w′ → Written-on first text w page marks w′ page′ marks′
+    written w′ e = subst (λ (x : Further). Wrote first text w page marks x page′ marks′) e o
 
-    pub writing-again : (w′ : Walk) (page′ marks′ pool′ : List ℕ) → Wrote first text w page marks w′ page′ marks′
-        → length page′ ≡ length page → length marks′ ≡ length marks → length pool′ ≡ length pool
-        → Writing first text page₀ marks₀ page′ marks′ pool′ w′ (w′ .state .finished)
-    writing-again w′ page′ marks′ pool′ o lp lm l =
+    pub writing-less : (w′ : Walk) → t ≡ further.On w′ → length (unread (w′ .state) text) < length (unread (w .state) text)
+    writing-less w′ e = written w′ e .less
+
+    pub writing-again : (w′ : Walk) → t ≡ further.On w′ → (pool′ : List ℕ) → length pool′ ≡ length pool → length marks′ ≡ length marks → Writing first text page₀ marks₀ page′ marks′ pool′ w′
+    writing-again w′ e pool′ l lm =
+        let n = written w′ e in
+        let z = s .same .size in
         record {
-          under-way = o .under-way;
+          under-way = n .under-way;
           room = l ∙ s .room;
-          size = lp ∙ s .size;
-          even = lp ∙ s .even ∙ sym lm;
-          flag = refl;
-          page-same = o .page ∙ s .page-same;
-          marks-same = o .marks ∙ s .marks-same;
-          accepts = o .accepts;
+          sizes = lm ∙ s .sizes;
+          same = record { size = n .same .size ∙ z; page = rw z at (n .same .page) ∙ s .same .page; marks = rw z at (n .same .marks) ∙ s .same .marks };
         }
 
-    pub writing-end : finished ≡ true → Painted first (placements text) page₀ marks₀ page marks
-    unfolding unread steps stated through-stop
-    writing-end f =
-        let u : unread (w .state) text ≡ [] = if-true (w .state .finished) _ _ (sym (s .flag) ∙ f) in
-        let a : stated (ahead-of w text) ≡ [] = rw u in
+    pub writing-end : t ≡ further.End → Painted first (placements text) page₀ marks₀ page′ marks′
+    unfolding placements
+    writing-end e =
+        let (n, p, m) = subst (λ (x : Further). Wrote first text w page marks x page′ marks′) e o in
         record {
-          page = sym (painted-none first page) ∙ rw a at (s .page-same);
-          marks = sym (painted-none first marks) ∙ rw a at (s .marks-same);
+          page = p ∙ sym (painted-none (window first (length page₀)) 0 page) ∙ rw n at (s .same .page);
+          marks = m ∙ sym (painted-none (window first (length page₀)) 0 marks) ∙ rw n at (s .same .marks);
         }
 
 -- ---- the load
 
--- an accepted verdict is a line's
-pub by-line : (d : Option Decision) (t : Tally) → verdict d ≡ accepted t → (m : ℕ) × (d ≡ some (by m (accepted t)))
-unfolding verdict
-by-line none t e = (0, cc)
-by-line (some (by m v)) t e = (m, cc)
-
-passed : (a : Loading) → is-accepted a ≡ true → (n : ℕ) × (a ≡ Accepted n)
-passed (Accepted n) e = (n, refl)
-passed (Refused r n) e = (0, cc)
+passed : (a : Loading) → is-accepted a ≡ true → (t : CodeTally) × (a ≡ Accepted t)
+passed (Accepted t) e = (t, refl)
+passed (Refused r n) e = (record { records = 0 }, cc)
 
 turned-away : (a : Loading) → is-accepted a ≡ false → (e : LoaderError) × (n : ℕ) × (a ≡ Refused e n)
-turned-away (Accepted n) e = (BadWindow, 0, cc)
+turned-away (Accepted t) e = (BadWindow, 0, cc)
 turned-away (Refused r n) e = (r, n, refl)
 
-module _ (text : List ℕ) (first : ℕ) (page marks : List ℕ) where
-  refused-load : (r : Refusal) (n : ℕ) → verdict (stopping text first page marks) ≡ refused r n
-      → load text first page marks ≡ record { answer = refused r n; page = page; marks = marks }
-  unfolding load
-  refused-load r n e = rw e
+-- in a window every mark is cleared
+all-cleared : (first size i : ℕ) (marks : List ℕ) → i + length marks ≤ size → cleared (window first size) i marks ≡ replicate (length marks) 0
+unfolding cleared
+all-cleared first size i [] h = refl
+all-cleared first size i (m ∷ marks) h = rw (shows first size i (omega arith)) (ap (λ (l : List ℕ). 0 ∷ l) (all-cleared first size (suc i) marks (omega arith)))
 
-  pub load-unfit : unfit first (length page) (length marks) ≡ true → Load text first page marks (Refused BadWindow 0) page marks
-  unfolding stopping verdict
-  load-unfit e =
-      let l = refused-load bad-window 0 (ap verdict (if-true (unfit first (length page) (length marks)) _ _ e)) in
+module _ (text : List ℕ) (first : ℕ) (page marks : List ℕ) where
+  -- what a load returns and leaves is its contract
+  as-loaded : (a : Loading) (p m : List ℕ) → load text first page marks ≡ record { answer = told a; page = p; marks = m } → Load text first page marks a p m
+  as-loaded a p m l =
       record { answer = ap (λ (x : Loaded). x .answer) (sym l); page = ap (λ (x : Loaded). x .page) (sym l); marks = ap (λ (x : Loaded). x .marks) (sym l) }
 
-  module _ (fit : unfit first (length page) (length marks) ≡ false) (a : Loading) (h : told a ≡ verdict (decision (within first (length page)) no-records (steps-of text))) where
+  refused-load : (r : Refusal) (n : ℕ) → verdict (stopping text first page marks) ≡ refused r n
+      → load text first page marks ≡ record { answer = refused r n; page = page; marks = marks }
+  unfolding load stopping steps-of
+  refused-load r n e = general.refused-load intel (room-of first page marks) text page marks r n e
+
+  pub load-unfit : unfit first (length page) (length marks) ≡ true → Load text first page marks (Refused BadWindow 0) page marks
+  unfolding stopping one-window stopping-by verdict
+  load-unfit e = as-loaded (Refused BadWindow 0) page marks (refused-load bad-window 0 (rw e))
+
+  module _ (fit : unfit first (length page) (length marks) ≡ false) (a : Loading) (h : told a ≡ verdict (decision (within first (length page)) nothing-yet (steps-of text))) where
     judged-so : verdict (stopping text first page marks) ≡ told a
-    unfolding stopping
-    judged-so = ap verdict (if-false (unfit first (length page) (length marks)) _ _ fit) ∙ sym h
+    unfolding stopping stopping-by
+    judged-so = ap verdict (fit-stopping first page marks (steps-of text) fit) ∙ sym h
 
     pub load-refused : is-accepted a ≡ false → Load text first page marks a page marks
     load-refused f =
         let (e, n, q) = turned-away a f in
-        let l = refused-load (refusal-by e) n (judged-so ∙ ap told q) in
-        record { answer = ap told q ∙ ap (λ (x : Loaded). x .answer) (sym l); page = ap (λ (x : Loaded). x .page) (sym l); marks = ap (λ (x : Loaded). x .marks) (sym l) }
+        as-loaded a page marks (rw q (refused-load (refusal-by e) n (judged-so ∙ ap told q)))
 
-    pub load-accepts : is-accepted a ≡ true → Accepts (within first (length page)) (steps-of text)
-    load-accepts t =
-        let (n, q) = passed a t in
-        let (m, e) = by-line (decision (within first (length page)) no-records (steps-of text)) (tally-of n) (sym h ∙ ap told q) in
-        (no-records, m, tally-of n, e)
-
-    pub load-accepted : is-accepted a ≡ true → (cleared page′ marks′ : List ℕ) → cleared ≡ replicate (length marks) 0
-        → Painted first (placements text) page cleared page′ marks′ → Load text first page marks a page′ marks′
-    load-accepted t cleared page′ marks′ c p =
-        let (n, q) = passed a t in
-        let l = accepted-load text first page marks (tally-of n) (judged-so ∙ ap told q) in
-        record {
-          answer = ap told q ∙ ap (λ (x : Loaded). x .answer) (sym l);
-          page = p .page ∙ ap (λ (x : Loaded). x .page) (sym l);
-          marks = p .marks ∙ ap (painted first (map as-mark (placements text))) c ∙ sym (marked-painted first (placements text) marks) ∙ ap (λ (x : Loaded). x .marks) (sym l);
-        }
+    pub load-accepted : is-accepted a ≡ true → (marks₀ page′ marks′ : List ℕ) → marks₀ ≡ replicate (length marks) 0
+        → Painted first (placements text) page marks₀ page′ marks′ → Load text first page marks a page′ marks′
+    load-accepted t marks₀ page′ marks′ c p =
+        let (k, q) = passed a t in
+        let even = good-window first page marks fit .even in
+        let m : marks′ ≡ marked (window first (length page)) 0 (placements text) marks
+        = p .marks ∙ ap (painted (window first (length page)) 0 (map as-mark (placements text))) (c ∙ sym (all-cleared first (length page) 0 marks (omega arith)))
+        ∙ sym (marks-by-ones (window first (length page)) (placements text) marks) in
+        as-loaded a page′ marks′ (rw (p .page, m, q) (accepted-load text first page marks (tallied k) (judged-so ∙ ap told q)))

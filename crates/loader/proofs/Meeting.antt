@@ -6,23 +6,29 @@ use Prim.Native.Nat.{ℕ, _+_, _-_, _≤_}
 use native.Mathlib.Numerals.{add-one}
 use native.Mathlib.Omega.{arith}
 use mathlib.Core.Bool.{Bool, false}
+use mathlib.Core.Option.{Option·map}
 use mathlib.Core.List.{List, [], _++_}
-use lib.ListN.{length, take, drop}
+use lib.ListN.{length, take, drop, length-drop}
+use lib.Seq.{length-take-le}
 use Rattle.record.specs.Refusals.{outside-window}
 use Rattle.record.specs.Record.{meant}
 use Rattle.record.specs.declared.Record.{Record}
 use Rattle.record.specs.declared.Record.the-variants.{Data, EndOfFile, ExtendedSegmentAddress, StartSegmentAddress, ExtendedLinearAddress, StartLinearAddress}
 use Rattle.record.proofs.Parts.{part-is}
 use Rattle.reader.specs.Row.{is-end}
+use Rattle.steps.specs.Steps.{Step, accepted, refused, outside, turn, decision, verdict}
+use Rattle.window.specs.declared.Reach.{Reach}
+use Rattle.window.specs.declared.Reach.the-variants.{Inside, Outside}
+use Rattle.window.specs.Window.{within}
+use Rattle.window.specs.Contracts.{first-byte, Painted}
+use Rattle.steps.proofs.Places.{painted-none}
 use Rattle.loader.specs.declared.Base.{Base as CodeBase}
 use Rattle.loader.specs.declared.Base.the-variants.{Segment, Linear}
-use Rattle.loader.specs.declared.Reach.{Reach}
-use Rattle.loader.specs.declared.Reach.the-variants.{Inside, Outside}
+use Rattle.loader.specs.declared.Tally.{Tally as CodeTally}
 use Rattle.loader.specs.declared.Walk.{Walk}
-use Rattle.loader.specs.Placing.{Base, base-behind, placed, Action, step-at}
-use Rattle.loader.specs.Load.{accepted, refused, outside, decision, verdict}
-use Rattle.loader.specs.Helpers.{based, reached, Painted, Fitting, stated-by, Behind, tally-of, Passed}
-use Rattle.loader.proofs.Pages.{painted-none}
+use Rattle.loader.specs.Placing.{Base, base-behind, byte-address, placed, does}
+use Rattle.loader.specs.Told.{tallied}
+use Rattle.loader.specs.Helpers.{based, Surveyed, stated-by, Short, Lies-in, Behind, does-on, Passed}
 
 -- ---- the base behind a record
 
@@ -56,55 +62,60 @@ module _ (base : CodeBase) (x : Record) where
 pub part-small : (at len : ℕ) (pool : List ℕ) → length (take len (drop at pool)) ≤ 255 → length (take (at + len - at) (drop at pool)) ≤ 255
 part-small at len pool h = rw (part-is pool at len) h
 
+-- a record whose payload lies in a pool is as short as that
+pub short-record : (x : Record) (pool : List ℕ) → Lies-in x pool → Short x
+short-record (Data offset at len) pool (i, s) = omega (arith, i, s, length-take-le len (drop at pool) (omega (arith, i, length-drop at pool)))
+short-record EndOfFile pool l = tt
+short-record (ExtendedSegmentAddress n) pool l = tt
+short-record (StartSegmentAddress cs ip) pool l = tt
+short-record (ExtendedLinearAddress n) pool l = tt
+short-record (StartLinearAddress n) pool l = tt
+
 -- ---- the first pass
 
-module _ (inside : ℕ → Bool) (w : Walk) (records : ℕ) (x : Record) (pool : List ℕ) where
-  -- where the payload of a data record lies, as it was surveyed
-  surveyed : (offset at len : ℕ) (r : Reach) → reached r ≡ outside inside (placed (based (w .base)) offset 0 (take (at + len - at) (drop at pool)))
-      → (r′ : Reach) → r ≡ r′ → outside inside (placed (based (w .base)) offset 0 (take len (drop at pool))) ≡ reached r′
-  surveyed offset at len r h r′ e = ap (λ (bs : List ℕ). outside inside (placed (based (w .base)) offset 0 bs)) (sym (part-is pool at len)) ∙ sym h ∙ ap reached e
+module _ (first size : ℕ) (w : Walk) (tally : CodeTally) (x : Record) (pool : List ℕ) (lies : Lies-in x pool) where
+  abbrev inside : ℕ → Bool
+  inside = within first size
 
-  -- the walk behind the record
+  -- where the payload of a data record lies, as it was surveyed
+  surveyed : (offset at len : ℕ) → x ≡ Data offset at len → (r : Reach) → Surveyed (based (w .base)) offset len first size r
+      → outside inside (placed (based (w .base)) offset 0 (take len (drop at pool))) ≡ Option·map (byte-address (based (w .base)) offset) (first-byte r)
+  surveyed offset at len e r s =
+      let l : Lies-in (Data offset at len) pool = rw e at lies in
+      s .answer (take len (drop at pool)) (length-take-le len (drop at pool) (omega (arith, l .0, length-drop at pool)))
+
+  -- the walk after the record
   abbrev pub there : CodeBase → Walk
   there b = record { state = w .state; base = b }
 
-  pub met-inside : (offset at len : ℕ) → x ≡ Data offset at len → (r : Reach)
-      → reached r ≡ outside inside (placed (based (w .base)) offset 0 (take (at + len - at) (drop at pool))) → r ≡ Inside
-      → (b : CodeBase) → Behind (w .base) x b → Passed inside w records (meant x pool) (there b) (records + 1)
-  unfolding decision step-at is-end
-  met-inside offset at len e r h i b k =
-      let o = surveyed offset at len r h Inside i in
-      record { state = refl; base = k .base-is pool; goes-on = rw e; counted = omega arith; same = λ rest. rw (e, o, add-one records) }
+  pub met-inside : (offset at len : ℕ) → x ≡ Data offset at len → Surveyed (based (w .base)) offset len first size Inside
+      → (b : CodeBase) → Behind (w .base) x b → Passed inside w tally (meant x pool) (there b) (record { records = tally .records + 1 })
+  unfolding decision turn does is-end
+  met-inside offset at len e s b k =
+      let o = surveyed offset at len e Inside s in
+      record { state = refl; base = k .base-is pool; goes-on = rw e; counted = omega arith; same = λ rest. rw (e, o, add-one (tally .records)) }
 
-  -- a record that places nothing, and is not the end
-  pub met-quiet : is-end (meant x pool) ≡ false → ((line : ℕ) (base : Base) → step-at line base (meant x pool) ≡ [])
-      → (b : CodeBase) → Behind (w .base) x b → Passed inside w records (meant x pool) (there b) records
-  met-quiet e q b k = record { state = refl; base = k .base-is pool; goes-on = e; counted = omega arith; same = λ rest. rw (q (w .state .line) (based (w .base))) }
+  -- a record that does nothing
+  pub met-quiet : is-end (meant x pool) ≡ false → ((base : Base) → does base (meant x pool) ≡ [])
+      → (b : CodeBase) → Behind (w .base) x b → Passed inside w tally (meant x pool) (there b) tally
+  met-quiet e q b k = record { state = refl; base = k .base-is pool; goes-on = e; counted = omega arith; same = λ rest. rw (q (based (w .base))) }
 
-  pub met-outside : (offset at len : ℕ) → x ≡ Data offset at len → (r : Reach)
-      → reached r ≡ outside inside (placed (based (w .base)) offset 0 (take (at + len - at) (drop at pool))) → (address : ℕ) → r ≡ Outside address
-      → (rest : List Action) → refused (outside-window address) (w .state .line) ≡ verdict (decision inside (tally-of records) (step-at (w .state .line) (based (w .base)) (meant x pool) ++ rest))
-  unfolding decision step-at verdict
-  met-outside offset at len e r h address i rest =
-      let o = surveyed offset at len r h (Outside address) i in
-      rw (e, o)
+  pub met-outside : (offset at len i : ℕ) → x ≡ Data offset at len → Surveyed (based (w .base)) offset len first size (Outside i)
+      → (rest : List Step) → refused (outside-window (byte-address (based (w .base)) offset i)) (w .state .line) ≡ verdict (decision inside (tallied tally) (does-on (w .state .line) (based (w .base)) (meant x pool) ++ rest))
+  unfolding decision turn does verdict
+  met-outside offset at len i e s rest = let o = surveyed offset at len e (Outside i) s in rw (e, o)
 
   pub met-end : x ≡ EndOfFile
-      → (rest : List Action) → accepted (tally-of records) ≡ verdict (decision inside (tally-of records) (step-at (w .state .line) (based (w .base)) (meant x pool) ++ rest))
-  unfolding decision step-at verdict
+      → (rest : List Step) → accepted (tallied tally) ≡ verdict (decision inside (tallied tally) (does-on (w .state .line) (based (w .base)) (meant x pool) ++ rest))
+  unfolding decision turn does verdict
   met-end e rest = rw e
 
 -- ---- the second pass
 
 module _ (first : ℕ) (base : Base) (x : Record) (pool page marks : List ℕ) where
-  -- a record that places nothing leaves page and marks as they are
+  -- a record that states nothing leaves page and marks as they are
   pub idle : stated-by base (meant x pool) ≡ [] → Painted first (stated-by base (meant x pool)) page marks page marks
-  idle e = rw e (record { page = sym (painted-none first page); marks = sym (painted-none first marks) })
-
-  pub fits-data : (offset at len : ℕ) → x ≡ Data offset at len → Fitting first (stated-by base (meant x pool)) page marks
-      → Fitting first (placed base offset 0 (take (at + len - at) (drop at pool))) page marks
-  unfolding stated-by
-  fits-data offset at len e f = rw (part-is pool at len) (rw e at f)
+  idle e = rw e (record { page = sym (painted-none _ 0 page); marks = sym (painted-none _ 0 marks) })
 
   pub painted-data : (offset at len : ℕ) (page′ marks′ : List ℕ) → x ≡ Data offset at len
       → Painted first (placed base offset 0 (take (at + len - at) (drop at pool))) page marks page′ marks′ → Painted first (stated-by base (meant x pool)) page marks page′ marks′

@@ -6,24 +6,26 @@ use mathlib.Core.Path.{_≡_, refl, sym, ap, ap₂, _∙_, subst, subst₂}
 use mathlib.Core.Logic.{_⊎_, inl, inr}
 use Prim.Native.Nat.{ℕ, _≤_}
 use native.Mathlib.Omega.{arith}
-use mathlib.Core.Bool.{Bool, false}
+use mathlib.Core.Bool.{Bool}
 use mathlib.Core.List.{List, [], _∷_, _++_, append-assoc, append-nil}
 use native.Mathlib.Decide.{ℕ-discrete}
 use lib.ListN.{length, drop}
 use Rattle.record.specs.Line.{judge}
 use Rattle.record.specs.Meaning.{meaning}
 use Rattle.record.specs.Digits.{number}
-use Rattle.record.proofs.Tests.{if-false}
 use Rattle.record.specs.Noise.{Slip, no-slip, one-changed, one-lost, one-added, two-swapped}
 use Rattle.record.proofs.Noise.{no-record-goes-on}
 use Rattle.reader.specs.Lines.{LF, first-line, lines}
-use Rattle.reader.specs.Row.{row}
 use Rattle.reader.proofs.Cutting.{lines-cons, lines-closed}
-use Rattle.loader.specs.Placing.{Placement, from-start}
-use Rattle.loader.specs.Load.{Tally, no-records, Verdict, accepted, refused, verdict, within, decision, unfit, painted, marked, steps-of, placements, stopping, load}
+use Rattle.steps.specs.Steps.{Placement, Tally, nothing-yet, Verdict, accepted, refused, verdict}
+use Rattle.steps.specs.Source as source
+use Rattle.steps.specs.Sites.{painted, marked}
+use Rattle.steps.proofs.Sites.{accepted-by}
+use Rattle.window.specs.Window.{window, one-window}
+use Rattle.loader.specs.Placing.{from-start, intel-by}
+use Rattle.loader.specs.Load.{room-of, steps-of, placements, stopping, load}
 use Rattle.loader.specs.Noise.{No-LF, Slips, the-rest, last-line, one-more, Damaged, one-slip, one-in-each-line, cut-off, Refused-or-same, is-refused, is-the-same, Damage-is-noticed, Examples}
-use Rattle.loader.proofs.Demand3.{load-answer, accepted-window, accepted-load, refusal-changes-nothing}
-use Rattle.loader.proofs.Loads.{by-line}
+use Rattle.loader.proofs.Demand3.{load-answer, accepted-load, refusal-changes-nothing}
 use Rattle.loader.proofs.Agreeing.{Fine, word, Agree, agree-swap, agree-none, agree-fine, agree-word, agree-skip, agree-same, agree-after}
 use Rattle.loader.proofs.Edits.{few, swapped, Turn, turn-at, turn, without-CR, without-append, without-parts, without-few, without-turned, edited, no-LF-append, feed-or-not, Tail, ends, feeds, first-cut, last-cut, cut-rest, fine-line}
 
@@ -208,7 +210,7 @@ equal-loads : (text text′ : List ℕ) (first : ℕ) (page marks : List ℕ) (t
     → t ≡ t′ → placements text ≡ placements text′ → load text′ first page marks ≡ load text first page marks
 equal-loads text text′ first page marks t t′ e e′ tallies ps =
     accepted-load text′ first page marks t′ e′
-    ∙ ap₂ (λ (k : Tally) (l : List Placement). record { answer = accepted k; page = painted first l page; marks = marked first l marks }) (sym tallies) (sym ps)
+    ∙ ap₂ (λ (k : Tally) (l : List Placement). record { answer = accepted k; page = painted (window first (length page)) 0 l page; marks = marked (window first (length page)) 0 l marks }) (sym tallies) (sym ps)
     ∙ sym (accepted-load text first page marks t e)
 
 module _ (text text′ : List ℕ) (agree : (inside : ℕ → Bool) → Agree inside (lines text) (lines text′)) where
@@ -216,14 +218,12 @@ module _ (text text′ : List ℕ) (agree : (inside : ℕ → Bool) → Agree in
   same-load : (first : ℕ) (page marks : List ℕ) (t t′ : Tally)
       → verdict (stopping text first page marks) ≡ accepted t → verdict (stopping text′ first page marks) ≡ accepted t′
       → load text′ first page marks ≡ load text first page marks
-  unfolding stopping placements row
+  unfolding stopping placements steps-of source.steps-of intel-by
   same-load first page marks t t′ e e′ =
-      let inside = within first (length page) in
-      let w = unfit first (length page) (length marks) in
-      let fit : w ≡ false = accepted-window w _ t e in
-      let (m, d) = by-line (decision inside no-records (steps-of text)) t (sym (ap verdict (if-false w _ _ fit)) ∙ e) in
-      let (m′, d′) = by-line (decision inside no-records (steps-of text′)) t′ (sym (ap verdict (if-false w _ _ fit)) ∙ e′) in
-      let (tallies, ps) = agree inside 1 1 from-start no-records m m′ t t′ d d′ in
+      let room = room-of first page marks in
+      let (m, d) = accepted-by (room .fault) (room .inside) (steps-of text) t e in
+      let (m′, d′) = accepted-by (room .fault) (room .inside) (steps-of text′) t′ e′ in
+      let (tallies, ps) = agree (room .inside) 1 1 from-start nothing-yet m m′ t t′ d d′ in
       equal-loads text text′ first page marks t t′ e e′ tallies ps
 
 -- ---- the code
@@ -252,5 +252,5 @@ damage-is-noticed text text′ d first page marks r p m tally l e r′ p′ m′
 -- ---- examples
 
 pub examples : Examples
-unfolding load judge meaning number
+unfolding load intel-by judge meaning number
 examples = record { small-letter = refl; other-digit = refl; joined = refl; CR-added = refl; swapped = refl; LF-cut-off = refl; digit-cut-off = refl }

@@ -11,8 +11,8 @@ use Rattle.record.specs.Common.{Every}
 use Rattle.record.specs.Refusals.{Refusal, outside-window}
 use Rattle.record.specs.Line.{wrong, judge}
 use Rattle.reader.specs.Lines.{lines}
-use Rattle.loader.specs.Placing.{Placement}
-use Rattle.loader.specs.Load.{Verdict, accepted, refused, within}
+use Rattle.steps.specs.Steps.{Placement, Verdict, accepted, refused}
+use Rattle.window.specs.Window.{within}
 use Rattle.loader.specs.Claims.{said-record, record-on, states, Passes, is-empty, goes-on, All-pass, Stops, the-end, no-record, first-outside, Decided, Why, bad-one, no-end, at-line, One-reason}
 
 -- ---- lists
@@ -63,7 +63,7 @@ module _ (inside : ℕ → Bool) where
 
   stops-one : {ahead : List (List ℕ)} {line : List ℕ} {n : ℕ} {v v′ : Verdict} → Stops inside ahead line n v → Stops inside ahead line n v′ → v ≡ v′
   unfolding states
-  stops-one (the-end tally e c) (the-end tally′ e′ c′) = ap (λ (k : ℕ). accepted (record { records = k })) (c ∙ sym c′)
+  stops-one (the-end tally e c) (the-end tally′ e′ c′) = ap (λ (k : ℕ). accepted (record { records = k })) (c .records ∙ sym (c′ .records))
   stops-one {line} (the-end tally e c) (no-record r b q) = let h = wrong-none line r q in cc
   stops-one (the-end tally e c) (first-outside before after p s i o) = absurd (not-empty before p after (rw e at s))
   stops-one {line} (no-record r b q) (the-end tally e c) = let h = wrong-none line r q in cc

@@ -23,15 +23,23 @@ use Rattle.reader.specs.Row.{Numbered, on, is-end, through-stop, row}
 use Rattle.reader.specs.Text.{default-options, new-state, Next}
 use Rattle.reader.proofs.Texts.{lines-few, sayings-few, cut-behind}
 use Rattle.reader.specs.Along.{unread}
+use Rattle.steps.specs.Steps.{Placement, Step, refused, turn, decision, verdict, stated}
+use Rattle.steps.specs.Sites.{painted}
+use Rattle.steps.specs.Runs.{as-mark}
+use Rattle.steps.proofs.Places.{length-painted, painted-append}
+use Rattle.window.specs.Window.{window}
+use Rattle.window.specs.Contracts.{Painted}
 use Rattle.loader.specs.declared.Base.{Base as CodeBase}
 use Rattle.loader.specs.declared.Base.the-variants.{Segment}
+use Rattle.loader.specs.declared.Tally.{Tally as CodeTally}
 use Rattle.loader.specs.declared.Turn.{Turn}
 use Rattle.loader.specs.declared.Turn.the-variants.{On, Stop}
 use Rattle.loader.specs.declared.Walk.{Walk}
-use Rattle.loader.specs.Placing.{Placement, Base, base-behind, placed, Action, step-at, steps, stated}
-use Rattle.loader.specs.Load.{one-more, accepted, refused, by, within, outside, or-later, decision, verdict, painted, steps-of}
-use Rattle.loader.specs.Helpers.{based, as-mark, Painted, stated-by, Behind, tally-of, left, ahead-of, Under-way, Few, Met, Judged, Accepts, Wrote}
-use Rattle.loader.proofs.Pages.{painted-append, length-painted}
+use Rattle.loader.specs.Placing.{Base, base-behind, does, act, base-after, along}
+use Rattle.loader.specs.Load.{steps-of}
+use Rattle.loader.specs.Told.{tallied}
+use Rattle.loader.specs.Helpers.{based, stated-by, Behind, left, ahead-of, does-on, Under-way, Few, Met, Judged, Same-painting, Written-on}
+use Rattle.loader.proofs.Rows.{steps-along}
 use Rattle.loader.proofs.Calls.{One}
 
 -- ---- the beginning
@@ -42,13 +50,13 @@ start = record { state = new-state default-options; base = Segment 0 }
 pub start-under-way : (text : List ℕ) → length text < 2 ^ 64 → Under-way text start
 start-under-way text h = record { options = refl; countable = omega (arith, lines-few text .0) }
 
-pub start-few : (text : List ℕ) → Few text start 0
+pub start-few : (text : List ℕ) → Few text start (record { records = 0 })
 unfolding unread
 start-few text = omega (arith, lines-few text .0, sayings-few 1 (lines text))
 
 pub start-ahead : (text : List ℕ) → ahead-of start text ≡ steps-of text
-unfolding unread steps-of row
-start-ahead text = refl
+unfolding unread
+start-ahead text = sym (steps-along text)
 
 -- ---- one call
 
@@ -58,57 +66,33 @@ cut-shorter false more = omega arith
 
 -- ---- an accepted record's step
 
-module _ (inside : ℕ → Bool) (n : ℕ) (base : Base) where
-  -- its bytes lie in the window
-  pub accepts-fit : (m : Meaning) (rest : List Action) → Accepts inside (step-at n base m ++ rest) → outside inside (stated-by base m) ≡ none
-  unfolding decision step-at stated-by
-  accepts-fit (data-at offset bytes) rest (tally, k, t, e) = go (outside inside (placed base offset 0 bytes)) e
-    where
-      go : (o : Option ℕ) → or-later n o (decision inside (one-more tally) rest) ≡ some (by k (accepted t)) → o ≡ none
-      go none e = refl
-      go (some a) e = cc
-  accepts-fit end-of-file rest a = refl
-  accepts-fit (extended-segment x) rest a = refl
-  accepts-fit (start-segment cs ip) rest a = refl
-  accepts-fit (extended-linear x) rest a = refl
-  accepts-fit (start-linear x) rest a = refl
-
-  -- and unless it is the end, what is behind it is accepted
-  pub accepts-on : (m : Meaning) (rest : List Action) → is-end m ≡ false → Accepts inside (step-at n base m ++ rest) → Accepts inside rest
-  unfolding decision step-at is-end
-  accepts-on (data-at offset bytes) rest f (tally, k, t, e) = (one-more tally, k, t, go (outside inside (placed base offset 0 bytes)) e)
-    where
-      go : (o : Option ℕ) → or-later n o (decision inside (one-more tally) rest) ≡ some (by k (accepted t)) → decision inside (one-more tally) rest ≡ some (by k (accepted t))
-      go none e = e
-      go (some a) e = cc
-  accepts-on end-of-file rest f a = let z : _≡_ {A = ℕ} 0 1 = cc in absurd (omega arith)
-  accepts-on (extended-segment x) rest f a = a
-  accepts-on (start-segment cs ip) rest f a = a
-  accepts-on (extended-linear x) rest f a = a
-  accepts-on (start-linear x) rest f a = a
-
--- what it states comes ahead of what is behind it, which is nothing behind the end
-stated-step : (n : ℕ) (base : Base) (m : Meaning) (rest : List Action) → (is-end m ≡ true → rest ≡ []) → stated (step-at n base m ++ rest) ≡ stated-by base m ++ stated rest
-unfolding stated step-at stated-by is-end
-stated-step n base (data-at offset bytes) rest h = refl
-stated-step n base end-of-file rest h = ap stated (sym (h refl))
-stated-step n base (extended-segment x) rest h = refl
-stated-step n base (start-segment cs ip) rest h = refl
-stated-step n base (extended-linear x) rest h = refl
-stated-step n base (start-linear x) rest h = refl
+-- what a record states comes before what is stated after it, which is nothing after the end
+stated-step : (n : ℕ) (base : Base) (m : Meaning) (row row′ : List Numbered) → (is-end m ≡ false → row ≡ row′) → (is-end m ≡ true → row′ ≡ [])
+    → stated (does-on n base m ++ left (base-behind base m) row) ≡ stated-by base m ++ stated (left (base-behind base m) row′)
+unfolding stated does stated-by is-end along
+stated-step n base (data-at offset bytes) row row′ h g = rw (h refl)
+stated-step n base end-of-file row row′ h g = rw (g refl)
+stated-step n base (extended-segment x) row row′ h g = rw (h refl)
+stated-step n base (start-segment cs ip) row row′ h g = rw (h refl)
+stated-step n base (extended-linear x) row row′ h g = rw (h refl)
+stated-step n base (start-linear x) row row′ h g = rw (h refl)
 
 module _ (text : List ℕ) (w : Walk) (pool : List ℕ) (r : Reading) (pool′ : List ℕ) (under : Under-way text w) (room : length pool ≡ 255) (next : Next (w .state) text pool 0 r pool′) where
   abbrev Here : Record → Type 0
   Here x = One (w .state) text pool r pool′ (under .options) (under .countable) room next x
 
-  -- the record's step, and what is ahead of the walk behind it
-  ahead-step : (x : Record) → Here x
-      → ahead-of w text ≡ step-at (r .state .line) (based (w .base)) (meant x pool′) ++ left (base-behind (based (w .base)) (meant x pool′)) (unread (r .state) text)
-  unfolding steps through-stop
-  ahead-step x one =
-      let base = based (w .base) in
-      let m = meaning (one .kind) (one .address) (one .payload) in
-      rw (one .means, one .first, one .left) (ap (λ (l : List Numbered). step-at (r .state .line) base m ++ steps (base-behind base m) l) (cut-behind default-options (is-end m && true) (one .more)))
+  -- the record's steps, and those of the sayings after it
+  ahead-step : (x : Record) (one : Here x)
+      → ahead-of w text ≡ does-on (r .state .line) (based (w .base)) (meant x pool′) ++ left (base-behind (based (w .base)) (meant x pool′)) (one .more)
+  unfolding along act base-after
+  ahead-step x one = rw (one .means, one .first)
+
+  -- unless it is the end, these are still unread
+  unread-more : (x : Record) (one : Here x) → is-end (meant x pool′) ≡ false → one .more ≡ unread (r .state) text
+  unread-more x one e = sym (one .left ∙ rw (ap is-end (sym (one .means)) ∙ e))
+
+  unread-none : (x : Record) (one : Here x) → is-end (meant x pool′) ≡ true → unread (r .state) text ≡ []
+  unread-none x one e = one .left ∙ rw (ap is-end (sym (one .means)) ∙ e)
 
   shorter : (x : Record) → Here x → length (unread (r .state) text) < length (unread (w .state) text)
   shorter x one =
@@ -117,97 +101,73 @@ module _ (text : List ℕ) (w : Walk) (pool : List ℕ) (r : Reading) (pool′ :
 
   -- ---- the first pass
 
-  pub countable-records : (records : ℕ) (x : Record) → Here x → Few text w records → length text < 2 ^ 64 → records + 1 < 2 ^ 64
-  countable-records records x one few h = omega (arith, few, ap length (one .first))
+  pub countable-records : (tally : CodeTally) (x : Record) → Here x → Few text w tally → length text < 2 ^ 64 → tally .records + 1 < 2 ^ 64
+  countable-records tally x one few h = omega (arith, few, ap length (one .first))
 
-  pub judged-record : (inside : ℕ → Bool) (records : ℕ) (x : Record) → Here x → Few text w records → (t : Turn)
-      → Met inside (record { state = r .state; base = w .base }) records (meant x pool′) t → Judged inside text w records t
-  judged-record inside records x one few (On w′ records′) p =
+  pub judged-record : (inside : ℕ → Bool) (tally : CodeTally) (x : Record) → Here x → Few text w tally → (t : Turn)
+      → Met inside (record { state = r .state; base = w .base }) tally (meant x pool′) t → Judged inside text w tally t
+  judged-record inside tally x one few (On w′ tally′) p =
       let less : length (unread (w′ .state) text) < length (unread (w .state) text) = rw (p .state) (shorter x one) in
       record {
         under-way = record { options = rw (p .state) (one .options); countable = rw (p .state) (one .countable) };
         few = omega (arith, p .counted);
-        same = p .same (ahead-of w′ text) ∙ ap (decision inside (tally-of records))
-            (ap₂ (λ (b : Base) (y : State). step-at (r .state .line) (based (w .base)) (meant x pool′) ++ left b (unread y text)) (p .base) (p .state) ∙ sym (ahead-step x one));
+        same = p .same (ahead-of w′ text) ∙ ap (decision inside (tallied tally))
+            (ap₂ (λ (b : Base) (l : List Numbered). does-on (r .state .line) (based (w .base)) (meant x pool′) ++ left b l) (p .base) (ap (λ (y : State). unread y text) (p .state) ∙ sym (unread-more x one (p .goes-on))) ∙ sym (ahead-step x one));
         less = less;
       }
-  judged-record inside records x one few (Stop l) h =
-      h (left (base-behind (based (w .base)) (meant x pool′)) (unread (r .state) text)) ∙ ap (λ (s : List Action). verdict (decision inside (tally-of records) s)) (sym (ahead-step x one))
+  judged-record inside tally x one few (Stop l) h =
+      h (left (base-behind (based (w .base)) (meant x pool′)) (one .more)) ∙ ap (λ (s : List Step). verdict (decision inside (tallied tally) s)) (sym (ahead-step x one))
 
-  pub judged-refused : (inside : ℕ → Bool) (records : ℕ) (e : ReaderError) (more : List Numbered) → unread (w .state) text ≡ on (r .state .line) (wrong (refusal-of e)) ∷ more
-      → refused (refusal-of e) (r .state .line) ≡ verdict (decision inside (tally-of records) (ahead-of w text))
-  unfolding decision verdict steps through-stop
-  judged-refused inside records e more u = rw u
+  pub judged-refused : (inside : ℕ → Bool) (tally : CodeTally) (e : ReaderError) (more : List Numbered) → unread (w .state) text ≡ on (r .state .line) (wrong (refusal-of e)) ∷ more
+      → refused (refusal-of e) (r .state .line) ≡ verdict (decision inside (tallied tally) (ahead-of w text))
+  unfolding decision turn verdict along act
+  judged-refused inside tally e more u = rw u
 
-  pub judged-done : (inside : ℕ → Bool) (records : ℕ) → unread (w .state) text ≡ []
-      → refused missing-end-of-file-record 0 ≡ verdict (decision inside (tally-of records) (ahead-of w text))
-  unfolding decision verdict steps through-stop
-  judged-done inside records u = rw u
+  pub judged-done : (inside : ℕ → Bool) (tally : CodeTally) → unread (w .state) text ≡ []
+      → refused missing-end-of-file-record 0 ≡ verdict (decision inside (tallied tally) (ahead-of w text))
+  unfolding decision verdict along
+  judged-done inside tally u = rw u
 
   -- ---- the second pass
 
-  module _ (x : Record) (one : Here x) (inside : ℕ → Bool) (a : Accepts inside (ahead-of w text)) where
-    m : Meaning
-    m = meant x pool′
-
-    base : Base
-    base = based (w .base)
-
-    behind : List Action
-    behind = left (base-behind base m) (unread (r .state) text)
-
-    accepted-step : Accepts inside (step-at (r .state .line) base m ++ behind)
-    unfolding m base behind
-    accepted-step = rw (ahead-step x one) at a
-
-    pub record-fits : outside inside (stated-by (based (w .base)) (meant x pool′)) ≡ none
-    unfolding m base
-    record-fits = accepts-fit inside (r .state .line) base m behind accepted-step
-
-    -- behind the end record nothing is left
-    end-behind : is-end m ≡ true → behind ≡ []
-    unfolding m base behind steps through-stop
-    end-behind e =
-        let u : unread (r .state) text ≡ [] = one .left ∙ rw (ap is-end (sym (one .means)) ∙ e) in
-        rw u
-
-    stated-ahead : stated (ahead-of w text) ≡ stated-by base m ++ stated behind
-    unfolding m base behind
-    stated-ahead = ap stated (ahead-step x one) ∙ stated-step (r .state .line) base m behind end-behind
-
-    still-accepts : r .state .finished ≡ false → Accepts inside behind
-    unfolding m base behind
-    still-accepts f = accepts-on inside (r .state .line) base m behind (go (is-end m) (ap (λ (b : Bool). b && true) (ap is-end (one .means)) ∙ sym (one .finished) ∙ f)) accepted-step
-      where
-        go : (b : Bool) → b && true ≡ false → b ≡ false
-        go true e = e
-        go false e = e
+  stated-ahead : (x : Record) (one : Here x)
+      → stated (ahead-of w text) ≡ stated-by (based (w .base)) (meant x pool′) ++ stated (left (base-behind (based (w .base)) (meant x pool′)) (unread (r .state) text))
+  stated-ahead x one =
+      ap stated (ahead-step x one)
+      ∙ stated-step (r .state .line) (based (w .base)) (meant x pool′) (one .more) (unread (r .state) text) (unread-more x one) (unread-none x one)
 
   pub wrote : (first : ℕ) (page₀ marks₀ page′ marks′ : List ℕ) (x : Record) (one : Here x) (b : CodeBase)
-      → Accepts (within first (length page₀)) (ahead-of w text) → Painted first (stated-by (based (w .base)) (meant x pool′)) page₀ marks₀ page′ marks′ → Behind (w .base) x b
-      → Wrote first text w page₀ marks₀ (record { state = r .state; base = b }) page′ marks′
-  unfolding m base behind
-  wrote first page₀ marks₀ page′ marks′ x one b a p h =
-      let inside = within first (length page₀) in
-      let e : based b ≡ base-behind (based (w .base)) (meant x pool′) = h .base-is pool′ in
-      let ps = stated-by (based (w .base)) (meant x pool′) in
-      let qs = stated (behind x one inside a) in
-      let size : length page′ ≡ length page₀ = ap length (p .page) ∙ length-painted first ps page₀ in
-      record {
-        under-way = record { options = one .options; countable = one .countable };
-        less = shorter x one;
-        page = rw e (ap (painted first qs) (p .page) ∙ sym (painted-append first ps qs page₀) ∙ ap (λ (l : List Placement). painted first l page₀) (sym (stated-ahead x one inside a)));
-        marks = rw e (ap (painted first (map as-mark qs)) (p .marks) ∙ sym (painted-append first (map as-mark ps) (map as-mark qs) marks₀)
-            ∙ ap (λ (l : List Placement). painted first l marks₀) (sym (map-append as-mark ps qs) ∙ ap (map as-mark) (sym (stated-ahead x one inside a))));
-        accepts = λ f. rw (e, size) (still-accepts x one inside a f);
-      }
+      → Painted first (stated-by (based (w .base)) (meant x pool′)) page₀ marks₀ page′ marks′ → Behind (w .base) x b
+      → Written-on first text w page₀ marks₀ (record { state = r .state; base = b }) page′ marks′
+  wrote first page₀ marks₀ page′ marks′ x one b p h =
+      record { under-way = record { options = one .options; countable = one .countable }; less = shorter x one; same = same }
+    where
+      site : (place : ℕ) → Option ℕ
+      site = window first (length page₀)
 
-  -- a text that is accepted has no refused line, and does not end before its end record
-  pub no-refused : (inside : ℕ → Bool) (n : ℕ) (e : ReaderError) (more : List Numbered) → unread (w .state) text ≡ on n (wrong (refusal-of e)) ∷ more
-      → Accepts inside (ahead-of w text) → ⊥
-  unfolding decision steps through-stop
-  no-refused inside n e more u (tally, k, t, q) = let p = rw u at q in let z : _≡_ {A = ℕ} 0 1 = cc in omega arith
+      ps : List Placement
+      ps = stated-by (based (w .base)) (meant x pool′)
 
-  pub no-done : (inside : ℕ → Bool) → unread (w .state) text ≡ [] → Accepts inside (ahead-of w text) → ⊥
-  unfolding decision steps through-stop
-  no-done inside u (tally, k, t, q) = let p = rw u at q in let z : _≡_ {A = ℕ} 0 1 = cc in omega arith
+      qs : List Placement
+      qs = stated (left (based b) (unread (r .state) text))
+
+      all : stated (ahead-of w text) ≡ ps ++ qs
+      all = stated-ahead x one ∙ ap (λ (y : Base). ps ++ stated (left y (unread (r .state) text))) (sym (h .base-is pool′))
+
+      same : Same-painting first (ahead-of w text) page₀ marks₀ (left (based b) (unread (r .state) text)) page′ marks′
+      same =
+          record {
+            size = ap length (p .page) ∙ length-painted site ps 0 page₀;
+            page = ap (painted site 0 qs) (p .page) ∙ sym (painted-append site 0 ps qs page₀) ∙ ap (λ (l : List Placement). painted site 0 l page₀) (sym all);
+            marks = ap (painted site 0 (map as-mark qs)) (p .marks) ∙ sym (painted-append site 0 (map as-mark ps) (map as-mark qs) marks₀)
+                ∙ ap (λ (l : List Placement). painted site 0 l marks₀) (sym (map-append as-mark ps qs) ∙ ap (map as-mark) (sym all));
+          }
+
+  -- after a line that is refused, and after the last line, nothing is stated
+  pub refused-states : (n : ℕ) (e : ReaderError) (more : List Numbered) → unread (w .state) text ≡ on n (wrong (refusal-of e)) ∷ more → stated (ahead-of w text) ≡ []
+  unfolding stated along act
+  refused-states n e more u = rw u
+
+  pub done-states : unread (w .state) text ≡ [] → stated (ahead-of w text) ≡ []
+  unfolding stated along
+  done-states u = rw u

@@ -14,11 +14,12 @@ use lib.ListN.{length, getD, take}
 use borrow.Author.Tests.{eqb-true, eqb-false}
 use Rattle.record.specs.Common.{if_then_else_, or-else, Every}
 use Rattle.record.specs.Meaning.{Meaning, data-at, end-of-file, extended-segment, start-segment, extended-linear, start-linear}
-use Rattle.loader.specs.Placing.{Placement, Base, byte-address, placed, stated-by}
-use Rattle.loader.specs.Load.{last-at}
+use Rattle.steps.specs.Steps.{Placement}
+use Rattle.steps.specs.Sites.{last-at}
+use Rattle.steps.proofs.Places.{last-append}
+use Rattle.loader.specs.Placing.{Base, byte-address, placed, stated-by}
 use Rattle.loader.specs.Claims.{record-on, in-force, states, all-states, counts, Passes, is-empty, goes-on, All-pass}
 use Rattle.loader.specs.Segments.{At, Puts}
-use Rattle.loader.proofs.Pages.{last-append}
 use Rattle.loader.proofs.OneReason.{empty-none}
 use Rattle.loader.proofs.Segments.{length-placed, at-only, at-there}
 

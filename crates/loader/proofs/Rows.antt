@@ -1,106 +1,92 @@
--- A load's decision and its placements rest on the lines through the one that decides: one induction over the lines (`same`).
+-- A text's steps by its lines are those of its sayings; and what a reader that stops leaves unread changes no decision and states nothing.
 -- Assumes nothing.
-use mathlib.Core.Path.{_≡_, refl, ap}
-use Prim.Native.Nat.{ℕ, suc, _+_, _≤_, _<_}
-use native.Mathlib.Omega.{arith}
-use mathlib.Core.Bool.{Bool, true, _&&_}
+use mathlib.Core.Path.{_≡_, refl, sym, ap}
+use Prim.Native.Nat.{ℕ, suc}
+use mathlib.Core.Bool.{Bool, true, false, _&&_}
 use mathlib.Core.Option.{Option, none, some}
-use mathlib.Core.List.{List, [], _∷_, _++_}
-use lib.ListN.{length}
+use mathlib.Core.List.{List, [], _∷_, _++_, map}
 use Rattle.record.specs.Common.{if_then_else_}
-use Rattle.record.specs.Line.{Said, says, wrong, judge}
+use Rattle.record.specs.Line.{says, wrong, judge}
 use Rattle.record.specs.Meaning.{Meaning, data-at, end-of-file, extended-segment, start-segment, extended-linear, start-linear, meaning}
-use Rattle.reader.specs.Row.{Numbered, on, sayings, is-end, through-stop}
+use Rattle.reader.specs.Lines.{lines}
+use Rattle.reader.specs.Row.{Numbered, on, sayings, is-end, through-stop, row}
 use Rattle.reader.specs.Text.{default-options}
-use Rattle.loader.specs.Placing.{Placement, Base, segment, linear, base-behind, placed, Action, step-at, steps, stated}
-use Rattle.loader.specs.Helpers.{left}
-use Rattle.loader.specs.Load.{Tally, one-more, Verdict, accepted, Decision, by, outside, or-later, decision}
+use Rattle.record.specs.Refusals.{Refusal}
+use Rattle.steps.specs.Steps.{Placement, Step, step, Tally, nothing-yet, one-more, Verdict, outside, at-data, turn, onward, decision, verdict, stated}
+use Rattle.steps.specs.Source as source
+use Rattle.steps.specs.Sites.{Room, store, stopping-by, load-steps, load}
+use Rattle.loader.specs.Placing.{Base, from-start, base-behind, placed, does, act, base-after, intel-by, along}
+use Rattle.loader.specs.Load.{steps-of}
+use Rattle.loader.specs.Helpers.{does-on}
 
--- the line of a decision
-line-of : Option Decision → ℕ
-line-of none = 0
-line-of (some (by n v)) = n
+-- steps that are decided alike stop a load alike
+stop-alike : (fault : Option Refusal) (inside : ℕ → Bool) (s₁ s₂ : List Step) → decision inside nothing-yet s₁ ≡ decision inside nothing-yet s₂
+    → verdict (stopping-by fault inside s₁) ≡ verdict (stopping-by fault inside s₂)
+unfolding stopping-by
+stop-alike none inside s₁ s₂ e = ap verdict e
+stop-alike (some r) inside s₁ s₂ e = refl
 
--- the steps at a record on line n and behind it
-abbrev pub from-record : (n : ℕ) → Base → Meaning → List Numbered → List Action
-from-record n base m row = step-at n base m ++ steps (base-behind base m) (if is-end m && true then [] else through-stop default-options row)
+module _ (f : Base → Base) where
+  -- the steps of lines numbered from n on
+  pub by-sayings : (base : Base) (n : ℕ) (ls : List (List ℕ)) → source.steps (intel-by f) base n ls ≡ along f base (sayings n ls)
+  unfolding source.steps intel-by sayings along
+  by-sayings base n [] = refl
+  by-sayings base n ([] ∷ ls) = by-sayings base (suc n) ls
+  by-sayings base n ((c ∷ l) ∷ ls) = ap (λ (s : List Step). map (step n) (act (f base) (judge (c ∷ l))) ++ s) (by-sayings (base-after base (judge (c ∷ l))) (suc n) ls)
 
--- what the sayings state
-abbrev pub said : Base → List Numbered → List Placement
-said base row = stated (left base row)
+  -- the steps of a record on line n, and those of a row after it
+  abbrev then-row : (n : ℕ) → Base → Meaning → List Numbered → List Step
+  then-row n base m row = does-on n (f base) m ++ along f (base-behind base m) row
 
-module _ (inside : ℕ → Bool) where
-  -- their decision
-  abbrev pub decided : Base → Tally → List Numbered → Option Decision
-  decided base tally row = decision inside tally (left base row)
+  -- two rows of steps come to the same
+  abbrev Alike : (s₁ s₂ : List Step) → Type 0
+  Alike s₁ s₂ = ((inside : ℕ → Bool) (t : Tally) → decision inside t s₁ ≡ decision inside t s₂) × (stated s₁ ≡ stated s₂)
 
-  -- ---- a decision on lines from n on is by line n or a later one
-
-  abbrev pub From : ℕ → List Numbered → Type 0
-  From n row = (base : Base) (tally : Tally) (m : ℕ) (v : Verdict) → decided base tally row ≡ some (by m v) → n ≤ m
-
-  from-record-on : (n : ℕ) (a : Meaning) (row : List Numbered) → From (suc n) row
-      → (base : Base) (tally : Tally) (m : ℕ) (v : Verdict) → decision inside tally (from-record n base a row) ≡ some (by m v) → n ≤ m
-  unfolding decision steps stated through-stop line-of is-end
-  from-record-on n (data-at offset bytes) row ih base tally m v e = go (outside inside (placed base offset 0 bytes)) e
-    where
-      go : (o : Option ℕ) → or-later n o (decided base (one-more tally) row) ≡ some (by m v) → n ≤ m
-      go none e = omega (arith, ih base (one-more tally) m v e)
-      go (some a) e = omega (arith, ap line-of e)
-  from-record-on n end-of-file row ih base tally m v e = omega (arith, ap line-of e)
-  from-record-on n (extended-segment x) row ih base tally m v e = omega (arith, ih (segment x) tally m v e)
-  from-record-on n (start-segment cs ip) row ih base tally m v e = omega (arith, ih base tally m v e)
-  from-record-on n (extended-linear x) row ih base tally m v e = omega (arith, ih (linear x) tally m v e)
-  from-record-on n (start-linear x) row ih base tally m v e = omega (arith, ih base tally m v e)
-
-  from-row : (n : ℕ) (s : Said) (row : List Numbered) → From (suc n) row → From n (on n s ∷ row)
-  unfolding decision steps through-stop line-of
-  from-row n (says kind address payload) row ih base tally m v e = from-record-on n (meaning kind address payload) row ih base tally m v e
-  from-row n (wrong r) row ih base tally m v e = omega (arith, ap line-of e)
-
-  pub from : (n : ℕ) (ls : List (List ℕ)) → From n (sayings n ls)
-  unfolding decision steps through-stop sayings
-  from n [] base tally m v e = let z : _≡_ {A = ℕ} 0 1 = cc in omega arith
-  from n ([] ∷ ls) base tally m v e = omega (arith, from (suc n) ls base tally m v e)
-  from n ((c ∷ l) ∷ ls) base tally m v e = from-row n (judge (c ∷ l)) (sayings (suc n) ls) (from (suc n) ls) base tally m v e
-
-  -- ---- what stands behind the line that decides does not matter
-
-  -- two lists of steps: where the first is decided by line m, so is the second, and if the decision accepts they state the same
-  abbrev pub Agree : ℕ → Tally → (s₁ s₂ : List Action) → Type 0
-  Agree m tally s₁ s₂ =
-      (v : Verdict) → decision inside tally s₁ ≡ some (by m v)
-      → (decision inside tally s₂ ≡ some (by m v)) × ((t : Tally) → v ≡ accepted t → stated s₁ ≡ stated s₂)
-
-  abbrev pub Same : ℕ → List Numbered → List Numbered → Type 0
-  Same m row₁ row₂ = (base : Base) (tally : Tally) → Agree m tally (left base row₁) (left base row₂)
-
-  same-record : (n m : ℕ) (a : Meaning) (row₁ row₂ : List Numbered) → Same m row₁ row₂
-      → (base : Base) (tally : Tally) → Agree m tally (from-record n base a row₁) (from-record n base a row₂)
-  unfolding decision steps through-stop stated is-end
-  same-record n m (data-at offset bytes) row₁ row₂ ih base tally = λ v. go v (outside inside what)
+  cut-record : (n : ℕ) (base : Base) (m : Meaning) (row row′ : List Numbered) → (is-end m ≡ false → (b : Base) → Alike (along f b row) (along f b row′))
+      → Alike (then-row n base m row) (then-row n base m row′)
+  unfolding does base-behind decision turn stated is-end
+  cut-record n base (data-at offset bytes) row row′ h = (λ inside t. go inside t (outside inside what), ap (λ (ps : List Placement). what ++ ps) (h refl base .1))
     where
       what : List Placement
-      what = placed base offset 0 bytes
+      what = placed (f base) offset 0 bytes
 
-      go : (v : Verdict) (o : Option ℕ) → or-later n o (decided base (one-more tally) row₁) ≡ some (by m v)
-          → (or-later n o (decided base (one-more tally) row₂) ≡ some (by m v)) × ((t : Tally) → v ≡ accepted t → what ++ said base row₁ ≡ what ++ said base row₂)
-      go v none e = let (d, s) = ih base (one-more tally) v e in (d, λ t h. ap (λ (ps : List Placement). what ++ ps) (s t h))
-      go v (some a) e = (e, λ t h. cc)
-  same-record n m end-of-file row₁ row₂ ih base tally = λ v e. (e, λ t h. refl)
-  same-record n m (extended-segment x) row₁ row₂ ih base tally = ih (segment x) tally
-  same-record n m (start-segment cs ip) row₁ row₂ ih base tally = ih base tally
-  same-record n m (extended-linear x) row₁ row₂ ih base tally = ih (linear x) tally
-  same-record n m (start-linear x) row₁ row₂ ih base tally = ih base tally
+      go : (inside : ℕ → Bool) (t : Tally) (o : Option ℕ)
+          → onward n (at-data n o t) (λ t′. decision inside t′ (along f base row)) ≡ onward n (at-data n o t) (λ t′. decision inside t′ (along f base row′))
+      go inside t none = h refl base .0 inside (one-more t)
+      go inside t (some a) = refl
+  cut-record n base end-of-file row row′ h = (λ inside t. refl, refl)
+  cut-record n base (extended-segment x) row row′ h = h refl _
+  cut-record n base (start-segment cs ip) row row′ h = h refl _
+  cut-record n base (extended-linear x) row row′ h = h refl _
+  cut-record n base (start-linear x) row row′ h = h refl _
 
-  same-row : (n m : ℕ) (s : Said) (row₁ row₂ : List Numbered) → Same m row₁ row₂ → Same m (on n s ∷ row₁) (on n s ∷ row₂)
-  unfolding decision steps through-stop stated
-  same-row n m (says kind address payload) row₁ row₂ ih base tally = same-record n m (meaning kind address payload) row₁ row₂ ih base tally
-  same-row n m (wrong r) row₁ row₂ ih base tally = λ v e. (e, λ t h. refl)
+  -- a reader that stops at the first end record and at the first refusal
+  pub cut-row : (rest : List Numbered) (base : Base) → Alike (along f base (through-stop default-options rest)) (along f base rest)
+  unfolding along through-stop act base-after decision turn stated
+  cut-row [] base = (λ inside t. refl, refl)
+  cut-row (on n (wrong r) ∷ rest) base = (λ inside t. refl, refl)
+  cut-row (on n (says kind address payload) ∷ rest) base = go (meaning kind address payload) (cut-row rest)
+    where
+      go : (m : Meaning) → ((b : Base) → Alike (along f b (through-stop default-options rest)) (along f b rest))
+          → Alike (then-row n base m (if is-end m && true then [] else through-stop default-options rest)) (then-row n base m rest)
+      go m h = cut-record n base m (if is-end m && true then [] else through-stop default-options rest) rest (λ e b. rw e (h b))
 
-  pub same : (n m : ℕ) (ls rest₁ rest₂ : List (List ℕ)) → m < n + length ls → Same m (sayings n (ls ++ rest₁)) (sayings n (ls ++ rest₂))
-  unfolding sayings
-  same n m [] rest₁ rest₂ h = λ base tally v e. absurd (omega (arith, from n rest₁ base tally m v e))
-  same n m ([] ∷ ls) rest₁ rest₂ h = same (suc n) m ls rest₁ rest₂ (omega arith)
-  same n m ((c ∷ l) ∷ ls) rest₁ rest₂ h =
-      same-row n m (judge (c ∷ l)) (sayings (suc n) (ls ++ rest₁)) (sayings (suc n) (ls ++ rest₂)) (same (suc n) m ls rest₁ rest₂ (omega arith))
+  pub cut-text : (text : List ℕ) → Alike (along f from-start (row default-options text)) (source.steps-of (intel-by f) text)
+  unfolding row source.steps-of intel-by
+  cut-text text = rw (by-sayings from-start 1 (lines text)) (cut-row (sayings 1 (lines text)) from-start)
+
+  -- so the load of a text is that of what the reader says of it
+  pub by-row : (room : Room) (text page marks : List ℕ) → load (intel-by f) room text page marks ≡ load-steps room (along f from-start (row default-options text)) page marks
+  unfolding load load-steps
+  by-row room text page marks =
+      let (d, s) = cut-text text in
+      rw (← s) (ap (λ (v : Verdict). store (room .site) (stated (along f from-start (row default-options text))) page marks v) (same-stop (room .fault)))
+    where
+      same-stop : (fault : Option Refusal)
+          → verdict (stopping-by fault (room .inside) (source.steps-of (intel-by f) text)) ≡ verdict (stopping-by fault (room .inside) (along f from-start (row default-options text)))
+      same-stop fault = stop-alike fault (room .inside) _ _ (sym (cut-text text .0 (room .inside) nothing-yet))
+
+-- the steps of a text are those of what is said on its lines
+pub steps-along : (text : List ℕ) → steps-of text ≡ along (λ base. base) from-start (sayings 1 (lines text))
+unfolding steps-of source.steps-of intel-by
+steps-along text = by-sayings (λ base. base) from-start 1 (lines text)

@@ -20,10 +20,14 @@ use Rattle.record.proofs.Writing.{said-is-sayable}
 use Rattle.reader.specs.Lines.{lines}
 use Rattle.reader.specs.Row.{Numbered, on, sayings, is-end, through-stop, row}
 use Rattle.reader.specs.Text.{default-options}
-use Rattle.loader.specs.Placing.{Placement, Base, from-segment, from-linear, segment, linear, from-start, byte-address, placed, stated-by, base-behind, Action, step-at, steps, stated}
-use Rattle.loader.specs.Load.{verdict, store, stopping-at, steps-of, load}
+use Rattle.steps.specs.Steps.{Placement, Step, stated}
+use Rattle.steps.specs.Sites.{load-steps}
+use Rattle.loader.specs.Placing.{Base, from-segment, from-linear, segment, linear, from-start, byte-address, placed, stated-by, base-behind, does, act, base-after, along}
+use Rattle.loader.specs.Load.{room-of, load}
+use Rattle.loader.specs.Helpers.{left, does-on}
 use Rattle.loader.specs.Claims.{record-on, sets, latest, in-force, states}
-use Rattle.loader.specs.Segments.{No-extension, Latest, At, in-segment, linearly, from-zero, Intel-rule, One-address, flat, flat-steps, flat-load, In-segment, In-segments, Record-unchanged, Text-unchanged, Load-unchanged, Examples}
+use Rattle.loader.specs.Segments.{No-extension, Latest, At, in-segment, linearly, from-zero, Intel-rule, One-address, flat, flat-load, In-segment, In-segments, Record-unchanged, Text-unchanged, Load-unchanged, Examples}
+use Rattle.loader.proofs.Rows.{by-row}
 
 -- ---- each byte by its index
 
@@ -203,8 +207,8 @@ by-rows P nothing fails goes n ((c ∷ l) ∷ ls) base h = go (judge (c ∷ l)) 
         (cut (is-end m && true) (base-behind base m) (ih (base-behind base m) (low-behind base m s h)))
 
 -- a record's step is the same exactly if the record stays in its segment
-step-same : (n : ℕ) (base : Base) (m : Meaning) → Sayable m → Low base → (step-at n (flat base) m ≡ step-at n base m) ↔ In-segment base m
-unfolding Low flat step-at
+step-same : (n : ℕ) (base : Base) (m : Meaning) → Sayable m → Low base → (does-on n (flat base) m ≡ does-on n base m) ↔ In-segment base m
+unfolding Low flat does
 step-same n (from-linear base) (data-at offset bytes) s h = ((λ e. tt), (λ k. refl))
 step-same n (from-segment base) (data-at offset bytes) s h = ((λ e. wrapped base offset bytes (s .0) cc), (λ k. rw (unwrapped base offset 0 bytes h (omega arith))))
 step-same n base end-of-file s h = ((λ e. tt), (λ k. refl))
@@ -213,8 +217,8 @@ step-same n base (start-segment cs ip) s h = ((λ e. tt), (λ k. refl))
 step-same n base (extended-linear x) s h = ((λ e. tt), (λ k. refl))
 step-same n base (start-linear x) s h = ((λ e. tt), (λ k. refl))
 
-step-length : (n : ℕ) (base b : Base) (m : Meaning) → length (step-at n b m) ≡ length (step-at n base m)
-unfolding step-at
+step-length : (n : ℕ) (base b : Base) (m : Meaning) → length (does-on n b m) ≡ length (does-on n base m)
+unfolding does
 step-length n base b (data-at offset bytes) = refl
 step-length n base b end-of-file = refl
 step-length n base b (extended-segment x) = refl
@@ -222,18 +226,18 @@ step-length n base b (start-segment cs ip) = refl
 step-length n base b (extended-linear x) = refl
 step-length n base b (start-linear x) = refl
 
-append-parts : (s₁ s₂ a b : List Action) → length s₁ ≡ length s₂ → s₁ ++ a ≡ s₂ ++ b → (s₁ ≡ s₂) × (a ≡ b)
+append-parts : (s₁ s₂ a b : List Step) → length s₁ ≡ length s₂ → s₁ ++ a ≡ s₂ ++ b → (s₁ ≡ s₂) × (a ≡ b)
 append-parts [] [] a b l e = (refl, e)
 append-parts [] (y ∷ s₂) a b l e = absurd (omega arith)
 append-parts (x ∷ s₁) [] a b l e = absurd (omega arith)
 append-parts (x ∷ s₁) (y ∷ s₂) a b l e = let (p, q) = append-parts s₁ s₂ a b (omega arith) cc in (cc, q)
 
 abbrev Unchanged : Base → List Numbered → Type 0
-Unchanged base row = (flat-steps base row ≡ steps base row) ↔ In-segments base row
+Unchanged base row = (along flat base row ≡ left base row) ↔ In-segments base row
 
 unchanged-record : (n : ℕ) (base : Base) (kind address : ℕ) (payload : List ℕ) (row : List Numbered) → let m = meaning kind address payload in
     Sayable m → Low base → (is-end m ≡ true → row ≡ []) → Unchanged (base-behind base m) row → Unchanged base (on n (says kind address payload) ∷ row)
-unfolding flat-steps steps
+unfolding along act base-after
 unchanged-record n base kind address payload row s h ends (there, back) =
     let m = meaning kind address payload in
     let (out, in-it) = step-same n base m s h in (
@@ -242,13 +246,15 @@ unchanged-record n base kind address payload row s h ends (there, back) =
     )
 
 pub text-unchanged : Text-unchanged
-unfolding row steps-of flat-steps steps
+unfolding row along act
 text-unchanged text = by-rows Unchanged (λ base. ((λ e. tt), (λ k. refl))) (λ n base r. ((λ e. tt), (λ k. refl))) unchanged-record 1 (lines text) from-start low-start
 
 pub load-unchanged : Load-unchanged
 unfolding flat-load load
-load-unchanged text first page marks h = ap (λ (s : List Action). store first (stated s) page marks (verdict (stopping-at s first page marks))) (text-unchanged text .1 h)
+load-unchanged text first page marks h =
+    by-row flat (room-of first page marks) text page marks
+    ∙ ap (λ (s : List Step). load-steps (room-of first page marks) s page marks) (text-unchanged text .1 h) ∙ sym (by-row (λ base. base) (room-of first page marks) text page marks)
 
 pub examples : Examples
-unfolding flat-steps row judge meaning number stated
+unfolding along flat act base-after row judge meaning number stated
 examples = record { beyond-flat = refl }

@@ -18,9 +18,13 @@ use Rattle.record.specs.Meaning.{Meaning, data-at, end-of-file, extended-segmen
 use Rattle.reader.specs.Lines.{LF, lines, through}
 use Rattle.reader.specs.Claims.{Offends}
 use Rattle.loader.specs.declared.Loading.{Loading}
-use Rattle.loader.specs.Placing.{Placement, Base, from-start, segment, linear, stated-by}
-use Rattle.loader.specs.Load.{Tally, Verdict, accepted, refused, by, within, stopping, Loaded, placements, load}
-use Rattle.loader.specs.Told.{told, Load, IsUnfit}
+use Rattle.steps.specs.Steps.{Placement, Tally, Verdict, accepted, refused, by}
+use Rattle.steps.specs.Sites.{Loaded, Place}
+use Rattle.window.specs.Window.{within}
+use Rattle.window.specs.Claims.{Window}
+use Rattle.loader.specs.Placing.{Base, from-start, segment, linear, stated-by}
+use Rattle.loader.specs.Load.{stopping, placements, load}
+use Rattle.loader.specs.Told.{told, Load}
 
 -- ---- two loads
 
@@ -41,24 +45,6 @@ Non-interference =
     → Alike (load text₁ first page₁ marks₁) (load text₂ first page₂ marks₂)
 
 -- ---- one load
-
--- some placement of the list is at the address
-abbrev pub Stated : (address : ℕ) → List Placement → Type 0
-Stated address ps = (p : Placement) × List·Memᴰ p ps × (p .address ≡ address)
-
--- the last placement of the list that is at the address states the byte
-pub record Last-stated (address byte : ℕ) (ps : List Placement) : Type 0 where
-  pub before : List Placement
-  pub after : List Placement
-  pub whole : ps ≡ before ++ (record { address = address; byte = byte } ∷ after)
-  pub none-later : (p : Placement) → List·Memᴰ p after → p .address ≢ address
-
--- what an accepted load owes a place: its address, its byte before, its mark and its byte after
-pub record Place (ps : List Placement) (address old mark byte : ℕ) : Type 0 where
-  pub one-or-zero : (mark ≡ 1) ⊎ (mark ≡ 0)
-  pub marked-iff-stated : (mark ≡ 1) ↔ Stated address ps
-  pub marked-holds : mark ≡ 1 → Last-stated address byte ps
-  pub unmarked-keeps : mark ≡ 0 → byte ≡ old
 
 -- demand 3, second half: of one accepted load, at each place of the window
 abbrev pub What-is-stored : Type 0
@@ -144,6 +130,10 @@ unfolding counts said-record judge
 data-records [] = 0
 data-records (line ∷ ls) = counts (record-on line) + data-records ls
 
+-- what an accepted load reports of these lines
+pub record Counted (tally : Tally) (ahead : List (List ℕ)) : Type 0 where
+  pub records : tally .records ≡ data-records ahead
+
 -- a line behind these does not stop a load: it is empty, or a record other than the end with no byte outside
 pub data Passes (inside : ℕ → Bool) (ahead : List (List ℕ)) (line : List ℕ) : Type 0 where
   is-empty : line ≡ [] → Passes inside ahead line
@@ -156,7 +146,7 @@ All-pass inside ahead (line ∷ ls) = Passes inside ahead line × All-pass insid
 
 -- what line n, behind these, gives a load that stops at it: it is the end record, or it is refused, or it has a first byte outside
 pub data Stops (inside : ℕ → Bool) (ahead : List (List ℕ)) (line : List ℕ) (n : ℕ) : Verdict → Type 0 where
-  the-end : (tally : Tally) → record-on line ≡ some end-of-file → tally .records ≡ data-records ahead → Stops inside ahead line n (accepted tally)
+  the-end : (tally : Tally) → record-on line ≡ some end-of-file → Counted tally ahead → Stops inside ahead line n (accepted tally)
   no-record : (r : Refusal) → line ≢ [] → judge line ≡ wrong r → Stops inside ahead line n (refused r n)
   first-outside : (before after : List Placement) (p : Placement)
       → states ahead (record-on line) ≡ before ++ (p ∷ after) → Every (λ (q : Placement). inside (q .address) ≡ true) before
@@ -172,12 +162,6 @@ pub record Decided (text : List ℕ) (inside : ℕ → Bool) (n : ℕ) (v : Verd
   pub pass : All-pass inside [] ahead
   pub stops : Stops inside ahead line n v
   pub stated : (tally : Tally) → v ≡ accepted tally → placements text ≡ all-states [] ahead
-
--- a window that is not refused
-pub record Window (first : ℕ) (page marks : List ℕ) : Type 0 where
-  pub even : length page ≡ length marks
-  pub small : length page ≤ 65536
-  pub below : first + length page ≤ 2 ^ 32
 
 -- a reason for an answer
 pub data Why (text : List ℕ) (first : ℕ) (page marks : List ℕ) : Verdict → Type 0 where
@@ -225,14 +209,6 @@ abbrev pub Load-unique : Type 0
 Load-unique =
     (text : List ℕ) (first : ℕ) (page marks : List ℕ) (r r′ : Loading) (p p′ m m′ : List ℕ)
     → Load text first page marks r p m → Load text first page marks r′ p′ m′ → (r ≡ r′) × (p ≡ p′) × (m ≡ m′)
-
-abbrev pub Is-unfit-unique : Type 0
-Is-unfit-unique = (first page marks : ℕ) (r r′ : Bool) → IsUnfit first page marks r → IsUnfit first page marks r′ → r ≡ r′
-
--- it is given exactly where a window is none
-abbrev pub Unfit-is-no-window : Type 0
-Unfit-is-no-window =
-    (first : ℕ) (page marks : List ℕ) (r : Bool) → IsUnfit first (length page) (length marks) r → (r ≡ false) ↔ Window first page marks
 
 -- ---- examples
 

@@ -3,29 +3,36 @@
 use Prim.Native.Nat.{ℕ, suc, _+_, _≤_, _<_}
 use mathlib.Core.Path.{_≡_}
 use mathlib.Core.Bool.{Bool, true, false}
-use mathlib.Core.Option.{Option, none, some}
-use mathlib.Core.List.{List, _++_, map}
+use mathlib.Core.Option.{some, Option·map}
+use mathlib.Core.List.{List, [], _++_, map}
 use lib.ListN.{length}
 use Rattle.record.specs.Meaning.{Meaning}
 use Rattle.record.specs.Record.{meant, Inside}
 use Rattle.record.specs.Written.{payload-of}
 use Rattle.record.specs.declared.Record.{Record}
-use Rattle.reader.specs.Row.{Numbered, is-end, through-stop}
+use Rattle.record.specs.declared.Record.the-variants.{Data, EndOfFile, ExtendedSegmentAddress, StartSegmentAddress, ExtendedLinearAddress, StartLinearAddress}
+use Rattle.reader.specs.Row.{Numbered, is-end}
 use Rattle.reader.specs.Text.{default-options}
 use Rattle.reader.specs.Along.{unread, Countable}
+use Rattle.steps.specs.Steps.{Step, step, outside, decision, verdict, stated}
+use Rattle.steps.specs.Sites.{painted}
+use Rattle.steps.specs.Runs.{as-mark}
+use Rattle.window.specs.declared.Reach.{Reach}
+use Rattle.window.specs.Window.{within, window}
+use Rattle.window.specs.Contracts.{first-byte}
 use Rattle.loader.specs.declared.Base.{Base as CodeBase}
 use Rattle.loader.specs.declared.Base.the-variants.{Segment, Linear}
-use Rattle.loader.specs.declared.Reach.{Reach}
-use Rattle.loader.specs.declared.Reach.the-variants as reach
 use Rattle.loader.specs.declared.Loading.{Loading}
 use Rattle.loader.specs.declared.Loading.the-variants.{Accepted, Refused}
+use Rattle.loader.specs.declared.Tally.{Tally as CodeTally}
 use Rattle.loader.specs.declared.Walk.{Walk}
 use Rattle.loader.specs.declared.Turn.{Turn}
 use Rattle.loader.specs.declared.Turn.the-variants.{On, Stop}
-use Rattle.loader.specs.Placing.{Placement, Base, segment, linear, base-behind, Action, step-at, steps, stated}
+use Rattle.loader.specs.declared.Further.{Further}
+use Rattle.loader.specs.declared.Further.the-variants as further
+use Rattle.loader.specs.Placing.{Base, segment, linear, byte-address, placed, base-behind, does, along}
 unfoldable pub use Rattle.loader.specs.Placing.{stated-by}
-use Rattle.loader.specs.Load.{Tally, accepted, by, within, outside, decision, verdict, painted}
-use Rattle.loader.specs.Told.{told}
+use Rattle.loader.specs.Told.{tallied, told}
 
 -- ---- one record
 
@@ -33,43 +40,37 @@ abbrev pub based : CodeBase → Base
 based (Segment number) = segment number
 based (Linear number) = linear number
 
-abbrev pub reached : Reach → Option ℕ
-reached reach.Inside = none
-reached (reach.Outside address) = some address
+-- of `len` bytes of a data record, the one that is named is the first outside the window
+pub record Surveyed (base : Base) (offset len first size : ℕ) (r : Reach) : Type 0 where
+  pub answer : (bytes : List ℕ) → length bytes ≡ len
+      → outside (within first size) (placed base offset 0 bytes) ≡ Option·map (byte-address base offset) (first-byte r)
+  pub among : (i : ℕ) → first-byte r ≡ some i → i < len
 
--- the mark of a placement, as a placement
-abbrev pub as-mark : Placement → Placement
-as-mark p = record { address = p .address; byte = 1 }
+-- a record's payload is no longer than a line can say
+abbrev pub Short : Record → Type 0
+Short (Data offset at len) = len ≤ 255
+Short EndOfFile = Unit
+Short (ExtendedSegmentAddress number) = Unit
+Short (StartSegmentAddress cs ip) = Unit
+Short (ExtendedLinearAddress number) = Unit
+Short (StartLinearAddress number) = Unit
 
--- page and marks with these placements upon them
-pub record Painted (first : ℕ) (ps : List Placement) (page₀ marks₀ page′ marks′ : List ℕ) : Type 0 where
-  pub page : page′ ≡ painted first ps page₀
-  pub marks : marks′ ≡ painted first (map as-mark ps) marks₀
-
--- placements that all lie in a window of these places
-pub record Fitting (first : ℕ) (ps : List Placement) (page marks : List ℕ) : Type 0 where
-  pub even : length page ≡ length marks
-  pub inside : outside (within first (length page)) ps ≡ none
-
--- a record's payload lies in the pool, and is no longer than a line can say
+-- and it lies in the pool
 abbrev pub Lies-in : Record → (pool : List ℕ) → Type 0
 Lies-in x pool = Inside x (length pool) × (length (payload-of (meant x pool)) ≤ 255)
 
--- the base behind a record, wherever its payload lies
+-- the base after a record, wherever its payload lies
 pub record Behind (base : CodeBase) (x : Record) (r : CodeBase) : Type 0 where
   pub base-is : (pool : List ℕ) → based r ≡ base-behind (based base) (meant x pool)
 
 -- ---- the first pass
 
-abbrev pub tally-of : (records : ℕ) → Tally
-tally-of records = record { records = records }
+-- the steps of sayings, from a base on
+abbrev pub left : Base → List Numbered → List Step
+left base row = along (λ b. b) base row
 
--- the steps of sayings through the stop, from a base on
-abbrev pub left : Base → List Numbered → List Action
-left base row = steps base (through-stop default-options row)
-
--- the steps that a walk has still ahead of it
-abbrev pub ahead-of : Walk → (text : List ℕ) → List Action
+-- the steps that a walk has still before it
+abbrev pub ahead-of : Walk → (text : List ℕ) → List Step
 ahead-of w text = left (based (w .base)) (unread (w .state) text)
 
 -- a walk along a text that was begun at its beginning
@@ -78,54 +79,59 @@ pub record Under-way (text : List ℕ) (w : Walk) : Type 0 where
   pub countable : Countable (w .state) text
 
 -- so many data records were met, and there are still few enough to be counted
-abbrev pub Few : (text : List ℕ) → Walk → (records : ℕ) → Type 0
-Few text w records = records + length (unread (w .state) text) ≤ length text
+abbrev pub Few : (text : List ℕ) → Walk → CodeTally → Type 0
+Few text w tally = tally .records + length (unread (w .state) text) ≤ length text
 
--- a record that was read on line n, with these steps behind it: it passes, or it decides
-pub record Passed (inside : ℕ → Bool) (w : Walk) (records : ℕ) (m : Meaning) (w′ : Walk) (records′ : ℕ) : Type 0 where
+-- what a record does on line n
+abbrev pub does-on : (line : ℕ) → Base → Meaning → List Step
+does-on n base m = map (step n) (does base m)
+
+-- a record that was read, whatever steps follow it: it passes, or it decides
+pub record Passed (inside : ℕ → Bool) (w : Walk) (tally : CodeTally) (m : Meaning) (w′ : Walk) (tally′ : CodeTally) : Type 0 where
   pub state : w′ .state ≡ w .state
   pub base : based (w′ .base) ≡ base-behind (based (w .base)) m
   pub goes-on : is-end m ≡ false
-  pub counted : records′ ≤ suc records
-  pub same : (rest : List Action) → decision inside (tally-of records′) rest ≡ decision inside (tally-of records) (step-at (w .state .line) (based (w .base)) m ++ rest)
+  pub counted : tally′ .records ≤ suc (tally .records)
+  pub same : (rest : List Step) → decision inside (tallied tally′) rest ≡ decision inside (tallied tally) (does-on (w .state .line) (based (w .base)) m ++ rest)
 
-abbrev pub Met : (inside : ℕ → Bool) (w : Walk) (records : ℕ) (m : Meaning) → Turn → Type 0
-Met inside w records m (On w′ records′) = Passed inside w records m w′ records′
-Met inside w records m (Stop l) = (rest : List Action) → told l ≡ verdict (decision inside (tally-of records) (step-at (w .state .line) (based (w .base)) m ++ rest))
+abbrev pub Met : (inside : ℕ → Bool) (w : Walk) (tally : CodeTally) (m : Meaning) → Turn → Type 0
+Met inside w tally m (On w′ tally′) = Passed inside w tally m w′ tally′
+Met inside w tally m (Stop l) = (rest : List Step) → told l ≡ verdict (decision inside (tallied tally) (does-on (w .state .line) (based (w .base)) m ++ rest))
 
--- a line was judged: the decision on what is left is the decision on what was left, or it is told
-pub record Onward (inside : ℕ → Bool) (text : List ℕ) (w : Walk) (records : ℕ) (w′ : Walk) (records′ : ℕ) : Type 0 where
+-- so it is, wherever the record's payload lies
+abbrev pub Meets : (inside : ℕ → Bool) (w : Walk) (tally : CodeTally) (x : Record) → Turn → Type 0
+Meets inside w tally x t = (pool : List ℕ) → Lies-in x pool → Met inside w tally (meant x pool) t
+
+-- a line was judged: the decision on what is left is the decision on what was left, or it is returned
+pub record Onward (inside : ℕ → Bool) (text : List ℕ) (w : Walk) (tally : CodeTally) (w′ : Walk) (tally′ : CodeTally) : Type 0 where
   pub under-way : Under-way text w′
-  pub few : Few text w′ records′
-  pub same : decision inside (tally-of records′) (ahead-of w′ text) ≡ decision inside (tally-of records) (ahead-of w text)
+  pub few : Few text w′ tally′
+  pub same : decision inside (tallied tally′) (ahead-of w′ text) ≡ decision inside (tallied tally) (ahead-of w text)
   pub less : length (unread (w′ .state) text) < length (unread (w .state) text)
 
-abbrev pub Judged : (inside : ℕ → Bool) (text : List ℕ) (w : Walk) (records : ℕ) → Turn → Type 0
-Judged inside text w records (On w′ records′) = Onward inside text w records w′ records′
-Judged inside text w records (Stop l) = told l ≡ verdict (decision inside (tally-of records) (ahead-of w text))
+abbrev pub Judged : (inside : ℕ → Bool) (text : List ℕ) (w : Walk) (tally : CodeTally) → Turn → Type 0
+Judged inside text w tally (On w′ tally′) = Onward inside text w tally w′ tally′
+Judged inside text w tally (Stop l) = told l ≡ verdict (decision inside (tallied tally) (ahead-of w text))
 
 -- ---- the second pass
 
 -- is anything written?
 abbrev pub is-accepted : Loading → Bool
-is-accepted (Accepted records) = true
+is-accepted (Accepted tally) = true
 is-accepted (Refused e line) = false
 
--- these steps are accepted
-abbrev pub Accepts : (inside : ℕ → Bool) → List Action → Type 0
-Accepts inside steps = (tally : Tally) × (n : ℕ) × (t : Tally) × (decision inside tally steps ≡ some (by n (accepted t)))
+-- what is stated from here on, painted on page and marks as they are, is what was stated from there on painted on them as they were
+pub record Same-painting (first : ℕ) (s₀ : List Step) (page₀ marks₀ : List ℕ) (s : List Step) (page′ marks′ : List ℕ) : Type 0 where
+  pub size : length page′ ≡ length page₀
+  pub page : painted (window first (length page₀)) 0 (stated s) page′ ≡ painted (window first (length page₀)) 0 (stated s₀) page₀
+  pub marks : painted (window first (length page₀)) 0 (map as-mark (stated s)) marks′ ≡ painted (window first (length page₀)) 0 (map as-mark (stated s₀)) marks₀
 
--- what the second pass keeps up: page and marks have the window's size, and what is left is accepted
-pub record Ready (first : ℕ) (text : List ℕ) (w : Walk) (pool page marks : List ℕ) : Type 0 where
-  pub under-way : Under-way text w
-  pub pool-room : length pool ≡ 255
-  pub even : length page ≡ length marks
-  pub accepts : Accepts (within first (length page)) (ahead-of w text)
-
--- a record was written: what is left, painted on page and marks as they are, is what was left painted on them as they were
-pub record Wrote (first : ℕ) (text : List ℕ) (w : Walk) (page₀ marks₀ : List ℕ) (w′ : Walk) (page′ marks′ : List ℕ) : Type 0 where
+-- a line was written: the walk goes on, or nothing more is stated
+pub record Written-on (first : ℕ) (text : List ℕ) (w : Walk) (page₀ marks₀ : List ℕ) (w′ : Walk) (page′ marks′ : List ℕ) : Type 0 where
   pub under-way : Under-way text w′
   pub less : length (unread (w′ .state) text) < length (unread (w .state) text)
-  pub page : painted first (stated (ahead-of w′ text)) page′ ≡ painted first (stated (ahead-of w text)) page₀
-  pub marks : painted first (map as-mark (stated (ahead-of w′ text))) marks′ ≡ painted first (map as-mark (stated (ahead-of w text))) marks₀
-  pub accepts : w′ .state .finished ≡ false → Accepts (within first (length page′)) (ahead-of w′ text)
+  pub same : Same-painting first (ahead-of w text) page₀ marks₀ (ahead-of w′ text) page′ marks′
+
+abbrev pub Wrote : (first : ℕ) (text : List ℕ) (w : Walk) (page₀ marks₀ : List ℕ) → Further → (page′ marks′ : List ℕ) → Type 0
+Wrote first text w page₀ marks₀ (further.On w′) page′ marks′ = Written-on first text w page₀ marks₀ w′ page′ marks′
+Wrote first text w page₀ marks₀ further.End page′ marks′ = (stated (ahead-of w text) ≡ []) × (page′ ≡ page₀) × (marks′ ≡ marks₀)

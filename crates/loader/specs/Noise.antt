@@ -11,7 +11,9 @@ use Rattle.record.specs.Refusals.{Refusal, contains-invalid-characters, record-
 use Rattle.record.specs.Noise.{Slip}
 use Rattle.reader.specs.Lines.{LF, CR}
 use Rattle.loader.specs.declared.Loading.{Loading}
-use Rattle.loader.specs.Load.{Tally, Verdict, accepted, refused, Loaded, load}
+use Rattle.steps.specs.Steps.{Tally, Verdict, accepted, refused}
+use Rattle.steps.specs.Sites.{Loaded}
+use Rattle.loader.specs.Load.{load}
 use Rattle.loader.specs.Told.{told, Load}
 use Rattle.loader.specs.Claims.{example}
 

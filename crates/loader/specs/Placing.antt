@@ -1,16 +1,13 @@
--- What a row of things said states: bytes at addresses, in order. Document 01, "Loader", with the bases and sums of document 02's second request.
+-- Intel's records as a source of steps: where the bytes of a data record lie, and what each line does. Document 01, "Loader", with the bases
+-- and sums of document 02's second request.
 -- Assumes nothing.
 use Prim.Native.Nat.{ℕ, suc, _+_, _*_, _%_, _^_}
-use mathlib.Core.List.{List, [], _∷_, _++_}
-use Rattle.record.specs.Refusals.{Refusal}
-use Rattle.record.specs.Line.{says, wrong}
+use mathlib.Core.List.{List, [], _∷_, _++_, map}
+use Rattle.record.specs.Line.{Said, says, wrong, judge}
 use Rattle.record.specs.Meaning.{Meaning, data-at, end-of-file, extended-segment, start-segment, extended-linear, start-linear, meaning}
 use Rattle.reader.specs.Row.{Numbered, on}
-
--- a byte at an address
-pub record Placement : Type 0 where
-  pub address : ℕ
-  pub byte : ℕ
+use Rattle.steps.specs.Steps.{Placement, Action, places, finishes, fails, Step, step}
+use Rattle.steps.specs.Source.{Source}
 
 -- ---- bases
 
@@ -62,33 +59,39 @@ base-behind base (start-linear number) = base
 
 -- ---- steps
 
--- what a load does at a line: data at addresses, the end, a refusal
-pub data Action : Type 0 where
-  places : (line : ℕ) (what : List Placement) → Action
-  finishes : (line : ℕ) → Action
-  fails : (line : ℕ) (r : Refusal) → Action
-
--- the step at a record: extension and start records place nothing
-unfoldable pub step-at : (line : ℕ) → Base → Meaning → List Action
+-- what a record does at a base: extension and start records do nothing
+unfoldable pub does : Base → Meaning → List Action
 unfolding placed
-step-at n base (data-at offset bytes) = places n (placed base offset 0 bytes) ∷ []
-step-at n base end-of-file = finishes n ∷ []
-step-at n base (extended-segment number) = []
-step-at n base (start-segment cs ip) = []
-step-at n base (extended-linear number) = []
-step-at n base (start-linear number) = []
+does base (data-at offset bytes) = places (placed base offset 0 bytes) ∷ []
+does base end-of-file = finishes ∷ []
+does base (extended-segment number) = []
+does base (start-segment cs ip) = []
+does base (extended-linear number) = []
+does base (start-linear number) = []
 
--- the steps of a row, from a base on
-unfoldable pub steps : Base → List Numbered → List Action
-unfolding step-at base-behind meaning
-steps base [] = []
-steps base (on n (says kind address payload) ∷ row) =
-    step-at n base (meaning kind address payload) ++ steps (base-behind base (meaning kind address payload)) row
-steps base (on n (wrong r) ∷ row) = fails n r ∷ steps base row
+-- what is said on a line does that; a line that is refused fails
+unfoldable pub act : Base → Said → List Action
+unfolding does meaning
+act base (says kind address payload) = does base (meaning kind address payload)
+act base (wrong r) = fails r ∷ []
 
--- the placements ahead of the end record (and ahead of a refusal), in order
-unfoldable pub stated : List Action → List Placement
-stated [] = []
-stated (places n what ∷ steps) = what ++ stated steps
-stated (finishes n ∷ steps) = []
-stated (fails n r ∷ steps) = []
+-- the base after it
+unfoldable pub base-after : Base → Said → Base
+unfolding base-behind meaning
+base-after base (says kind address payload) = base-behind base (meaning kind address payload)
+base-after base (wrong r) = base
+
+-- the source, where bytes are placed by this function of the base in force
+unfoldable pub intel-by : (Base → Base) → Source Base
+unfolding act base-after judge
+intel-by f = record { beginning = from-start; act = λ base line. act (f base) (judge line); next = λ base line. base-after base (judge line) }
+
+-- Intel's records: by the base itself
+abbrev pub intel : Source Base
+intel = intel-by (λ base. base)
+
+-- the steps of a row of sayings, from a base on
+unfoldable pub along : (Base → Base) → Base → List Numbered → List Step
+unfolding act base-after
+along f base [] = []
+along f base (on n said ∷ row) = map (step n) (act (f base) said) ++ along f (base-after base said) row

@@ -15,8 +15,12 @@ use Rattle.record.specs.Meaning.{Meaning, data-at, end-of-file, extended-segmen
 use Rattle.reader.specs.Lines.{lines}
 use Rattle.reader.specs.Row.{Numbered, on, row}
 use Rattle.reader.specs.Text.{default-options}
-use Rattle.loader.specs.Placing.{Base, from-segment, from-linear, segment, from-start, stated-by, base-behind, Action, fails, step-at, stated}
-use Rattle.loader.specs.Load.{Tally, Verdict, accepted, refused, verdict, within, Loaded, store, stopping-at, steps-of, load}
+use Rattle.steps.specs.Steps.{Tally, Verdict, accepted, refused, stated}
+use Rattle.steps.specs.Sites.{Loaded}
+use Rattle.steps.specs.Sites as sites
+use Rattle.window.specs.Window.{within, one-window}
+use Rattle.loader.specs.Placing.{Base, from-segment, from-linear, segment, from-start, stated-by, base-behind, intel-by, along}
+use Rattle.loader.specs.Load.{room-of, load}
 use Rattle.loader.specs.Claims.{record-on, states, beyond}
 
 -- ---- Intel's sums
@@ -132,20 +136,10 @@ unfoldable pub flat : Base → Base
 flat (from-segment base) = from-linear base
 flat (from-linear base) = from-linear base
 
--- a row's steps, placed without segments
-unfoldable pub flat-steps : Base → List Numbered → List Action
-unfolding flat step-at base-behind meaning
-flat-steps base [] = []
-flat-steps base (on n (says kind address payload) ∷ row) =
-    step-at n (flat base) (meaning kind address payload) ++ flat-steps (base-behind base (meaning kind address payload)) row
-flat-steps base (on n (wrong r) ∷ row) = fails n r ∷ flat-steps base row
-
 -- the load of a text, placed so
 unfoldable pub flat-load : List ℕ → (first : ℕ) (page marks : List ℕ) → Loaded
-unfolding flat-steps row store stated verdict stopping-at
-flat-load text first page marks =
-    let steps = flat-steps from-start (row default-options text) in
-    store first (stated steps) page marks (verdict (stopping-at steps first page marks))
+unfolding flat intel-by sites.load one-window
+flat-load text first page marks = sites.load (intel-by flat) (room-of first page marks) text page marks
 
 -- offsets up to this end lie in the base's segment, if it has one
 abbrev pub Fits : Base → (end : ℕ) → Type 0
@@ -179,7 +173,7 @@ Record-unchanged =
 -- reading stops: the first end record, or the first line that is refused
 abbrev pub Text-unchanged : Type 0
 Text-unchanged =
-    (text : List ℕ) → let read = row default-options text in (flat-steps from-start read ≡ steps-of text) ↔ In-segments from-start read
+    (text : List ℕ) → let read = row default-options text in (along flat from-start read ≡ along (λ base. base) from-start read) ↔ In-segments from-start read
 
 -- and then so is its load into every window: answer, page and marks
 abbrev pub Load-unchanged : Type 0
@@ -209,4 +203,4 @@ Same-or-outside =
 
 pub record Examples : Type 0 where
   -- without segments document 01's record states FFFF and 10000
-  pub beyond-flat : stated (flat-steps from-start (row default-options beyond)) ≡ record { address = 0xFFFF; byte = 0xAA } ∷ record { address = 0x10000; byte = 0xBB } ∷ []
+  pub beyond-flat : stated (along flat from-start (row default-options beyond)) ≡ record { address = 0xFFFF; byte = 0xAA } ∷ record { address = 0x10000; byte = 0xBB } ∷ []

@@ -2,7 +2,6 @@
 -- Assumes nothing.
 use Prim.Native.Nat.{ℕ}
 use mathlib.Core.Path.{_≡_}
-use mathlib.Core.Bool.{Bool}
 use mathlib.Core.List.{List}
 use Rattle.record.specs.Refusals.{Refusal, missing-end-of-file-record, bad-window, outside-window}
 use Rattle.reader.specs.Told.{refusal-of}
@@ -10,7 +9,9 @@ use Rattle.loader.specs.declared.LoaderError.{LoaderError}
 use Rattle.loader.specs.declared.LoaderError.the-variants.{Line, MissingEndOfFileRecord, BadWindow, OutsideWindow}
 use Rattle.loader.specs.declared.Loading.{Loading}
 use Rattle.loader.specs.declared.Loading.the-variants.{Accepted, Refused}
-use Rattle.loader.specs.Load.{Verdict, accepted, refused, unfit, load}
+use Rattle.steps.specs.Steps.{Tally, Verdict, accepted, refused}
+use Rattle.loader.specs.declared.Tally.{Tally as CodeTally}
+use Rattle.loader.specs.Load.{load}
 
 abbrev pub refusal-by : LoaderError → Refusal
 refusal-by (Line e) = refusal-of e
@@ -18,8 +19,11 @@ refusal-by MissingEndOfFileRecord = missing-end-of-file-record
 refusal-by BadWindow = bad-window
 refusal-by (OutsideWindow address) = outside-window address
 
+abbrev pub tallied : CodeTally → Tally
+tallied t = record { records = t .records }
+
 abbrev pub told : Loading → Verdict
-told (Accepted records) = accepted (record { records = records })
+told (Accepted tally) = accepted (tallied tally)
 told (Refused e line) = refused (refusal-by e) line
 
 -- the contract of `load`
@@ -27,7 +31,3 @@ pub record Load (text : List ℕ) (first : ℕ) (page₀ marks₀ : List ℕ) (r
   pub answer : told r ≡ (load text first page₀ marks₀) .answer
   pub page : page′ ≡ (load text first page₀ marks₀) .page
   pub marks : marks′ ≡ (load text first page₀ marks₀) .marks
-
--- the contract of `is_unfit`
-pub record IsUnfit (first page marks : ℕ) (r : Bool) : Type 0 where
-  pub answer : r ≡ unfit first page marks

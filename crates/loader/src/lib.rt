@@ -3,15 +3,25 @@ use reader::ReaderError;
 use reader::Reply;
 use reader::State;
 use record::Record;
+use window::Reach;
 ghost use mathlib.Core.Path.{_≡_};
-ghost use Prim.Native.Nat.{_+_, _^_, _≤_, _<_};
-ghost use lib.ListN.{length, replicate};
+ghost use Prim.Native.Nat.{_+_, _^_, _≤_, _<_, min, _-_};
+ghost use lib.ListN.{length};
 ghost use Rattle.record.specs.Record.{meant};
 ghost use Rattle.reader.specs.Text.{new-state, default-options};
+ghost use Rattle.steps.specs.Steps.{nothing-yet, decision, verdict};
+ghost use Rattle.window.specs.Window.{within};
+ghost use Rattle.window.specs.Contracts.{Painted};
 ghost use Rattle.loader.specs.Placing.{byte-address, placed};
-ghost use Rattle.loader.specs.Load.{within, outside, decision, verdict, no-records, placements, steps-of};
-ghost use Rattle.loader.specs.Told.{told, Load, IsUnfit};
-ghost use Rattle.loader.specs.Helpers.{based, reached, Painted, Fitting, stated-by, Lies-in, Behind, Under-way, Few, Met, Judged, is-accepted, Accepts, Ready, Wrote};
+ghost use Rattle.loader.specs.Load.{placements, steps-of};
+ghost use Rattle.loader.specs.Told.{told, Load};
+ghost use Rattle.loader.specs.Helpers.{based, Surveyed, stated-by, Short, Lies-in, Behind, Under-way, Few, Meets, Judged, is-accepted, Wrote};
+
+// The most bytes that a record can have.
+const MOST_BYTES: usize = 255;
+
+// How many bytes a segment has.
+const SEGMENT: usize = 65536;
 
 // Why a text is not loaded.
 pub enum LoaderError {
@@ -23,9 +33,15 @@ pub enum LoaderError {
     OutsideWindow(u32),
 }
 
-// What a load answers: how many data records it met, or a refusal and the number of its line.
+// What an accepted load reports.
+pub struct Tally {
+    // How many data records it met.
+    pub records: usize,
+}
+
+// What a load returns: its tally, or a refusal and the number of its line.
 pub enum Loading {
-    Accepted(usize),
+    Accepted(Tally),
     Refused(LoaderError, usize),
 }
 
@@ -35,22 +51,22 @@ enum Base {
     Linear(u16),
 }
 
-// Whether a record lies in the window, or the address of its first byte outside.
-enum Reach {
-    Inside,
-    Outside(u32),
-}
-
 // Where a pass stands in a text, and the base in force there.
 struct Walk {
     state: State,
     base: Base,
 }
 
-// What a line comes to in the first pass: the walk behind it with the data records so far, or the answer.
+// What a line comes to in the first pass: the walk after it with the tally so far, or the answer.
 enum Turn {
-    On(Walk, usize),
+    On(Walk, Tally),
     Stop(Loading),
+}
+
+// What a line comes to in the second pass: the walk after it, or the end.
+enum Further {
+    On(Walk),
+    End,
 }
 
 // The address of byte i of a data record: in a segment the offset wraps at 65,536, under a linear base the sum wraps at 2^32.
@@ -65,7 +81,7 @@ fn byte_address(base: Base, offset: u16, i: usize) -> u32
     }
 }
 
-// The base behind a record.
+// The base after a record.
 fn base_behind(base: Base, given: Record) -> Base
     ensures { λ r. ⌜ Behind base given r ⌝ }
 {
@@ -83,55 +99,62 @@ fn base_behind(base: Base, given: Record) -> Base
     }
 }
 
-// Whether the window holds the address: one comparison, since an address below the first wraps to one beyond the window.
-fn holds(first: u32, size: usize, address: u32) -> bool
-    requires { ⌜ first + size ≤ 2 ^ 32 ⌝ }
-    ensures { λ r. ⌜ r ≡ within first size address ⌝ }
+// How many of the bytes of a data record stand before the end of its segment. These lie one after the other, and so do those after them.
+fn first_run(offset: u16, len: usize) -> usize
+    ensures { λ r. ⌜ r ≡ min len (65536 - offset) ⌝ }
 {
-    (std::num::wrapping_sub_u32(address, first) as usize) < size
+    let room = SEGMENT - (offset as usize);
+    if len <= room {
+        return len;
+    }
+    room
 }
 
 // Where the bytes of a data record lie.
-fn survey(base: Base, offset: u16, bytes: &[u8], first: u32, size: usize) -> Reach
-    requires { ⌜ (length (now bytes) ≤ 255) × (first + size ≤ 2 ^ 32) ⌝ }
-    ensures { λ r. ⌜ reached r ≡ outside (within first size) (placed (based base) offset 0 (now (bytes .entry))) ⌝ }
+fn survey(base: Base, offset: u16, len: usize, first: u32, size: usize) -> Reach
+    requires { ⌜ len ≤ 255 ⌝ }
+    ensures { λ r. ⌜ Surveyed (based base) offset len first size r ⌝ }
 {
-    let mut i = 0;
-    while i < bytes.len() {
-        let address = byte_address(base, offset, i);
-        if !holds(first, size, address) {
-            return Reach::Outside(address);
+    let run = first_run(offset, len);
+    match window::first_outside(first, size, byte_address(base, offset, 0), run) {
+        Reach::Outside(i) => Reach::Outside(i),
+        Reach::Inside => {
+            match window::first_outside(first, size, byte_address(base, offset, run), len - run) {
+                Reach::Outside(i) => Reach::Outside(run + i),
+                Reach::Inside => Reach::Inside,
+            }
         }
-        i += 1;
     }
-    Reach::Inside
 }
 
-// Stores the bytes of a data record that lies in the window, and marks their places, each at its own address.
+// Stores the bytes of a data record and marks their places, each at its own address.
 fn put(base: Base, offset: u16, bytes: &[u8], first: u32, page: &mut [u8], marks: &mut [u8])
-    requires { ⌜ (length (now bytes) ≤ 255) × Fitting first (placed (based base) offset 0 (now bytes)) (now page) (now marks) ⌝ }
+    requires { ⌜ length (now bytes) ≤ 255 ⌝ }
     ensures { λ _. ⌜ Painted first (placed (based base) offset 0 (now (bytes .entry))) (now (page .entry)) (now (marks .entry)) (now (page .exit)) (now (marks .exit)) ⌝ }
 {
-    let mut i = 0;
-    while i < bytes.len() {
-        let place = (byte_address(base, offset, i) - first) as usize;
-        page[place] = bytes[i];
-        marks[place] = 1;
-        i += 1;
+    let run = first_run(offset, bytes.len());
+    window::put_run(
+        first,
+        byte_address(base, offset, 0),
+        &bytes[..run],
+        page,
+        marks,
+    );
+    if run < bytes.len() {
+        window::put_run(
+            first,
+            byte_address(base, offset, run),
+            &bytes[run..],
+            page,
+            marks,
+        );
     }
 }
 
-// What a record comes to in the first pass. The walk stands behind the record's line, with the base ahead of it.
-fn judge_record(
-    pool: &[u8],
-    first: u32,
-    size: usize,
-    w: Walk,
-    records: usize,
-    given: Record,
-) -> Turn
-    requires { ⌜ Lies-in given (now pool) × (records + 1 < 2 ^ 64) × (first + size ≤ 2 ^ 32) ⌝ }
-    ensures { λ r. ⌜ Met (within first size) w records (meant given (now (pool .entry))) r ⌝ }
+// What a record comes to in the first pass. The walk stands after the record's line, with the base before it.
+fn judge_record(first: u32, size: usize, w: Walk, tally: Tally, given: Record) -> Turn
+    requires { ⌜ Short given × (tally .records + 1 < 2 ^ 64) ⌝ }
+    ensures { λ r. ⌜ Meets (within first size) w tally given r ⌝ }
 {
     let state = w.state;
     let base = w.base;
@@ -140,34 +163,30 @@ fn judge_record(
         base: base_behind(base, given),
     };
     match given {
-        Record::Data { offset, at, len } => {
-            let end = at + len;
-            match survey(base, offset, &pool[at..end], first, size) {
-                Reach::Inside => Turn::On(there, records + 1),
-                Reach::Outside(address) => {
-                    Turn::Stop(Loading::Refused(LoaderError::OutsideWindow(address), state.line))
-                }
+        Record::Data { offset, at: _, len } => match survey(base, offset, len, first, size) {
+            Reach::Inside => Turn::On(
+                there,
+                Tally {
+                    records: tally.records + 1,
+                },
+            ),
+            Reach::Outside(i) => {
+                let address = byte_address(base, offset, i);
+                Turn::Stop(Loading::Refused(LoaderError::OutsideWindow(address), state.line))
             }
-        }
-        Record::EndOfFile => Turn::Stop(Loading::Accepted(records)),
-        Record::ExtendedSegmentAddress(_) => Turn::On(there, records),
-        Record::StartSegmentAddress { cs: _, ip: _ } => Turn::On(there, records),
-        Record::ExtendedLinearAddress(_) => Turn::On(there, records),
-        Record::StartLinearAddress(_) => Turn::On(there, records),
+        },
+        Record::EndOfFile => Turn::Stop(Loading::Accepted(tally)),
+        Record::ExtendedSegmentAddress(_) => Turn::On(there, tally),
+        Record::StartSegmentAddress { cs: _, ip: _ } => Turn::On(there, tally),
+        Record::ExtendedLinearAddress(_) => Turn::On(there, tally),
+        Record::StartLinearAddress(_) => Turn::On(there, tally),
     }
 }
 
 // What the next line comes to in the first pass.
-fn judge_next(
-    text: &[u8],
-    pool: &mut [u8],
-    first: u32,
-    size: usize,
-    w: Walk,
-    records: usize,
-) -> Turn
-    requires { ⌜ Under-way (now text) w × Few (now text) w records × (length (now pool) ≡ 255) × (first + size ≤ 2 ^ 32) ⌝ }
-    ensures { λ r. ⌜ Judged (within first size) (now (text .entry)) w records r ⌝ }
+fn judge_next(text: &[u8], pool: &mut [u8], first: u32, size: usize, w: Walk, tally: Tally) -> Turn
+    requires { ⌜ Under-way (now text) w × Few (now text) w tally × (length (now pool) ≡ 255) ⌝ }
+    ensures { λ r. ⌜ Judged (within first size) (now (text .entry)) w tally r ⌝ }
 {
     let state = w.state;
     let base = w.base;
@@ -180,7 +199,7 @@ fn judge_next(
                 state: behind,
                 base,
             };
-            judge_record(pool, first, size, there, records, given)
+            judge_record(first, size, there, tally, given)
         }
         Reply::Refused(e) => Turn::Stop(Loading::Refused(LoaderError::Line(e), behind.line)),
         Reply::Done => Turn::Stop(Loading::Refused(LoaderError::MissingEndOfFileRecord, 0)),
@@ -199,17 +218,16 @@ fn begin() -> Walk
 
 // The first pass: the answer to a text for a window that is not refused. Nothing is written.
 fn judge_text(text: &[u8], first: u32, size: usize) -> Loading
-    requires { ⌜ first + size ≤ 2 ^ 32 ⌝ }
-    ensures { λ r. ⌜ told r ≡ verdict (decision (within first size) no-records (steps-of (now (text .entry)))) ⌝ }
+    ensures { λ r. ⌜ told r ≡ verdict (decision (within first size) nothing-yet (steps-of (now (text .entry)))) ⌝ }
 {
-    let mut pool = [0u8; 255];
+    let mut pool = [0u8; MOST_BYTES];
     let mut w = begin();
-    let mut records = 0;
+    let mut tally = Tally { records: 0 };
     loop {
-        match judge_next(text, &mut pool, first, size, w, records) {
-            Turn::On(next, n) => {
+        match judge_next(text, &mut pool, first, size, w, tally) {
+            Turn::On(next, t) => {
                 w = next;
-                records = n;
+                tally = t;
             }
             Turn::Stop(answer) => return answer,
         }
@@ -225,7 +243,7 @@ fn write_record(
     page: &mut [u8],
     marks: &mut [u8],
 )
-    requires { ⌜ Lies-in given (now pool) × Fitting first (stated-by (based base) (meant given (now pool))) (now page) (now marks) ⌝ }
+    requires { ⌜ Lies-in given (now pool) ⌝ }
     ensures { λ _. ⌜ Painted first (stated-by (based base) (meant given (now (pool .entry)))) (now (page .entry)) (now (marks .entry)) (now (page .exit)) (now (marks .exit)) ⌝ }
 {
     match given {
@@ -241,7 +259,7 @@ fn write_record(
     }
 }
 
-// The next line in the second pass, of a text that is accepted.
+// The next line in the second pass.
 fn write_next(
     text: &[u8],
     pool: &mut [u8],
@@ -249,8 +267,8 @@ fn write_next(
     w: Walk,
     page: &mut [u8],
     marks: &mut [u8],
-) -> Walk
-    requires { ⌜ Ready first (now text) w (now pool) (now page) (now marks) ⌝ }
+) -> Further
+    requires { ⌜ Under-way (now text) w × (length (now pool) ≡ 255) ⌝ }
     ensures { λ r. ⌜ Wrote first (now (text .entry)) w (now (page .entry)) (now (marks .entry)) r (now (page .exit)) (now (marks .exit)) ⌝ }
 {
     let state = w.state;
@@ -261,52 +279,30 @@ fn write_next(
     match reply {
         Reply::Read(given) => {
             write_record(pool, first, base, given, page, marks);
-            Walk {
+            Further::On(Walk {
                 state: behind,
                 base: base_behind(base, given),
-            }
+            })
         }
-        Reply::Refused(_) => w,
-        Reply::Done => w,
+        Reply::Refused(_) => Further::End,
+        Reply::Done => Further::End,
     }
 }
 
-// The second pass: all that an accepted text states, onto page and marks.
+// The second pass: all that a text states, onto page and marks.
 fn write_text(text: &[u8], first: u32, page: &mut [u8], marks: &mut [u8])
-    requires { ⌜ (length (now page) ≡ length (now marks)) × Accepts (within first (length (now page))) (steps-of (now text)) ⌝ }
     ensures { λ _. ⌜ Painted first (placements (now (text .entry))) (now (page .entry)) (now (marks .entry)) (now (page .exit)) (now (marks .exit)) ⌝ }
 {
-    let mut pool = [0u8; 255];
+    let mut pool = [0u8; MOST_BYTES];
     let mut w = begin();
-    let mut finished = false;
-    while !finished {
-        w = write_next(text, &mut pool, first, w, page, marks);
-        let state = w.state;
-        finished = state.finished;
+    loop {
+        match write_next(text, &mut pool, first, w, page, marks) {
+            Further::On(next) => {
+                w = next;
+            }
+            Further::End => return,
+        }
     }
-}
-
-fn clear(marks: &mut [u8])
-    ensures { λ _. ⌜ now (marks .exit) ≡ replicate (length (now (marks .entry))) 0 ⌝ }
-{
-    let mut i = 0;
-    while i < marks.len() {
-        marks[i] = 0;
-        i += 1;
-    }
-}
-
-// Whether a window is refused: a page and marks of these lengths, from the address `first` on.
-pub fn is_unfit(first: u32, page: usize, marks: usize) -> bool
-    ensures { λ r. ⌜ IsUnfit first page marks r ⌝ }
-{
-    if page != marks {
-        return true;
-    }
-    if page > 65536 {
-        return true;
-    }
-    (first as u64) + (page as u64) > 4294967296
 }
 
 // Whether the first pass has accepted the text. Only then is anything written.
@@ -323,12 +319,12 @@ fn is_accepted(answer: Loading) -> bool
 pub fn load(text: &[u8], first: u32, page: &mut [u8], marks: &mut [u8]) -> Loading
     ensures { λ r. ⌜ Load (now (text .entry)) first (now (page .entry)) (now (marks .entry)) r (now (page .exit)) (now (marks .exit)) ⌝ }
 {
-    if is_unfit(first, page.len(), marks.len()) {
+    if window::is_unfit(first, page.len(), marks.len()) {
         return Loading::Refused(LoaderError::BadWindow, 0);
     }
     let answer = judge_text(text, first, page.len());
     if is_accepted(answer) {
-        clear(marks);
+        marks::clear(marks);
         write_text(text, first, page, marks);
     }
     answer

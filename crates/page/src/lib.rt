@@ -210,7 +210,7 @@ fn write_records(first: u32, page: &[u8], marks: &[u8], out: &mut [u8], start: W
 fn survey_page(first: u32, page: &[u8], marks: &[u8]) -> Surveyed
     ensures { λ r. ⌜ Surveyed-as first (now (page .entry)) (now (marks .entry)) r ⌝ }
 {
-    if loader::is_unfit(first, page.len(), marks.len()) {
+    if window::is_unfit(first, page.len(), marks.len()) {
         return Surveyed::Refused(PageError::BadWindow);
     }
     let good = good_marks(marks);

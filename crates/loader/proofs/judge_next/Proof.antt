@@ -1,11 +1,12 @@
--- `loader::judge_next` meets its contract: the call of `next` tells the first of what is left, and each answer settles it.
+-- `loader::judge_next` meets its contract: the call of `next` returns the first of what is left, and each answer settles it.
 -- Assumes nothing.
 use mathlib.Core.Path.{_≡_, _∙_}
 use native.Mathlib.Omega.{arith}
 use denote.Ref.{now}
 use lib.ListN.{length}
-use Rattle.loader.specs.Load.{within}
+use Rattle.window.specs.Window.{within}
 use Rattle.loader.proofs.Calls.{One, came-read, came-refused, came-done}
+use Rattle.loader.proofs.Meeting.{short-record}
 use Rattle.loader.proofs.Passes.{countable-records, judged-record, judged-refused, judged-done}
 use borrow.Author.Needs.{needs}
 use Rattle.loader.proofs.judge_next.Statement.{statement}
@@ -29,10 +30,10 @@ enum-known-reply c = search needs
 
 judge-record-requires : tie.Need-judge-record-requires
 judge-record-requires c κs =
-    let s = c .before .before .before .before .before .before .before .before .before .before .before .before in
-    let n = c .before .before .before .before .before .before .before .next in
+    let s = c .before .before .before .before .before .before .before .before .before .before .before in
+    let n = c .before .before .before .before .before .before .next in
     let l : length (n .last .1 .1 .0) ≡ 255 = n .kept .1 .1 .0 ∙ s .pre .2 in
-    (one (c .before .before) .lies l, countable-records (now (s .args .text)) (s .args .w) (now (s .args .pool)) (n .result) (n .last .1 .1 .0) (s .pre .0) (s .pre .2) (n .ensures) (s .args .records) _ (one (c .before .before)) (s .pre .1) (omega arith), s .pre .3)
+    (short-record (c .before .reply .given .0 .0) (n .last .1 .1 .0) (one (c .before) .lies l), countable-records (now (s .args .text)) (s .args .w) (now (s .args .pool)) (n .result) (n .last .1 .1 .0) (s .pre .0) (s .pre .2) (n .ensures) (s .args .tally) _ (one (c .before)) (s .pre .1) (omega arith))
 
 enum-known-reply-2 : tie.Need-enum-known-reply-2
 enum-known-reply-2 c = search needs
@@ -45,10 +46,10 @@ same-length c = search needs
 
 returns : tie.Need-returns
 returns c =
-    let s = c .before .before .before .before .before .before .before .before .before .before .before .before .before in
-    let n = c .before .before .before .before .before .before .before .before .next in
+    let s = c .before .before .before .before .before .before .before .before .before .before .before .before in
+    let n = c .before .before .before .before .before .before .before .next in
     judged-record (now (s .args .text)) (s .args .w) (now (s .args .pool)) (n .result) (n .last .1 .1 .0) (s .pre .0) (s .pre .2) (n .ensures)
-    (within (s .args .first) (s .args .size)) (s .args .records) _ (one (c .before .before .before)) (s .pre .1) (c .judge-record .result) (c .judge-record .ensures)
+    (within (s .args .first) (s .args .size)) (s .args .tally) _ (one (c .before .before)) (s .pre .1) (c .judge-record .result) (c .judge-record .ensures (n .last .1 .1 .0) (one (c .before .before) .lies (n .kept .1 .1 .0 ∙ s .pre .2)))
 
 same-length-2 : tie.Need-same-length-2
 same-length-2 c = search needs
@@ -59,7 +60,7 @@ returns-2 c =
     let n = c .before .before .before .before .before .before .next in
     let u = came-refused (s .args .w .state) (now (s .args .text)) (now (s .args .pool)) (n .result) (n .last .1 .1 .0) (s .pre .0 .options) (s .pre .0 .countable) (s .pre .2) (n .ensures) (c .before .reply2 .given .0 .0) (c .before .reply2 .given .1) in
     judged-refused (now (s .args .text)) (s .args .w) (now (s .args .pool)) (n .result) (n .last .1 .1 .0) (s .pre .0) (s .pre .2) (n .ensures)
-    (within (s .args .first) (s .args .size)) (s .args .records) (c .before .reply2 .given .0 .0) (u .0) (u .1)
+    (within (s .args .first) (s .args .size)) (s .args .tally) (c .before .reply2 .given .0 .0) (u .0) (u .1)
 
 same-length-3 : tie.Need-same-length-3
 same-length-3 c = search needs
@@ -69,7 +70,7 @@ returns-3 c =
     let s = c .before .before .before .before .before .before .before .before .before .before in
     let n = c .before .before .before .before .before .next in
     judged-done (now (s .args .text)) (s .args .w) (now (s .args .pool)) (n .result) (n .last .1 .1 .0) (s .pre .0) (s .pre .2) (n .ensures)
-    (within (s .args .first) (s .args .size)) (s .args .records)
+    (within (s .args .first) (s .args .size)) (s .args .tally)
     (came-done (s .args .w .state) (now (s .args .text)) (now (s .args .pool)) (n .result) (n .last .1 .1 .0) (s .pre .0 .options) (s .pre .0 .countable) (s .pre .2) (n .ensures) (c .enum-told .given .1))
 
 pub judge-next-spec : {M : Type 1} → statement M

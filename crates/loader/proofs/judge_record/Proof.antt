@@ -1,15 +1,16 @@
 -- `loader::judge_record` meets its contract, record by record; a data record goes by the survey of its bytes.
 -- Assumes nothing.
-use mathlib.Core.Path.{subst}
+use mathlib.Core.Path.{ap, sym, subst}
 use native.Mathlib.Omega.{arith}
-use denote.Ref.{now}
 use Rattle.record.specs.declared.Record.{Record}
 use Rattle.record.specs.declared.Record.the-variants.{Data}
+use Rattle.record.specs.Refusals.{outside-window}
 use Rattle.reader.specs.Row.{is-end}
-use Rattle.loader.specs.Placing.{step-at}
-use Rattle.loader.specs.Load.{within}
-use Rattle.loader.specs.Helpers.{Lies-in}
-use Rattle.loader.proofs.Meeting.{part-small, met-inside, met-outside, met-end, met-quiet}
+use Rattle.window.specs.declared.Reach.{Reach}
+use Rattle.window.specs.Contracts.{first-byte}
+use Rattle.loader.specs.Placing.{does}
+use Rattle.loader.specs.Helpers.{based, Surveyed, Short}
+use Rattle.loader.proofs.Meeting.{met-inside, met-outside, met-end, met-quiet}
 use borrow.Author.Needs.{needs}
 use Rattle.loader.proofs.judge_record.Statement.{statement}
 use Rattle.loader.proofs.judge_record.Tie as tie
@@ -20,41 +21,22 @@ base-behind-requires c κs = search needs
 enum-known-given : tie.Need-enum-known-given
 enum-known-given c = search needs
 
--- where the payload lies
-lies : (c : tie.After-known-told)
-    → let g = c .before .given .given .0 in
-    let p = now (c .before .before .before .before .before .before .args .pool) in
-    Lies-in (Data (g .0) (g .1 .0) (g .1 .1 .0)) p
-lies c =
-    let s = c .before .before .before .before .before .before in
-    subst (λ (x : Record). Lies-in x (now (s .args .pool))) (c .before .given .given .1) (s .pre .0)
-
-add-end : tie.Need-add-end
-add-end c = omega (arith, lies c)
-
-sub-survey : tie.Need-sub-survey
-sub-survey c = search needs
-
-part-survey-start : tie.Need-part-survey-start
-part-survey-start c = search needs
-
-part-survey-end : tie.Need-part-survey-end
-part-survey-end c = lies c .0
-
 survey-requires : tie.Need-survey-requires
-survey-requires c κs =
-    let s = c .before .before .before .before .before .before .before in
-    let g = c .before .before .given .given .0 in
-    (part-small (g .1 .0) (g .1 .1 .0) (now (s .args .pool)) (lies (c .before) .1), s .pre .2)
+survey-requires c κs = subst Short (c .before .given .given .1) (c .before .before .before .before .before .pre .0)
 
 enum-told : tie.Need-enum-told
 enum-told c = search needs
 
-add-t23 : tie.Need-add-t23
-add-t23 c = search needs
+add-t17 : tie.Need-add-t17
+add-t17 c = search needs
 
-enum-known-address : tie.Need-enum-known-address
-enum-known-address c = search needs
+enum-known-i : tie.Need-enum-known-i
+enum-known-i c = search needs
+
+byte-address-requires : tie.Need-byte-address-requires
+byte-address-requires c κs =
+    let short = subst Short (c .before .before .before .before .before .given .given .1) (c .before .before .before .before .before .before .before .before .before .pre .0) in
+    omega (arith, short, c .before .before .before .survey .ensures .among (c .before .i .given .0 .0) (ap first-byte (c .before .i .given .1)))
 
 enum-told-2 : tie.Need-enum-told-2
 enum-told-2 c = search needs
@@ -72,48 +54,46 @@ enum-told-6 : tie.Need-enum-told-6
 enum-told-6 c = search needs
 
 returns : tie.Need-returns
-returns c =
-    let a = c .before .before .before .before .before .before .before .before .before .before .args in
+returns c = λ pool lies.
+    let a = c .before .before .before .before .before .before .before .before .before .args in
     let g = c .before .before .before .before .before .given .given in
-    let b = c .before .before .before .before .before .before .before .base-behind in
-    met-inside (within (a .first) (a .size)) (a .w) (a .records) (a .given) (now (a .pool)) (g .0 .0) (g .0 .1 .0) (g .0 .1 .1 .0) (g .1)
-    (c .before .before .survey .result) (c .before .before .survey .ensures) (c .enum-told .given .1) (b .result) (b .ensures)
+    met-inside (a .first) (a .size) (a .w) (a .tally) (a .given) pool lies (g .0 .0) (g .0 .1 .0) (g .0 .1 .1 .0) (g .1)
+    (subst (λ (r : Reach). Surveyed (based (a .w .base)) (g .0 .0) (g .0 .1 .1 .0) (a .first) (a .size) r) (c .before .enum-told .given .1) (c .before .before .before .survey .ensures)) (c .before .before .before .before .before .before .before .base-behind .result) (c .before .before .before .before .before .before .before .base-behind .ensures)
 
 returns-2 : tie.Need-returns-2
-returns-2 c =
-    let a = c .before .before .before .before .before .before .before .before .before .before .before .args in
+returns-2 c = λ pool lies rest.
+    let a = c .before .before .before .before .before .before .before .before .before .before .args in
     let g = c .before .before .before .before .before .before .given .given in
-    met-outside (within (a .first) (a .size)) (a .w) (a .records) (a .given) (now (a .pool)) (g .0 .0) (g .0 .1 .0) (g .0 .1 .1 .0) (g .1)
-    (c .before .before .before .survey .result) (c .before .before .before .survey .ensures) (c .before .address .given .0 .0) (c .before .address .given .1)
+    let i = c .before .before .i .given in
+    rw (c .byte-address .ensures) (met-outside (a .first) (a .size) (a .w) (a .tally) (a .given) pool lies (g .0 .0) (g .0 .1 .0) (g .0 .1 .1 .0) (i .0 .0) (g .1)
+    (subst (λ (r : Reach). Surveyed (based (a .w .base)) (g .0 .0) (g .0 .1 .1 .0) (a .first) (a .size) r) (i .1) (c .before .before .before .before .survey .ensures)) rest)
 
 returns-3 : tie.Need-returns-3
-returns-3 c =
-    let a = c .before .before .before .before .before .args in
-    met-end (within (a .first) (a .size)) (a .w) (a .records) (a .given) (now (a .pool)) (c .enum-told2 .given .1)
+returns-3 c = λ pool lies. let a = c .before .before .before .before .args in met-end (a .first) (a .size) (a .w) (a .tally) (a .given) pool lies (c .enum-told2 .given .1)
 
 returns-4 : tie.Need-returns-4
-unfolding step-at is-end
-returns-4 c =
-    let a = c .before .before .before .before .before .args in
-    met-quiet (within (a .first) (a .size)) (a .w) (a .records) (a .given) (now (a .pool)) (rw (c .enum-told3 .given .1)) (λ line base. rw (c .enum-told3 .given .1)) (c .before .before .base-behind .result) (c .before .before .base-behind .ensures)
+unfolding does is-end
+returns-4 c = λ pool lies.
+    let a = c .before .before .before .before .args in
+    met-quiet (a .first) (a .size) (a .w) (a .tally) (a .given) pool lies (rw (c .enum-told3 .given .1)) (λ base. rw (c .enum-told3 .given .1)) (c .before .before .base-behind .result) (c .before .before .base-behind .ensures)
 
 returns-5 : tie.Need-returns-5
-unfolding step-at is-end
-returns-5 c =
-    let a = c .before .before .before .before .before .args in
-    met-quiet (within (a .first) (a .size)) (a .w) (a .records) (a .given) (now (a .pool)) (rw (c .enum-told4 .given .1)) (λ line base. rw (c .enum-told4 .given .1)) (c .before .before .base-behind .result) (c .before .before .base-behind .ensures)
+unfolding does is-end
+returns-5 c = λ pool lies.
+    let a = c .before .before .before .before .args in
+    met-quiet (a .first) (a .size) (a .w) (a .tally) (a .given) pool lies (rw (c .enum-told4 .given .1)) (λ base. rw (c .enum-told4 .given .1)) (c .before .before .base-behind .result) (c .before .before .base-behind .ensures)
 
 returns-6 : tie.Need-returns-6
-unfolding step-at is-end
-returns-6 c =
-    let a = c .before .before .before .before .before .args in
-    met-quiet (within (a .first) (a .size)) (a .w) (a .records) (a .given) (now (a .pool)) (rw (c .enum-told5 .given .1)) (λ line base. rw (c .enum-told5 .given .1)) (c .before .before .base-behind .result) (c .before .before .base-behind .ensures)
+unfolding does is-end
+returns-6 c = λ pool lies.
+    let a = c .before .before .before .before .args in
+    met-quiet (a .first) (a .size) (a .w) (a .tally) (a .given) pool lies (rw (c .enum-told5 .given .1)) (λ base. rw (c .enum-told5 .given .1)) (c .before .before .base-behind .result) (c .before .before .base-behind .ensures)
 
 returns-7 : tie.Need-returns-7
-unfolding step-at is-end
-returns-7 c =
-    let a = c .before .before .before .before .before .args in
-    met-quiet (within (a .first) (a .size)) (a .w) (a .records) (a .given) (now (a .pool)) (rw (c .enum-told6 .given .1)) (λ line base. rw (c .enum-told6 .given .1)) (c .before .before .base-behind .result) (c .before .before .base-behind .ensures)
+unfolding does is-end
+returns-7 c = λ pool lies.
+    let a = c .before .before .before .before .args in
+    met-quiet (a .first) (a .size) (a .w) (a .tally) (a .given) pool lies (rw (c .enum-told6 .given .1)) (λ base. rw (c .enum-told6 .given .1)) (c .before .before .base-behind .result) (c .before .before .base-behind .ensures)
 
 pub judge-record-spec : {M : Type 1} → statement M
 judge-record-spec =
@@ -121,14 +101,11 @@ judge-record-spec =
     (tie.spec
     base-behind-requires
     enum-known-given
-    add-end
-    sub-survey
-    part-survey-start
-    part-survey-end
     survey-requires
     enum-told
-    add-t23
-    enum-known-address
+    add-t17
+    enum-known-i
+    byte-address-requires
     enum-told-2
     enum-told-3
     enum-told-4

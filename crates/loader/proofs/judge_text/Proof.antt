@@ -6,16 +6,16 @@ use denote.Ref.{now}
 use borrow.Author.Needs.{needs}
 use lib.ListN.{length}
 use Rattle.reader.specs.Along.{unread}
-use Rattle.loader.specs.Load.{within}
+use Rattle.window.specs.Window.{within}
 use Rattle.loader.proofs.Loads.{Judging, judging-start, judging-less, judging-again, judging-end}
 use Rattle.loader.proofs.judge_text.Statement.{statement}
 use Rattle.loader.proofs.judge_text.Tie as tie
 
 abbrev Inv-loop : tie.InvT-loop
-Inv-loop text first size pool₀ w₀ records₀ pool w records = Judging (within first size) text pool w records
+Inv-loop text first size pool₀ w₀ tally₀ pool w tally = Judging (within first size) text pool w tally
 
 abbrev μ-loop : tie.MeasureT-loop
-μ-loop text first size pool₀ w₀ records₀ pool w records = length (unread (w .state) text)
+μ-loop text first size pool₀ w₀ tally₀ pool w tally = length (unread (w .state) text)
 
 begin-requires : tie.Need-begin-requires Inv-loop μ-loop
 begin-requires c κs = search needs
@@ -29,7 +29,7 @@ slice-aggregate-judge-next : tie.Need-slice-aggregate-judge-next Inv-loop μ-loo
 slice-aggregate-judge-next c = sym (c .before .loop .inv .room)
 
 judge-next-requires : tie.Need-judge-next-requires Inv-loop μ-loop
-judge-next-requires c κs = let j = c .before .loop .inv in (j .under-way, j .few, j .room, c .before .before .before .before .pre)
+judge-next-requires c κs = let j = c .before .loop .inv in (j .under-way, j .few, j .room)
 
 enum-known-next : tie.Need-enum-known-next Inv-loop μ-loop
 enum-known-next c = search needs
@@ -40,7 +40,7 @@ loop-less c =
     let l = c .before .before .before .before .before .before .loop in
     let t = c .before .before .before .before .judge-next in
     let n = c .before .next .given in
-    judging-less (within (s .first) (s .size)) (now (s .text)) (l .pool) (l .w) (l .records) (l .inv) (t .result) (t .ensures) (n .0 .0) (n .0 .1 .0) (n .1)
+    judging-less (within (s .first) (s .size)) (now (s .text)) (l .pool) (l .w) (l .tally) (l .inv) (t .result) (t .ensures) (n .0 .0) (n .0 .1 .0) (n .1)
 
 loop-again : tie.Need-loop-again Inv-loop μ-loop
 loop-again c =
@@ -48,7 +48,7 @@ loop-again c =
     let l = c .before .before .before .before .before .before .loop in
     let t = c .before .before .before .before .judge-next in
     let n = c .before .next .given in
-    judging-again (within (s .first) (s .size)) (now (s .text)) (l .pool) (l .w) (l .records) (l .inv) (t .result) (t .ensures) (n .0 .0) (n .0 .1 .0) (n .1) (t .last .1 .0) (t .kept .1 .0)
+    judging-again (within (s .first) (s .size)) (now (s .text)) (l .pool) (l .w) (l .tally) (l .inv) (t .result) (t .ensures) (n .0 .0) (n .0 .1 .0) (n .1) (t .last .1 .0) (t .kept .1 .0)
 
 enum-known-answer : tie.Need-enum-known-answer Inv-loop μ-loop
 enum-known-answer c = search needs
@@ -59,7 +59,7 @@ returns c =
     let l = c .before .before .before .before .before .before .loop in
     let t = c .before .before .before .before .judge-next in
     let n = c .before .answer .given in
-    judging-end (within (s .first) (s .size)) (now (s .text)) (l .pool) (l .w) (l .records) (l .inv) (t .result) (t .ensures) (n .0 .0) (n .1)
+    judging-end (within (s .first) (s .size)) (now (s .text)) (l .pool) (l .w) (l .tally) (l .inv) (t .result) (t .ensures) (n .0 .0) (n .1)
 
 pub judge-text-spec : {M : Type 1} → statement M
 judge-text-spec =

@@ -4,9 +4,8 @@ use mathlib.Core.Path.{_≡_, sym, _∙_}
 use mathlib.Core.Bool.{false}
 use denote.Ref.{now}
 use lib.ListN.{length}
-use Rattle.loader.specs.Load.{unfit}
-use Rattle.loader.proofs.Demand3.{good-window}
-use Rattle.loader.proofs.Loads.{load-unfit, load-refused, load-accepts, load-accepted}
+use Rattle.window.specs.Window.{unfit}
+use Rattle.loader.proofs.Loads.{load-unfit, load-refused, load-accepted}
 use borrow.Author.Needs.{needs}
 use Rattle.loader.proofs.load.Statement.{statement}
 use Rattle.loader.proofs.load.Tie as tie
@@ -24,7 +23,7 @@ returns c =
     load-unfit (now (s .text)) (s .first) (now (s .page)) (now (s .marks)) (sym (c .before .is-unfit .ensures .answer) ∙ c .if1 .taken)
 
 judge-text-requires : tie.Need-judge-text-requires
-judge-text-requires c κs = let s = c .before .before .before .before .before .args in good-window (s .first) (now (s .page)) (now (s .marks)) (fit c) .below
+judge-text-requires c κs = search needs
 
 is-accepted-requires : tie.Need-is-accepted-requires
 is-accepted-requires c κs = search needs
@@ -33,13 +32,7 @@ clear-requires : tie.Need-clear-requires
 clear-requires c κs = search needs
 
 write-text-requires : tie.Need-write-text-requires
-write-text-requires c κs =
-    let s = c .before .before .before .before .before .before .before .before .before .before .before .before .before .before .args in
-    let t = c .before .before .before .before .before .before .before .before .judge-text in
-    let f = fit (c .before .before .before .before .before .before .before .before .before) in (
-      good-window (s .first) (now (s .page)) (now (s .marks)) f .even ∙ sym (c .before .before .before .before .clear .kept .0),
-      load-accepts (now (s .text)) (s .first) (now (s .page)) (now (s .marks)) f (t .result) (t .ensures) (sym (c .before .before .before .before .before .before .before .is-accepted .ensures) ∙ c .before .before .before .before .before .before .if2 .taken),
-    )
+write-text-requires c κs = search needs
 
 same-length : tie.Need-same-length
 same-length c = search needs

@@ -1,97 +1,85 @@
--- `loader::put` meets its contract: what is left, painted on the window as it is, is all of it painted on the window as it was.
+-- `loader::put` meets its contract: the bytes are stored as one run, or as two if the record passes the end of its segment.
 -- Assumes nothing.
 use denote.Ref.{now}
-use Rattle.loader.specs.Placing.{byte-address}
-use mathlib.Core.Path.{ap}
-use Prim.Native.Nat.{ℕ, _+_, _-_, _≤_, _<_}
+use mathlib.Core.Path.{sym}
+use lib.Seq.{length-take-le}
 use native.Mathlib.Omega.{arith}
-use lib.ListN.{length}
 use borrow.Author.Needs.{needs}
-use Rattle.loader.specs.Helpers.{based}
-use Rattle.loader.proofs.Stores.{Left, left-start, left-place, left-again, left-end}
+use Rattle.loader.proofs.Runs.{stored-once, stored-twice}
 use Rattle.loader.proofs.put.Statement.{statement}
 use Rattle.loader.proofs.put.Tie as tie
 
-abbrev Inv-loop : tie.InvT-loop
-Inv-loop base offset bytes first page₀ marks₀ i₀ page marks i = Left (based base) offset bytes first page₀ marks₀ page marks i
+first-run-requires : tie.Need-first-run-requires
+first-run-requires c κs = search needs
 
-abbrev μ-loop : tie.MeasureT-loop
-μ-loop base offset bytes first page₀ marks₀ i₀ page marks i = length bytes - i
+byte-address-requires : tie.Need-byte-address-requires
+byte-address-requires c κs = search needs
 
--- byte i lies in the window
-place : (c : tie.In-loop Inv-loop μ-loop)
-    → let s = c .before .before .before .before .before .args in
-    let l = c .before .loop in
-    (s .first ≤ byte-address (based (s .base)) (s .offset) (l .i)) × (byte-address (based (s .base)) (s .offset) (l .i) < s .first + length (l .page))
-place c =
-    let s = c .before .before .before .before .before .args in
-    let l = c .before .loop in
-    left-place (based (s .base)) (s .offset) (now (s .bytes)) (s .first) (now (s .page)) (now (s .marks)) (l .page) (l .marks) (l .i) (l .inv) (c .loop-test .taken)
+slice-aggregate-put-run : tie.Need-slice-aggregate-put-run
+slice-aggregate-put-run c =
+    let a = c .before .before .before .before .before .before .args in
+    sym (length-take-le (c .before .before .first-run .result) (now (a .bytes)) (omega (arith, c .before .before .first-run .ensures)))
 
-loop-holds : tie.Need-loop-holds Inv-loop μ-loop
-loop-holds c =
-    let s = c .before .before .before in
-    left-start (based (s .args .base)) (s .args .offset) (now (s .args .bytes)) (s .args .first) (now (s .args .page)) (now (s .args .marks)) (s .pre .1)
+put-run-requires : tie.Need-put-run-requires
+put-run-requires c κs = search needs
 
-byte-address-requires : tie.Need-byte-address-requires Inv-loop μ-loop
-byte-address-requires c κs = omega arith
+byte-address-requires-2 : tie.Need-byte-address-requires-2
+byte-address-requires-2 c κs = omega (arith, c .before .before .before .before .before .before .before .before .before .before .first-run .ensures)
 
-sub-place : tie.Need-sub-place Inv-loop μ-loop
-sub-place c = omega (arith, c .byte-address .ensures, place (c .before))
+sub-put-run : tie.Need-sub-put-run
+sub-put-run c = search needs
 
-cast-place : tie.Need-cast-place Inv-loop μ-loop
-cast-place c = omega (arith, c .byte-address .ok)
+part-put-run-start : tie.Need-part-put-run-start
+part-put-run-start c = search needs
 
-shared-slice-read-page : tie.Need-shared-slice-read-page Inv-loop μ-loop
-shared-slice-read-page c = search needs
+part-put-run-end : tie.Need-part-put-run-end
+part-put-run-end c = search needs
 
-slice-write-page : tie.Need-slice-write-page Inv-loop μ-loop
-slice-write-page c = omega (arith, c .before .byte-address .ensures, place (c .before .before))
+put-run-requires-2 : tie.Need-put-run-requires-2
+put-run-requires-2 c κs = search needs
 
-slice-write-marks : tie.Need-slice-write-marks Inv-loop μ-loop
-slice-write-marks c = omega (arith, c .before .byte-address .ensures, place (c .before .before), c .before .before .before .loop .inv .fits .even)
-
-add-i : tie.Need-add-i Inv-loop μ-loop
-add-i c = search needs
-
-loop-less : tie.Need-loop-less Inv-loop μ-loop
-loop-less c = search needs
-
-loop-again : tie.Need-loop-again Inv-loop μ-loop
-loop-again c =
-    let s = c .before .before .before .before .before .before .before .args in
-    let l = c .before .before .before .loop in
-    left-again (based (s .base)) (s .offset) (now (s .bytes)) (s .first) (now (s .page)) (now (s .marks)) (l .page) (l .marks) (l .i) _ (l .inv)
-    (c .before .before .loop-test .taken) (ap (λ (x : ℕ). x - s .first) (c .before .byte-address .ensures))
-
-same-length : tie.Need-same-length Inv-loop μ-loop
+same-length : tie.Need-same-length
 same-length c = search needs
 
-same-length-2 : tie.Need-same-length-2 Inv-loop μ-loop
+same-length-2 : tie.Need-same-length-2
 same-length-2 c = search needs
 
-returns : tie.Need-returns Inv-loop μ-loop
+returns : tie.Need-returns
 returns c =
-    let s = c .before .before .before .before .before .args in
-    let l = c .before .loop in
-    left-end (based (s .base)) (s .offset) (now (s .bytes)) (s .first) (now (s .page)) (now (s .marks)) (l .page) (l .marks) (l .i) (l .inv) (c .loop-test .left)
+    let s = c .before .before .before .before .before .before .before .before .before .before .before .before .before .before .before .before .before .before .before .before .before .before .before in
+    let a = s .args in
+    stored-twice (a .base) (a .offset) (a .first) (now (a .bytes)) (now (a .page)) (now (a .marks)) (search needs) (s .pre) (c .before .before .before .before .before .before .before .before .before .before .before .before .before .before .before .before .before .before .before .first-run .result) (c .before .before .before .before .before .before .before .before .before .before .before .before .before .before .before .before .before .before .before .first-run .ensures)
+    (c .before .before .before .before .before .before .before .before .before .before .before .before .before .before .before .before .before .before .byte-address .result) (c .before .before .before .before .before .before .before .before .before .before .before .before .before .before .before .before .before .before .byte-address .ensures) _ _ (c .before .before .before .before .before .before .before .before .before .before .before .before .before .before .put-run .ensures) (c .before .before .before .before .before .before .before .before .byte-address2 .result) (c .before .before .before .before .before .before .before .before .byte-address2 .ensures) _ _ (c .before .before .before .before .put-run2 .ensures)
+
+same-length-3 : tie.Need-same-length-3
+same-length-3 c = search needs
+
+same-length-4 : tie.Need-same-length-4
+same-length-4 c = search needs
+
+returns-2 : tie.Need-returns-2
+returns-2 c =
+    let s = c .before .before .before .before .before .before .before .before .before .before .before .before .before .before in
+    let a = s .args in
+    stored-once (a .base) (a .offset) (a .first) (now (a .bytes)) (now (a .page)) (now (a .marks)) (search needs) (s .pre) (c .before .before .before .before .before .before .before .before .before .before .first-run .result) (c .before .before .before .before .before .before .before .before .before .before .first-run .ensures)
+    (c .before .before .before .before .before .before .before .before .before .byte-address .result) (c .before .before .before .before .before .before .before .before .before .byte-address .ensures) _ _ (c .before .before .before .before .before .put-run .ensures) (omega arith)
 
 pub put-spec : {M : Type 1} → statement M
 put-spec =
     tie.close
     (tie.spec
-    Inv-loop
-    μ-loop
-    loop-holds
+    first-run-requires
     byte-address-requires
-    sub-place
-    cast-place
-    shared-slice-read-page
-    slice-write-page
-    slice-write-marks
-    add-i
-    loop-less
-    loop-again
+    slice-aggregate-put-run
+    put-run-requires
+    byte-address-requires-2
+    sub-put-run
+    part-put-run-start
+    part-put-run-end
+    put-run-requires-2
     same-length
     same-length-2
-    returns)
+    returns
+    same-length-3
+    same-length-4
+    returns-2)

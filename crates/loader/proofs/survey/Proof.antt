@@ -1,76 +1,84 @@
--- `loader::survey` meets its contract: no byte that was passed lies outside, so the first outside of what is left is the record's first.
+-- `loader::survey` meets its contract: the bytes are two runs, and the first of them outside is the first run's or the second's.
 -- Assumes nothing.
-use denote.Ref.{now}
-use borrow.Author.Tests.{not-true, not-false}
-use mathlib.Core.Path.{refl, sym, ap, _∙_}
-use Prim.Native.Nat.{_-_, _≤_}
+use mathlib.Core.Path.{ap}
 use native.Mathlib.Omega.{arith}
-use lib.ListN.{length}
+use Rattle.window.specs.Contracts.{first-byte}
 use borrow.Author.Needs.{needs}
-use Rattle.loader.specs.Load.{within}
-use Rattle.loader.specs.Helpers.{based}
-use Rattle.loader.proofs.Stores.{Sought, sought-more, sought-found, sought-end}
+use Rattle.loader.proofs.Runs.{code-low, code-high, code-inside}
 use Rattle.loader.proofs.survey.Statement.{statement}
 use Rattle.loader.proofs.survey.Tie as tie
 
-abbrev Inv-loop : tie.InvT-loop
-Inv-loop base offset bytes first size i₀ i = (i ≤ length bytes) × Sought (based base) offset bytes (within first size) i
+first-run-requires : tie.Need-first-run-requires
+first-run-requires c κs = search needs
 
-abbrev μ-loop : tie.MeasureT-loop
-μ-loop base offset bytes first size i₀ i = length bytes - i
+byte-address-requires : tie.Need-byte-address-requires
+byte-address-requires c κs = search needs
 
-loop-holds : tie.Need-loop-holds Inv-loop μ-loop
-loop-holds c = (omega arith, refl)
+first-outside-requires : tie.Need-first-outside-requires
+first-outside-requires c κs = search needs
 
-byte-address-requires : tie.Need-byte-address-requires Inv-loop μ-loop
-byte-address-requires c κs = omega arith
+enum-known-i : tie.Need-enum-known-i
+enum-known-i c = search needs
 
-holds-requires : tie.Need-holds-requires Inv-loop μ-loop
-holds-requires c κs = search needs
+enum-told : tie.Need-enum-told
+enum-told c = search needs
 
-returns : tie.Need-returns Inv-loop μ-loop
+byte-address-requires-2 : tie.Need-byte-address-requires-2
+byte-address-requires-2 c κs = omega (arith, c .before .before .before .before .first-run .ensures)
+
+sub-first-outside : tie.Need-sub-first-outside
+sub-first-outside c = omega (arith, c .before .before .before .before .before .first-run .ensures)
+
+first-outside-requires-2 : tie.Need-first-outside-requires-2
+first-outside-requires-2 c κs = search needs
+
+enum-known-i-2 : tie.Need-enum-known-i-2
+enum-known-i-2 c = search needs
+
+add-t16 : tie.Need-add-t16
+add-t16 c = omega (arith, c .before .before .before .first-outside2 .ensures .among (c .before .i2 .given .0 .0) (ap first-byte (c .before .i2 .given .1)))
+
+enum-told-2 : tie.Need-enum-told-2
+enum-told-2 c = search needs
+
+returns : tie.Need-returns
 returns c =
-    let a = c .before .before .before .before .before .before .args in
-    let l = c .before .before .before .before .loop in
-    let e = c .before .before .byte-address .ensures in
-    let w = within (a .first) (a .size) in
-    rw e (sought-found (based (a .base)) (a .offset) (now (a .bytes)) w (l .i) (c .before .before .before .loop-test .taken)
-    (ap w (sym e) ∙ sym (c .before .holds .ensures) ∙ not-true (c .before .holds .result) (c .if1 .taken)) (l .inv .1))
+    let s = c .before .before .before .before .before .before in
+    let a = s .args in
+    code-low (a .base) (a .offset) (a .len) (a .first) (a .size) (search needs) (s .pre) (c .before .before .before .before .before .first-run .result) (c .before .before .before .before .before .first-run .ensures)
+    (c .before .before .before .before .byte-address .result) (c .before .before .before .before .byte-address .ensures) (c .before .before .before .first-outside .result) (c .before .before .before .first-outside .ensures) (c .before .i .given .0 .0) (c .before .i .given .1)
 
-add-i : tie.Need-add-i Inv-loop μ-loop
-add-i c = search needs
-
-loop-less : tie.Need-loop-less Inv-loop μ-loop
-loop-less c = search needs
-
-loop-again : tie.Need-loop-again Inv-loop μ-loop
-loop-again c =
-    let a = c .before .before .before .before .before .before .args in
-    let l = c .before .before .before .before .loop in
-    let e = c .before .before .byte-address .ensures in
-    let w = within (a .first) (a .size) in (
-      omega arith,
-      sought-more (based (a .base)) (a .offset) (now (a .bytes)) w (l .i) (c .before .before .before .loop-test .taken)
-          (ap w (sym e) ∙ sym (c .before .holds .ensures) ∙ not-false (c .before .holds .result) (c .if1 .left)) (l .inv .1),
-    )
-
-returns-2 : tie.Need-returns-2 Inv-loop μ-loop
+returns-2 : tie.Need-returns-2
 returns-2 c =
-    let a = c .before .before .before .args in
-    let l = c .before .loop in
-    sought-end (based (a .base)) (a .offset) (now (a .bytes)) (within (a .first) (a .size)) (l .i) (c .loop-test .left) (l .inv .1)
+    let s = c .before .before .before .before .before .before .before .before .before .before in
+    let a = s .args in
+    code-high (a .base) (a .offset) (a .len) (a .first) (a .size) (search needs) (s .pre) (c .before .before .before .before .before .before .before .before .before .first-run .result) (c .before .before .before .before .before .before .before .before .before .first-run .ensures)
+    (c .before .before .before .before .before .before .before .before .byte-address .result) (c .before .before .before .before .before .before .before .before .byte-address .ensures) (c .before .before .before .before .before .before .before .first-outside .result) (c .before .before .before .before .before .before .before .first-outside .ensures) (c .before .before .before .before .before .enum-told .given .1)
+    (c .before .before .before .before .byte-address2 .result) (c .before .before .before .before .byte-address2 .ensures) (c .before .before .before .first-outside2 .result) (c .before .before .before .first-outside2 .ensures) (c .before .i2 .given .0 .0) (c .before .i2 .given .1)
+
+returns-3 : tie.Need-returns-3
+returns-3 c =
+    let s = c .before .before .before .before .before .before .before .before .before in
+    let a = s .args in
+    code-inside (a .base) (a .offset) (a .len) (a .first) (a .size) (search needs) (s .pre) (c .before .before .before .before .before .before .before .before .first-run .result) (c .before .before .before .before .before .before .before .before .first-run .ensures)
+    (c .before .before .before .before .before .before .before .byte-address .result) (c .before .before .before .before .before .before .before .byte-address .ensures) (c .before .before .before .before .before .before .first-outside .result) (c .before .before .before .before .before .before .first-outside .ensures) (c .before .before .before .before .enum-told .given .1)
+    (c .before .before .before .byte-address2 .result) (c .before .before .before .byte-address2 .ensures) (c .before .before .first-outside2 .result) (c .before .before .first-outside2 .ensures) (c .enum-told2 .given .1)
 
 pub survey-spec : {M : Type 1} → statement M
 survey-spec =
     tie.close
     (tie.spec
-    Inv-loop
-    μ-loop
-    loop-holds
+    first-run-requires
     byte-address-requires
-    holds-requires
+    first-outside-requires
+    enum-known-i
+    enum-told
+    byte-address-requires-2
+    sub-first-outside
+    first-outside-requires-2
+    enum-known-i-2
+    add-t16
+    enum-told-2
     returns
-    add-i
-    loop-less
-    loop-again
-    returns-2)
+    returns-2
+    returns-3)

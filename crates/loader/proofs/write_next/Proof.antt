@@ -1,11 +1,9 @@
--- `loader::write_next` meets its contract: the record that the call of `next` gives is written; an accepted text gives nothing else.
+-- `loader::write_next` meets its contract: the record that the call of `next` gives is written; after a refusal and at the end nothing is stated.
 -- Assumes nothing.
-use mathlib.Core.Path.{_≡_, _∙_}
+use mathlib.Core.Path.{refl, _∙_}
 use denote.Ref.{now}
-use lib.ListN.{length}
-use Rattle.loader.specs.Load.{within}
 use Rattle.loader.proofs.Calls.{One, came-read, came-refused, came-done}
-use Rattle.loader.proofs.Passes.{record-fits, wrote, no-refused, no-done}
+use Rattle.loader.proofs.Passes.{wrote, refused-states, done-states}
 use borrow.Author.Needs.{needs}
 use Rattle.loader.proofs.write_next.Statement.{statement}
 use Rattle.loader.proofs.write_next.Tie as tie
@@ -14,11 +12,11 @@ use Rattle.loader.proofs.write_next.Tie as tie
 one : (c : tie.After-reply)
     → let s = c .before .before .before .before .before .before .before .before .before .before .before .before in
     let n = c .before .before .before .before .before .next in
-    One (s .args .w .state) (now (s .args .text)) (now (s .args .pool)) (n .result) (n .last .1 .1 .0) (s .pre .under-way .options) (s .pre .under-way .countable) (s .pre .pool-room) (n .ensures) (c .reply .given .0 .0)
+    One (s .args .w .state) (now (s .args .text)) (now (s .args .pool)) (n .result) (n .last .1 .1 .0) (s .pre .0 .options) (s .pre .0 .countable) (s .pre .1) (n .ensures) (c .reply .given .0 .0)
 one c =
     let s = c .before .before .before .before .before .before .before .before .before .before .before .before in
     let n = c .before .before .before .before .before .next in
-    came-read (s .args .w .state) (now (s .args .text)) (now (s .args .pool)) (n .result) (n .last .1 .1 .0) (s .pre .under-way .options) (s .pre .under-way .countable) (s .pre .pool-room) (n .ensures) (c .reply .given .0 .0) (c .reply .given .1)
+    came-read (s .args .w .state) (now (s .args .text)) (now (s .args .pool)) (n .result) (n .last .1 .1 .0) (s .pre .0 .options) (s .pre .0 .countable) (s .pre .1) (n .ensures) (c .reply .given .0 .0) (c .reply .given .1)
 
 next-requires : tie.Need-next-requires
 next-requires c κs = search needs
@@ -27,17 +25,7 @@ enum-known-reply : tie.Need-enum-known-reply
 enum-known-reply c = search needs
 
 write-record-requires : tie.Need-write-record-requires
-write-record-requires c κs =
-    let s = c .before .before .before .before .before .before .before .before .before .before .before .before .before .before .before .before in
-    let n = c .before .before .before .before .before .before .before .before .before .next in
-    let l : length (n .last .1 .1 .0) ≡ 255 = n .kept .1 .1 .0 ∙ s .pre .pool-room in (
-      one (c .before .before .before .before) .lies l,
-      record {
-        even = s .pre .even;
-        inside = record-fits (now (s .args .text)) (s .args .w) (now (s .args .pool)) (n .result) (n .last .1 .1 .0) (s .pre .under-way) (s .pre .pool-room) (n .ensures) _ (one (c .before .before .before .before))
-            (within (s .args .first) (length (now (s .args .page)))) (s .pre .accepts);
-      },
-    )
+write-record-requires c κs = one (c .before .before .before .before) .lies (c .before .before .before .before .before .before .before .before .before .next .kept .1 .1 .0 ∙ c .before .before .before .before .before .before .before .before .before .before .before .before .before .before .before .before .pre .1)
 
 base-behind-requires : tie.Need-base-behind-requires
 base-behind-requires c κs = search needs
@@ -62,8 +50,8 @@ returns c =
     let s = c .before .before .before .before .before .before .before .before .before .before .before .before .before .before .before .before .before .before .before .before .before .before in
     let n = c .before .before .before .before .before .before .before .before .before .before .before .before .before .before .before .next in
     let t = c .before .before .before .before .before .write-record in
-    wrote (now (s .args .text)) (s .args .w) (now (s .args .pool)) (n .result) (n .last .1 .1 .0) (s .pre .under-way) (s .pre .pool-room) (n .ensures)
-    (s .args .first) (now (s .args .page)) (now (s .args .marks)) _ _ _ (one (c .before .before .before .before .before .before .before .before .before .before)) (c .base-behind .result) (s .pre .accepts) (t .ensures) (c .base-behind .ensures)
+    wrote (now (s .args .text)) (s .args .w) (now (s .args .pool)) (n .result) (n .last .1 .1 .0) (s .pre .0) (s .pre .1) (n .ensures)
+    (s .args .first) (now (s .args .page)) (now (s .args .marks)) _ _ _ (one (c .before .before .before .before .before .before .before .before .before .before)) (c .base-behind .result) (t .ensures) (c .base-behind .ensures)
 
 same-length-4 : tie.Need-same-length-4
 same-length-4 c = search needs
@@ -72,8 +60,8 @@ returns-2 : tie.Need-returns-2
 returns-2 c =
     let s = c .before .before .before .before .before .before .before .before .before .before .before .before in
     let n = c .before .before .before .before .before .next in
-    let u = came-refused (s .args .w .state) (now (s .args .text)) (now (s .args .pool)) (n .result) (n .last .1 .1 .0) (s .pre .under-way .options) (s .pre .under-way .countable) (s .pre .pool-room) (n .ensures) (c .enum-told .given .0 .0) (c .enum-told .given .1) in
-    absurd (no-refused (now (s .args .text)) (s .args .w) (now (s .args .pool)) (n .result) (n .last .1 .1 .0) (s .pre .under-way) (s .pre .pool-room) (n .ensures) (within (s .args .first) (length (now (s .args .page)))) (n .result .state .line) (c .enum-told .given .0 .0) (u .0) (u .1) (s .pre .accepts))
+    let u = came-refused (s .args .w .state) (now (s .args .text)) (now (s .args .pool)) (n .result) (n .last .1 .1 .0) (s .pre .0 .options) (s .pre .0 .countable) (s .pre .1) (n .ensures) (c .enum-told .given .0 .0) (c .enum-told .given .1) in
+    (refused-states (now (s .args .text)) (s .args .w) (now (s .args .pool)) (n .result) (n .last .1 .1 .0) (s .pre .0) (s .pre .1) (n .ensures) (n .result .state .line) (c .enum-told .given .0 .0) (u .0) (u .1), refl, refl)
 
 same-length-5 : tie.Need-same-length-5
 same-length-5 c = search needs
@@ -81,9 +69,12 @@ same-length-5 c = search needs
 returns-3 : tie.Need-returns-3
 returns-3 c =
     let s = c .before .before .before .before .before .before .before .before .before .before .before .before in
-    let n = c .before .before .before .before .before .next in
-    absurd (no-done (now (s .args .text)) (s .args .w) (now (s .args .pool)) (n .result) (n .last .1 .1 .0) (s .pre .under-way) (s .pre .pool-room) (n .ensures) (within (s .args .first) (length (now (s .args .page))))
-    (came-done (s .args .w .state) (now (s .args .text)) (now (s .args .pool)) (n .result) (n .last .1 .1 .0) (s .pre .under-way .options) (s .pre .under-way .countable) (s .pre .pool-room) (n .ensures) (c .enum-told2 .given .1)) (s .pre .accepts))
+    let n = c .before .before .before .before .before .next in (
+      done-states (now (s .args .text)) (s .args .w) (now (s .args .pool)) (n .result) (n .last .1 .1 .0) (s .pre .0) (s .pre .1) (n .ensures)
+          (came-done (s .args .w .state) (now (s .args .text)) (now (s .args .pool)) (n .result) (n .last .1 .1 .0) (s .pre .0 .options) (s .pre .0 .countable) (s .pre .1) (n .ensures) (c .enum-told2 .given .1)),
+      refl,
+      refl,
+    )
 
 pub write-next-spec : {M : Type 1} → statement M
 write-next-spec =

@@ -6,7 +6,7 @@ use denote.Ref.{now}
 use Rattle.record.specs.declared.Record.{Record}
 use Rattle.record.specs.declared.Record.the-variants.{Data}
 use Rattle.loader.specs.Helpers.{based, stated-by, Lies-in}
-use Rattle.loader.proofs.Meeting.{part-small, idle, fits-data, painted-data}
+use Rattle.loader.proofs.Meeting.{part-small, idle, painted-data}
 use borrow.Author.Needs.{needs}
 use Rattle.loader.proofs.write_record.Statement.{statement}
 use Rattle.loader.proofs.write_record.Tie as tie
@@ -21,7 +21,7 @@ lies : (c : tie.After-known-told)
     Lies-in (Data (g .0) (g .1 .0) (g .1 .1 .0)) p
 lies c =
     let s = c .before .before .before .before .before .before in
-    subst (λ (x : Record). Lies-in x (now (s .args .pool))) (c .before .given .given .1) (s .pre .0)
+    subst (λ (x : Record). Lies-in x (now (s .args .pool))) (c .before .given .given .1) (s .pre)
 
 add-end : tie.Need-add-end
 add-end c = omega (arith, lies c)
@@ -37,11 +37,8 @@ part-put-end c = lies c .0
 
 put-requires : tie.Need-put-requires
 put-requires c κs =
-    let s = c .before .before .before .before .before .before .before .before .before in
-    let g = c .before .before .before .before .given .given in (
-      part-small (g .0 .1 .0) (g .0 .1 .1 .0) (now (s .args .pool)) (lies (c .before .before .before) .1),
-      fits-data (s .args .first) (based (s .args .base)) (s .args .given) (now (s .args .pool)) (now (s .args .page)) (now (s .args .marks)) (g .0 .0) (g .0 .1 .0) (g .0 .1 .1 .0) (g .1) (s .pre .1),
-    )
+    let g = c .before .before .before .before .given .given in
+    part-small (g .0 .1 .0) (g .0 .1 .1 .0) (now (c .before .before .before .before .before .before .before .before .before .args .pool)) (lies (c .before .before .before) .1)
 
 enum-told : tie.Need-enum-told
 enum-told c = search needs

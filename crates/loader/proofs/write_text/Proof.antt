@@ -1,21 +1,20 @@
 -- `loader::write_text` meets its contract: what is left, painted on page and marks as they are, is all of it painted on them as they were.
 -- Assumes nothing.
-use borrow.Author.Tests.{not-true, not-false}
 use mathlib.Core.Path.{sym}
 use native.Mathlib.Omega.{arith}
 use denote.Ref.{now}
 use borrow.Author.Needs.{needs}
 use lib.ListN.{length}
 use Rattle.reader.specs.Along.{unread}
-use Rattle.loader.proofs.Loads.{Writing, writing-start, writing-ready, writing-again, writing-end}
+use Rattle.loader.proofs.Loads.{Writing, writing-start, writing-less, writing-again, writing-end}
 use Rattle.loader.proofs.write_text.Statement.{statement}
 use Rattle.loader.proofs.write_text.Tie as tie
 
 abbrev Inv-loop : tie.InvT-loop
-Inv-loop text first page₀ marks₀ pool₀ w₀ finished₀ page marks pool w finished = Writing first text page₀ marks₀ page marks pool w finished
+Inv-loop text first page₀ marks₀ pool₀ w₀ page marks pool w = Writing first text page₀ marks₀ page marks pool w
 
 abbrev μ-loop : tie.MeasureT-loop
-μ-loop text first page₀ marks₀ pool₀ w₀ finished₀ page marks pool w finished = length (unread (w .state) text)
+μ-loop text first page₀ marks₀ pool₀ w₀ page marks pool w = length (unread (w .state) text)
 
 begin-requires : tie.Need-begin-requires Inv-loop μ-loop
 begin-requires c κs = search needs
@@ -23,27 +22,35 @@ begin-requires c κs = search needs
 loop-holds : tie.Need-loop-holds Inv-loop μ-loop
 loop-holds c =
     let s = c .before .before .before .before in
-    writing-start (s .args .first) (now (s .args .text)) (now (s .args .page)) (now (s .args .marks)) _ (omega arith) (search needs) (s .pre .0) (s .pre .1) (c .begin .result) (c .begin .ensures)
+    writing-start (s .args .first) (now (s .args .text)) (now (s .args .page)) (now (s .args .marks)) _ (omega arith) (search needs) (c .begin .result) (c .begin .ensures)
 
 slice-aggregate-write-next : tie.Need-slice-aggregate-write-next Inv-loop μ-loop
-slice-aggregate-write-next c = sym (c .before .before .loop .inv .room)
+slice-aggregate-write-next c = sym (c .before .loop .inv .room)
 
 write-next-requires : tie.Need-write-next-requires Inv-loop μ-loop
-write-next-requires c κs =
-    let s = c .before .before .before .before .before .before .before .before .before .args in
-    let l = c .before .before .before .before .loop in
-    writing-ready (s .first) (now (s .text)) (now (s .page)) (now (s .marks)) (l .page) (l .marks) (l .pool) (l .w) (l .finished) (l .inv) (not-true (l .finished) (c .before .before .before .loop-test .taken))
+write-next-requires c κs = let i = c .before .before .before .loop .inv in (i .under-way, i .room)
+
+enum-known-next : tie.Need-enum-known-next Inv-loop μ-loop
+enum-known-next c = search needs
 
 loop-less : tie.Need-loop-less Inv-loop μ-loop
-loop-less c = c .before .before .before .before .before .before .write-next .ensures .less
+loop-less c =
+    let s = c .before .before .before .before .before .before .before .before .before .before .before .before .before .before .before .before .before .args in
+    let l = c .before .before .before .before .before .before .before .before .before .before .before .before .loop in
+    let n = c .before .before .before .before .before .before .before .before .write-next in
+    writing-less (s .first) (now (s .text)) (now (s .page)) (now (s .marks)) (l .page) (l .marks) (l .pool) (l .w) (l .inv)
+    (n .result) (n .last .1 .1 .1 .1 .0) (n .last .1 .1 .1 .1 .1 .0) (n .ensures) (c .before .next .given .0 .0) (c .before .next .given .1)
 
 loop-again : tie.Need-loop-again Inv-loop μ-loop
 loop-again c =
-    let s = c .before .before .before .before .before .before .before .before .before .before .before .before .before .before .before .before .args in
-    let l = c .before .before .before .before .before .before .before .before .before .before .before .loop in
-    let n = c .before .before .before .before .before .before .write-next in
-    writing-again (s .first) (now (s .text)) (now (s .page)) (now (s .marks)) (l .page) (l .marks) (l .pool) (l .w) (l .finished) (l .inv)
-    (n .result) (n .last .1 .1 .1 .1 .0) (n .last .1 .1 .1 .1 .1 .0) (n .last .1 .0) (n .ensures) (n .kept .1 .1 .1 .1 .0) (n .kept .1 .1 .1 .1 .1 .0) (n .kept .1 .0)
+    let s = c .before .before .before .before .before .before .before .before .before .before .before .before .before .before .before .before .before .args in
+    let l = c .before .before .before .before .before .before .before .before .before .before .before .before .loop in
+    let n = c .before .before .before .before .before .before .before .before .write-next in
+    writing-again (s .first) (now (s .text)) (now (s .page)) (now (s .marks)) (l .page) (l .marks) (l .pool) (l .w) (l .inv)
+    (n .result) (n .last .1 .1 .1 .1 .0) (n .last .1 .1 .1 .1 .1 .0) (n .ensures) (c .before .next .given .0 .0) (c .before .next .given .1) (n .last .1 .0) (n .kept .1 .0) (n .kept .1 .1 .1 .1 .1 .0)
+
+enum-told : tie.Need-enum-told Inv-loop μ-loop
+enum-told c = search needs
 
 same-length : tie.Need-same-length Inv-loop μ-loop
 same-length c = search needs
@@ -53,9 +60,11 @@ same-length-2 c = search needs
 
 returns : tie.Need-returns Inv-loop μ-loop
 returns c =
-    let s = c .before .before .before .before .before .before .args in
-    let l = c .before .loop in
-    writing-end (s .first) (now (s .text)) (now (s .page)) (now (s .marks)) (l .page) (l .marks) (l .pool) (l .w) (l .finished) (l .inv) (not-false (l .finished) (c .loop-test .left))
+    let s = c .before .before .before .before .before .before .before .before .before .before .before .before .before .before .before .before .args in
+    let l = c .before .before .before .before .before .before .before .before .before .before .before .loop in
+    let n = c .before .before .before .before .before .before .before .write-next in
+    writing-end (s .first) (now (s .text)) (now (s .page)) (now (s .marks)) (l .page) (l .marks) (l .pool) (l .w) (l .inv)
+    (n .result) (n .last .1 .1 .1 .1 .0) (n .last .1 .1 .1 .1 .1 .0) (n .ensures) (c .enum-told .given .1)
 
 pub write-text-spec : {M : Type 1} → statement M
 write-text-spec =
@@ -67,8 +76,10 @@ write-text-spec =
     loop-holds
     slice-aggregate-write-next
     write-next-requires
+    enum-known-next
     loop-less
     loop-again
+    enum-told
     same-length
     same-length-2
     returns)

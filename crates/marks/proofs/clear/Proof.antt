@@ -1,4 +1,4 @@
--- `loader::clear` meets its contract: so many zeros, then what was there.
+-- `marks::clear` meets its contract: so many zeros, then what was there.
 -- Assumes nothing.
 use denote.Ref.{now}
 use mathlib.Core.Path.{_≡_, refl, ap, _∙_}
@@ -8,8 +8,8 @@ use native.Mathlib.Omega.{arith}
 use lib.ListN.{length, set, drop, replicate, length-set, drop-of-length-le}
 use borrow.Author.Fill.{fill-more}
 use borrow.Author.Needs.{needs}
-use Rattle.loader.proofs.clear.Statement.{statement}
-use Rattle.loader.proofs.clear.Tie as tie
+use Rattle.marks.proofs.clear.Statement.{statement}
+use Rattle.marks.proofs.clear.Tie as tie
 
 abbrev Inv-loop : tie.InvT-loop
 Inv-loop marks₀ i₀ marks i = (marks ≡ replicate i 0 ++ drop i marks₀) × (i ≤ length marks₀) × (length marks ≡ length marks₀)

@@ -1,11 +1,11 @@
--- `loader::is_unfit` meets its contract: its tests are the definition's, in order.
+-- `window::is_unfit` meets its contract: its tests are the definition's, in order.
 -- Assumes nothing.
 use native.Mathlib.Omega.{arith}
 use borrow.Author.Tests.{ne-eqb, eq-eqb, lt-ltb, le-ltb}
-use Rattle.loader.specs.Load.{unfit}
+use Rattle.window.specs.Window.{unfit}
 use borrow.Author.Needs.{needs}
-use Rattle.loader.proofs.is_unfit.Statement.{statement}
-use Rattle.loader.proofs.is_unfit.Tie as tie
+use Rattle.window.proofs.is_unfit.Statement.{statement}
+use Rattle.window.proofs.is_unfit.Tie as tie
 
 returns : tie.Need-returns
 unfolding unfit

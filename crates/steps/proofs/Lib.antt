@@ -1,0 +1,4 @@
+pub mod Source
+pub mod Places
+pub mod Sites
+pub mod Runs

@@ -1,0 +1,4 @@
+pub mod Steps
+pub mod Source
+pub mod Sites
+pub mod Runs

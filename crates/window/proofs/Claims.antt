@@ -1,0 +1,45 @@
+-- What is claimed of a window.
+-- Assumes nothing.
+use mathlib.Core.Path.{_≡_, refl, sym, ap, _∙_}
+use Prim.Native.Nat.{ℕ, _+_}
+use native.Mathlib.Omega.{arith}
+use mathlib.Core.Bool.{Bool, true, false}
+use mathlib.Core.Option.{Option, none, some, Option·map}
+use mathlib.Core.List.{List}
+use lib.ListN.{length, replicate, length-replicate}
+use Rattle.window.specs.declared.Reach.{Reach}
+use Rattle.window.specs.declared.Reach.the-variants.{Inside, Outside}
+use Rattle.window.specs.Window.{unfit}
+use Rattle.window.specs.Contracts.{first-byte}
+use Rattle.window.specs.Claims.{Holds-its-addresses, Window, Unfit-is-no-window, Is-unfit-unique, First-outside-unique, Put-run-unique}
+use Rattle.window.proofs.Tests.{within-true, true-within, good-window, no-window}
+
+pub holds-its-addresses : Holds-its-addresses
+holds-its-addresses first size address = (within-true first size address, λ (l, u). true-within first size address l u)
+
+pub unfit-is-no-window : Unfit-is-no-window
+unfit-is-no-window first page marks r x =
+    (λ e. good-window first page marks (sym (x .answer) ∙ e), λ w. fit (unfit first (length page) (length marks)) refl w)
+  where
+    fit : (b : Bool) → unfit first (length page) (length marks) ≡ b → Window first page marks → r ≡ false
+    fit true e w = absurd (no-window first page marks e w)
+    fit false e w = x .answer ∙ e
+
+pub is-unfit-unique : Is-unfit-unique
+is-unfit-unique first page marks r r′ x y = x .answer ∙ sym (y .answer)
+
+-- the byte that is named says which answer it was
+named-apart : (address : ℕ) (r r′ : Reach) → Option·map (λ i. address + i) (first-byte r) ≡ Option·map (λ i. address + i) (first-byte r′) → r ≡ r′
+named-apart address Inside Inside e = refl
+named-apart address Inside (Outside k) e = let z : _≡_ {A = ℕ} 0 1 = cc in absurd (omega arith)
+named-apart address (Outside i) Inside e = let z : _≡_ {A = ℕ} 0 1 = cc in absurd (omega arith)
+named-apart address (Outside i) (Outside k) e = let h : address + i ≡ address + k = cc in ap Outside (omega arith)
+
+pub first-outside-unique : First-outside-unique
+first-outside-unique first size address len r r′ x y =
+    let bytes : List ℕ = replicate len 0 in
+    let l : length bytes ≡ len = length-replicate {A = ℕ} len 0 in
+    named-apart address r r′ (sym (x .answer bytes l) ∙ y .answer bytes l)
+
+pub put-run-unique : Put-run-unique
+put-run-unique first address bytes page marks p p′ m m′ x y = (x .page ∙ sym (y .page), x .marks ∙ sym (y .marks))

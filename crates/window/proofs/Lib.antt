@@ -1,0 +1,3 @@
+pub mod Tests
+pub mod Storing
+pub mod Claims

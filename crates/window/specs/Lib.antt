@@ -1,0 +1,3 @@
+pub mod Window
+pub mod Contracts
+pub mod Claims
