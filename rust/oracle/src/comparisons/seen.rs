@@ -24,13 +24,13 @@ impl Times {
 
     /// Prints how often each of these was called for, and says whether none is missing.
     pub fn show(&self, title: &str, names: impl Iterator<Item = (usize, String)>) -> bool {
-        let time = |(number, name)| (name, self.0[number as usize].load(Ordering::Relaxed));
-        let counts: Vec<(String, u64)> = names.map(time).collect();
-        let texts: Vec<String> = counts
-            .iter()
-            .map(|(what, n)| format!("{what}: {n}"))
-            .collect();
-        let whole = counts.iter().all(|&(_, n)| n > 0);
+        let mut whole = true;
+        let mut texts = Vec::new();
+        for (number, name) in names {
+            let times = self.0[number].load(Ordering::Relaxed);
+            whole &= times > 0;
+            texts.push(format!("{name}: {times}"));
+        }
         let word = if whole { "ok" } else { "FAILED" };
         println!("{word:6} {title}: {}", texts.join(", "));
         whole

@@ -165,27 +165,20 @@ pub fn face(case: &TextCase) -> Option<String> {
     None
 }
 
-/// Texts, with each of the four settings of the stops and with states that no call need have left.
+/// What is compared with the port: texts, with each of the four settings of the stops and with states that
+/// no call need have left.
 pub fn of_port<'a>(port: &'a dyn Port, plan: Plan) -> Vec<Kind<'a>> {
-    let text = move |case: &TextCase| self::port(port, case);
-    let stops: [(_, fn(&mut Chance) -> TextCase); 4] = [
-        ("texts, no stop", |chance| stopped_text(0, chance)),
-        ("texts, stop after an error", |chance| {
+    let check = move |case: &TextCase| self::port(port, case);
+    let stopped = |name, make| by_chance(name, plan, 26, make, check);
+    vec![
+        stopped("texts, no stop", |chance| stopped_text(0, chance)),
+        stopped("texts, stop after an error", |chance| {
             stopped_text(1, chance)
         }),
-        ("texts, stop after an end", |chance| stopped_text(2, chance)),
-        ("texts, both stops", |chance| stopped_text(3, chance)),
-    ];
-    let stopped = stops.map(|(name, make)| by_chance(name, plan, 26, make, text));
-    let mut kinds = Vec::from(stopped);
-    kinds.push(by_chance(
-        "texts, states made up by hand",
-        plan,
-        20,
-        by_hand,
-        text,
-    ));
-    kinds
+        stopped("texts, stop after an end", |chance| stopped_text(2, chance)),
+        stopped("texts, both stops", |chance| stopped_text(3, chance)),
+        by_chance("texts, states made up by hand", plan, 20, by_hand, check),
+    ]
 }
 
 /// What is compared with the face.
