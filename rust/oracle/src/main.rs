@@ -176,6 +176,18 @@ impl Counts {
         command.is_some()
     }
 
+    /// Looks for each wrong one by these kinds of comparison.
+    fn find<T: ?Sized>(
+        &mut self,
+        what: &str,
+        wrong: Vec<(&str, Box<T>)>,
+        kinds: impl for<'a> Fn(&'a T) -> Vec<Kind<'a>>,
+    ) {
+        for (name, one) in wrong {
+            self.add(finds(&format!("{what} that {name}"), kinds(&one)));
+        }
+    }
+
     fn compare_all(&mut self, plan: Plan) {
         self.compare(of_port(&Real, plan));
         self.compare(of_chunks(&Real, plan));
@@ -184,25 +196,22 @@ impl Counts {
         let lent = self.compare_lent(command(), plan);
         self.add(stored_agree());
         self.add(show_seen());
-        for (name, port) in wrong::all::ports() {
-            let kinds = of_port(port.as_ref(), few(plan));
-            self.add(finds(&format!("a port that {name}"), kinds));
-        }
-        for (name, port) in wrong::chunks::all() {
-            let kinds = of_chunks(port.as_ref(), few(plan));
-            self.add(finds(&format!("a chunk reader that {name}"), kinds));
-        }
-        for (name, face) in wrong::dumps::all() {
-            let kinds = dumps::of_face(face.as_ref(), few(plan));
-            self.add(finds(&format!("a face that {name}"), kinds));
-        }
-        for (name, port) in wrong::pages::all() {
-            let kinds = pages::of_port(port.as_ref(), few(plan));
-            self.add(finds(&format!("a page writer that {name}"), kinds));
-        }
-        for (name, program) in wrong::replay::all().iter().filter(|_| lent) {
-            let kinds = replay::of_program(program.as_ref(), few(plan));
-            self.add(finds(&format!("a replay that {name}"), kinds));
+        let few = few(plan);
+        self.find("a port", wrong::all::ports(), |port| of_port(port, few));
+        self.find("a chunk reader", wrong::chunks::all(), |port| {
+            of_chunks(port, few)
+        });
+        self.find("a face", wrong::dumps::all(), |face| {
+            dumps::of_face(face, few)
+        });
+        self.find("a page writer", wrong::pages::all(), |port| {
+            pages::of_port(port, few)
+        });
+        if lent {
+            let programs = wrong::replay::all();
+            self.find("a replay", programs, |program| {
+                replay::of_program(program, few)
+            });
         }
     }
 }

@@ -201,6 +201,7 @@ fn face_row(case: &ChunkCase) -> Vec<Shown> {
     row
 }
 
+/// What is wrong with what the face answers to chunks.
 pub fn face(case: &ChunkCase) -> Option<String> {
     let text = case.text();
     let rows = rows(&text, case.state.flags);

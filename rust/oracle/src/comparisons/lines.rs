@@ -39,6 +39,7 @@ pub fn unlike(
     pool.unlike("pool", &held)
 }
 
+/// What is wrong with what the port's record reader answers to a line.
 pub fn port(port: &dyn Port, case: &LineCase) -> Option<String> {
     let answer = read(&case.line);
     let expected = told(&answer, case);
@@ -66,6 +67,7 @@ fn printed(answer: &Answer) -> (String, Option<String>) {
     }
 }
 
+/// What is wrong with what the face answers to a line.
 pub fn face(case: &LineCase) -> Option<String> {
     let string = as_str(&case.line);
     let by_bytes = ihex::Record::from_record_bytes(&case.line);

@@ -55,6 +55,7 @@ fn lent(case: &LoadCase) -> (Lent, Lent, Vec<u8>, Vec<u8>, Answer) {
     (page, marks, held, marked, answer)
 }
 
+/// What is wrong with a load by the port.
 pub fn port(port: &dyn Port, case: &LoadCase) -> Option<String> {
     let (mut page, mut marks, held, marked, should) = lent(case);
     SEEN.answers.note(should.0);
@@ -104,6 +105,7 @@ fn told(answer: Result<Loaded, LoadError>) -> Answer {
     (REFUSED + why.number(), a, b, why.line().unwrap_or(0))
 }
 
+/// What is wrong with a load by the face.
 pub fn face(case: &LoadCase) -> Option<String> {
     let (mut page, mut marks, held, marked, should) = lent(case);
     let answer = ihex::load(&case.text, case.first, page.slice(), marks.slice());

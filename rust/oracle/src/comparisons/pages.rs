@@ -107,6 +107,7 @@ fn miswritten(
         .or_else(|| marks.unlike("marks", &case.marks))
 }
 
+/// What is wrong with what the port writes of a page, and with the file when it is read back.
 fn port(port: &dyn Port, case: &PageCase) -> Option<String> {
     let file = filed(RIGHT, case.first, &case.page, &case.marks);
     let out = output(case, &file);
@@ -160,6 +161,7 @@ fn misput(case: &PageCase, file: &Filed) -> Option<String> {
     out.unlike("output", &expected.held(&before))
 }
 
+/// What is wrong with what the face writes of a page, and with the file when it is loaded.
 fn face(case: &PageCase) -> Option<String> {
     let file = filed(RIGHT, case.first, &case.page, &case.marks);
     let text = file.as_ref().ok();

@@ -5,6 +5,7 @@ use crate::comparisons::run::{by_chance, Kind, Plan};
 use crate::inputs::sums::{bytes, SumCase};
 use crate::subjects::port::Port;
 
+/// What is wrong with the checksums of the port and of the face.
 fn port(port: &dyn Port, case: &SumCase) -> Option<String> {
     let bytes = Lent::holding(&case.0);
     let is = (port.checksum(bytes.bytes()), ihex::checksum(&case.0));

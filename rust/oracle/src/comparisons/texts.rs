@@ -76,6 +76,7 @@ impl<'a> Calls<'a> {
     }
 }
 
+/// What is wrong with what the port's text reader answers, call after call.
 pub fn port(port: &dyn Port, case: &TextCase) -> Option<String> {
     let mut calls = Calls {
         port,
@@ -125,6 +126,7 @@ fn misprinted(given: Option<&LineError>, answer: &Answer, line: usize) -> Option
     (printed != should).then(|| format!("face prints {printed:?}, should be {should:?}"))
 }
 
+/// What is wrong with what the readers of the face answer.
 pub fn face(case: &TextCase) -> Option<String> {
     let stops = face::options(case.state.flags);
     let mut bytes = ihex::ByteReader::new_with_options(&case.text, stops);

@@ -16,7 +16,8 @@ pub fn ports() -> Vec<Wrong> {
         writes::objects(),
         loads::answers(),
         loads::placings(),
-        loads::bases(),
+        loads::starts(),
+        loads::others(),
     ];
     parts.into_iter().flatten().collect()
 }

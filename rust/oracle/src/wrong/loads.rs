@@ -111,9 +111,8 @@ pub fn placings() -> Vec<Wrong> {
     UNWRAPPED.into_iter().chain(others).map(placed).collect()
 }
 
-/// Loaders in which a start record or a second type 02 changes the base or its rule, and one that looks
-/// at a record's two ends only.
-pub fn bases() -> Vec<Wrong> {
+/// Loaders in which a start record changes the base or its rule.
+pub fn starts() -> Vec<Wrong> {
     let start = |name, start| ruled(name, Rules { start, ..RIGHT });
     vec![
         start(
@@ -136,6 +135,12 @@ pub fn bases() -> Vec<Wrong> {
         start("wraps a linear base behind a start record", |latest| {
             Latest::Segment(latest.base())
         }),
+    ]
+}
+
+/// A loader in which a second type 02 changes the base, and one that looks at a record's two ends only.
+pub fn others() -> Vec<Wrong> {
+    vec![
         ruled(
             "adds a type 02 to the one before",
             Rules {

@@ -13,26 +13,6 @@ use crate::wrong::named::Wrong;
 /// The code of an output that is too short.
 const OUTPUT_FULL: u32 = REFUSED + 15;
 
-/// A page writer that goes by other rules.
-struct Ruled(Rules);
-
-impl Port for Ruled {
-    fn write_page(
-        &self,
-        first: u32,
-        page: &[u8],
-        marks: &[u8],
-        out: &mut [u8],
-        value: &mut u64,
-    ) -> u32 {
-        let answer = written(&filed(self.0, first, page, marks), out.len());
-        let held = answer.held(out);
-        out.copy_from_slice(&held);
-        *value = answer.value;
-        answer.code
-    }
-}
-
 /// What a page writer is given, and what it tells beside its code.
 struct Call<'a> {
     first: u32,
@@ -69,9 +49,9 @@ impl<'a> Call<'a> {
 }
 
 /// A page writer that answers so.
-struct Page(fn(&mut Call) -> u32);
+struct Page<F>(F);
 
-impl Port for Page {
+impl<F: Fn(&mut Call) -> u32 + Sync> Port for Page<F> {
     fn write_page(
         &self,
         first: u32,
@@ -103,6 +83,22 @@ impl Port for Length {
     }
 }
 
+fn page(name: &'static str, answer: impl Fn(&mut Call) -> u32 + Sync + 'static) -> Wrong {
+    (name, Box::new(Page(answer)))
+}
+
+/// A page writer that goes by other rules.
+fn ruled(name: &'static str, rules: Rules) -> Wrong {
+    page(name, move |call| {
+        let file = filed(rules, call.first, call.page, call.marks);
+        let answer = written(&file, call.out.len());
+        let held = answer.held(call.out);
+        call.out.copy_from_slice(&held);
+        call.value = answer.value;
+        answer.code
+    })
+}
+
 /// Every wrong page writer.
 pub fn all() -> Vec<Wrong> {
     [
@@ -122,7 +118,7 @@ pub fn all() -> Vec<Wrong> {
 
 /// Those that cut a run into other records.
 fn cuts() -> Vec<Wrong> {
-    let cut = |name, records| -> Wrong { (name, Box::new(Ruled(Rules { records, ..RIGHT }))) };
+    let cut = |name, records| ruled(name, Rules { records, ..RIGHT });
     vec![
         cut("does not cut a record at a multiple of 65,536", |run| {
             sized(run, 16)
@@ -145,7 +141,7 @@ fn cuts() -> Vec<Wrong> {
 
 /// Those that put a type 04 elsewhere.
 fn bases() -> Vec<Wrong> {
-    let base = |name, extends| -> Wrong { (name, Box::new(Ruled(Rules { extends, ..RIGHT }))) };
+    let base = |name, extends| ruled(name, Rules { extends, ..RIGHT });
     vec![
         base(
             "puts no type 04 at the start where the upper bits are 0",
@@ -176,7 +172,7 @@ fn bases() -> Vec<Wrong> {
 
 /// Those that write other places.
 fn places() -> Vec<Wrong> {
-    let placed = |name, runs| -> Wrong { (name, Box::new(Ruled(Rules { runs, ..RIGHT }))) };
+    let placed = |name, runs| ruled(name, Rules { runs, ..RIGHT });
     vec![
         placed("writes the place behind a run", |marks| {
             let end = marks.len() as u64;
@@ -197,10 +193,6 @@ fn places() -> Vec<Wrong> {
             runs(&marks[..marks.len().saturating_sub(1)])
         }),
     ]
-}
-
-fn page(name: &'static str, answer: fn(&mut Call) -> u32) -> Wrong {
-    (name, Box::new(Page(answer)))
 }
 
 /// Writes the file without its last so many bytes.
