@@ -103,7 +103,7 @@ fn finds(what: &str, kinds: Vec<Kind>) -> bool {
     false
 }
 
-/// What was done with the stored list, or nothing behind a line that says why not.
+/// What was done with the stored list, or nothing after a line that says why not.
 fn done<T>(result: io::Result<T>) -> Option<T> {
     result
         .map_err(|why| println!("FAILED the stored cases: {why}"))

@@ -15,7 +15,7 @@ fn some(cases: &[PageCase], such: fn(&PageCase) -> bool) -> bool {
     cases.iter().filter(|case| such(case)).count() > 3
 }
 
-/// The address behind a window.
+/// The address after a window.
 fn end(case: &PageCase) -> u64 {
     u64::from(case.first) + case.page.len() as u64
 }

@@ -74,7 +74,7 @@ fn tree(text: &str) -> (Vec<String>, &str) {
     }
 }
 
-/// What stands behind this name in the paths that begin with it.
+/// What stands after this name in the paths that begin with it.
 fn paths(source: &str, first: &str) -> Vec<String> {
     let source = bare(source);
     let start = format!("{first}::");

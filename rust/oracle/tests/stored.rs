@@ -1,5 +1,5 @@
 //! A small stored list, with a case of each form: right answers agree, a wrong one is found and
-//! written anew, and what is no case is passed over and kept.
+//! written anew, and what is not a case is passed over and kept.
 
 use std::io;
 

@@ -154,7 +154,7 @@ impl<'a> Calls<'a> {
     }
 
     /// Hands over all chunks, or a few of those that are not read any more, ends the text, and goes on
-    /// behind its end.
+    /// after its end.
     fn all(&mut self, case: &ChunkCase) -> Result<(), String> {
         let mut unread = 0;
         for (i, chunk) in case.chunks.iter().enumerate() {
@@ -177,7 +177,7 @@ impl<'a> Calls<'a> {
     }
 }
 
-/// A text in chunks, call by call: what each tells and leaves.
+/// A text in chunks, call by call: what each answers and leaves.
 fn port(port: &dyn Port, case: &ChunkCase) -> Option<String> {
     let mut calls = Calls {
         port,

@@ -30,7 +30,7 @@ impl Look<'_> {
         self.case.marks.iter().filter(|&&mark| mark > 1).count()
     }
 
-    /// Why page and marks are no window: they differ in length, are too long, or pass 2^32.
+    /// Why page and marks are not a window: they differ in length, are too long, or pass 2^32.
     fn faults(&self) -> [bool; 3] {
         let PageCase {
             first, page, marks, ..

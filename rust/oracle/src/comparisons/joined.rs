@@ -1,4 +1,4 @@
-//! The answers to chunks, one behind the other, against those to the joined text: of the crate's reader,
+//! The answers to chunks, one after the other, against those to the joined text: of the crate's reader,
 //! and of the port's text reader with the same pools and positions.
 
 use ihex_sys::{DONE, IN_CARRY, IN_CHUNK, USED_UP};
@@ -29,8 +29,8 @@ pub static SEEN_END: Reading = Reading::new(
     ],
 );
 
-/// Where the line of a byte that is no digit is cut: nowhere, further ahead of the byte, directly ahead of
-/// it, and behind it.
+/// Where the line of a byte that is not a digit is cut: nowhere, further before the byte, directly before
+/// it, and after it.
 pub static SEEN_CUTS: [Places; 4] = [
     Places::new("chunk reader, in a line that is not cut", 1),
     Places::new("chunk reader, with a cut further ahead", 2),
@@ -142,7 +142,7 @@ impl<'a> Reader<'a> {
     }
 }
 
-/// The answers to all chunks, to the end, and to what comes behind it.
+/// The answers to all chunks, to the end, and to what comes after it.
 fn steps(port: &dyn Port, case: &ChunkCase) -> Result<Vec<Step>, String> {
     let mut reader = Reader {
         port,

@@ -91,7 +91,7 @@ pub fn port(port: &dyn Port, case: &LoadCase) -> Option<String> {
         .or_else(|| text.unlike("text", &case.text))
 }
 
-/// What the face answers, told as the port tells it.
+/// What the face answers, in the form of the port's answers.
 fn told(answer: Result<Loaded, LoadError>) -> Answer {
     let why = match answer {
         Ok(loaded) => return (0, loaded.data_records as u64, 0, 0),

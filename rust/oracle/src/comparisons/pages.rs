@@ -77,7 +77,7 @@ fn misread(port: &dyn Port, case: &PageCase, text: &str) -> Option<String> {
         .or_else(|| unrestored("the port", case, text, by_port))
 }
 
-/// What is wrong with the length that the port tells.
+/// What is wrong with the length that the port returns.
 fn mismeasured(port: &dyn Port, case: &PageCase, file: &Filed) -> Option<String> {
     let (page, marks) = (Lent::holding(&case.page), Lent::holding(&case.marks));
     let (code, value) = length(file);
@@ -121,7 +121,7 @@ fn port(port: &dyn Port, case: &PageCase) -> Option<String> {
         .or_else(|| misread(port, case, text?))
 }
 
-/// What the face answers, told as the port tells it.
+/// What the face answers, in the form of the port's answers.
 fn told(answer: Result<usize, PageError>) -> (u32, u64) {
     match answer {
         Ok(length) => (0, length as u64),

@@ -14,7 +14,7 @@ use crate::subjects::program::Program;
 /// How many smaller cases are given to a program at once.
 const AT_ONCE: usize = 64;
 
-/// What is printed, cut behind each LF into so many answers: some empty if they are too few, the last
+/// What is printed, cut after each LF into so many answers: some empty if they are too few, the last
 /// with all that is left if they are too many.
 fn cut(printed: &str, n: usize) -> Vec<String> {
     let mut lines = printed.split_inclusive('\n').map(String::from);

@@ -72,7 +72,7 @@ fn kind(place: usize) -> usize {
     PLACES.partition_point(|&least| least <= place)
 }
 
-/// A kind of places: from its least on, ahead of the next kind's.
+/// A kind of places: from its least on, up to the next kind's.
 fn places(least: usize) -> String {
     match PLACES.get(kind(least)) {
         Some(&next) if next == least + 1 => least.to_string(),

@@ -9,7 +9,7 @@ use crate::comparisons::run::Report;
 use crate::inputs::replay::Given;
 use crate::models::replay::answer;
 
-/// The stored list: the cases and headings, and what is stored behind each.
+/// The stored list: the cases and headings, and what is stored after each.
 pub struct List {
     pub cases: Vec<String>,
     pub answers: Vec<String>,
@@ -47,8 +47,8 @@ impl List {
         Err(io::Error::new(ErrorKind::InvalidData, why))
     }
 
-    /// The list with what is stored, or where that is no answer for each case, with `?` for each, which
-    /// `replay` answers to what is no case.
+    /// The list with what is stored, or where that is not an answer for each case, with `?` for each, which
+    /// `replay` answers to what is not a case.
     pub fn read_cases() -> io::Result<Self> {
         Self::read().or_else(|_| {
             let cases = lines_of("stdin")?;

@@ -66,7 +66,7 @@ impl<'a> Calls<'a> {
         (self.state != behind).then(|| format!("state {:?}, should be {behind:?}", self.state))
     }
 
-    /// Two calls behind the last answer, which left this state, and what is wrong with them.
+    /// Two calls after the last answer, which left this state, and what is wrong with them.
     fn behind_the_last(&mut self, at: usize, mut state: State) -> Option<String> {
         state.flags |= FINISHED;
         (0..2).find_map(|i| {

@@ -29,6 +29,16 @@ impl Chance {
         self.under(n) == 0
     }
 
+    /// A number around `n`, or at an end of all numbers.
+    pub fn around(&mut self, n: usize) -> usize {
+        match self.under(12) {
+            0 => usize::MAX,
+            1 => usize::MAX - self.under(300),
+            2 => 0,
+            _ => (n + self.under(4)).saturating_sub(2),
+        }
+    }
+
     pub fn byte(&mut self) -> u8 {
         self.number() as u8
     }

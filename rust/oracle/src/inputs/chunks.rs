@@ -15,7 +15,7 @@ pub struct Standing {
     pub line: usize,
     pub empties: usize,
     pub used: usize,
-    /// How many digits of a line over 522 bytes were left out ahead of the carry's last byte.
+    /// How many digits of a line over 522 bytes were left out before the carry's last byte.
     pub skipped: u16,
     pub flags: u8,
 }

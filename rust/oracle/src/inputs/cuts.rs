@@ -4,7 +4,7 @@ use ihex_sys::CARRY;
 
 use crate::inputs::chance::Chance;
 use crate::inputs::chunks::{ChunkCase, ShownCase, Standing};
-use crate::inputs::lines::{around, damaged, good, late, random, summed, TELLING};
+use crate::inputs::lines::{damaged, good, late, random, summed, TELLING};
 use crate::inputs::texts::{pool_for, text};
 
 /// The pieces of a text between cuts, which are in order. Between two that are the same one is empty.
@@ -34,7 +34,7 @@ fn in_fields(text: &[u8]) -> Vec<usize> {
     found
 }
 
-/// Where a text is cut: one byte at a time, behind each CR, in every field, every few bytes, once, or
+/// Where a text is cut: one byte at a time, after each CR, in every field, every few bytes, once, or
 /// at places by chance, some of them twice.
 pub fn cuts(text: &[u8], chance: &mut Chance) -> Vec<usize> {
     let n = text.len();
@@ -110,7 +110,7 @@ pub fn cut_everywhere(chance: &mut Chance) -> Vec<ChunkCase> {
 /// How many bytes of a carry are used, by hand.
 fn used(chance: &mut Chance) -> usize {
     match chance.under(8) {
-        0 => around(CARRY, chance),
+        0 => chance.around(CARRY),
         1 => chance.one_of(&[CARRY - 1, CARRY, CARRY + 1, CARRY + 2, usize::MAX]),
         2 => chance.under(CARRY + 1),
         3 => 0,
@@ -149,7 +149,7 @@ pub fn by_hand(chance: &mut Chance) -> ChunkCase {
     }
     let mut chunks = pieces(&text, &cuts(&text, chance));
     let position = match chance.under(3) {
-        0 => around(chunks[0].len(), chance),
+        0 => chance.around(chunks[0].len()),
         _ => 0,
     };
     if chance.once_in(16) {
@@ -171,7 +171,7 @@ pub fn by_hand(chance: &mut Chance) -> ChunkCase {
     }
 }
 
-/// A place by hand in a chunk and a carry: as a call tells it, or any other.
+/// A place by hand in a chunk and a carry: as a call returns it, or any other.
 pub fn place(chance: &mut Chance) -> ShownCase {
     let (chunk, carry) = (chance.under(40), chance.one_of(&[0, 20, CARRY]));
     let lies = match chance.under(8) {
@@ -180,11 +180,11 @@ pub fn place(chance: &mut Chance) -> ShownCase {
     };
     let n = if lies == 1 { chunk } else { carry };
     let from = match chance.under(3) {
-        0 => around(n, chance),
+        0 => chance.around(n),
         _ => chance.under(n + 1),
     };
     let len = match chance.under(3) {
-        0 => around(n.saturating_sub(from), chance),
+        0 => chance.around(n.saturating_sub(from)),
         _ => chance.under(n + 1),
     };
     ShownCase {

@@ -7,10 +7,10 @@ use crate::inputs::replay::{Given, MOST, MOST_RECORDS};
 use crate::inputs::texts::{self, TextCase};
 use crate::inputs::writes::{entry, make_record, put_ends, ObjectCase};
 
-/// The most bytes of a text in a case of `replay`, two digits each behind the flags and the pool.
+/// The most bytes of a text in a case of `replay`, two digits each after the flags and the pool.
 const LENT_TEXT: usize = MOST / 2 - 8;
 
-/// Lines of a few characters, about as many as `replay` tells answers.
+/// Lines of a few characters, about as many as `replay` prints answers.
 fn short_lines(chance: &mut Chance) -> Vec<u8> {
     let mut text = Vec::new();
     for _ in 0..chance.from_to(36, 44) {

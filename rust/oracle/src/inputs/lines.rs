@@ -62,7 +62,7 @@ const WIDE: [&str; 6] = [
     "\u{FF21}",
 ];
 
-/// How many digits stand behind the colon of the shortest and of the longest line, and around it.
+/// How many digits stand after the colon of the shortest and of the longest line, and around it.
 pub fn boundaries() -> impl Iterator<Item = usize> {
     (0..=12).chain(515..=525)
 }
@@ -215,7 +215,7 @@ fn every(start: &[u8], n: usize) -> Vec<LineCase> {
 }
 
 /// Lines with this many digits: with each type and length byte that matters, a right checksum or a
-/// wrong one, and a character that is no digit at either end or none.
+/// wrong one, and a character that is not a digit at either end or none.
 pub fn sized(n: usize, chance: &mut Chance) -> Vec<LineCase> {
     let mut found = Vec::new();
     for kind in [0, 1, 2, 3, 4, 5, 6, 255] {
@@ -256,16 +256,6 @@ pub fn changed(chance: &mut Chance) -> Vec<LineCase> {
     found
 }
 
-/// A number around another, or at an end of all numbers.
-pub fn around(n: usize, chance: &mut Chance) -> usize {
-    match chance.under(12) {
-        0 => usize::MAX,
-        1 => usize::MAX - chance.under(300),
-        2 => 0,
-        _ => (n + chance.under(4)).saturating_sub(2),
-    }
-}
-
 /// A line with a pool that its payload fits, or just does not, and a position near the pool's end.
 pub fn pooled(chance: &mut Chance) -> LineCase {
     let line = if chance.once_in(4) {
@@ -279,7 +269,7 @@ pub fn pooled(chance: &mut Chance) -> LineCase {
         1 => (payload + chance.under(3)).saturating_sub(1),
         _ => payload + chance.under(40),
     };
-    let at = around(pool.saturating_sub(payload), chance);
+    let at = chance.around(pool.saturating_sub(payload));
     LineCase { line, pool, at }
 }
 

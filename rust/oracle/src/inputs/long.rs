@@ -16,10 +16,10 @@ pub const LENGTHS: [usize; 20] = [
     65_535, 65_536, 70_000,
 ];
 
-/// What may stand behind a long line: two that end the line, two that end the text, and others.
+/// What may stand after a long line: two that end the line, two that end the text, and others.
 const ENDS: [&str; 7] = ["\n", "\r\n", "", "\r", "\r\r\n", "\n\n", "\r\r"];
 
-/// What stands ahead of a long line.
+/// What stands before a long line.
 const SHORT: &[u8] = b":0200000041427B\n";
 
 /// The sizes of chunks. The last is longer than any text.
@@ -36,13 +36,13 @@ fn size(length: usize, chance: &mut Chance) -> usize {
     chance.one_of(&SIZES[least..])
 }
 
-/// A long line behind a short one, in chunks of one size; behind a LF one more.
+/// A long line after a short one, in chunks of one size; after a LF one more.
 #[derive(Clone)]
 pub struct LongCase {
     /// Its first byte, and how many it has, the others being digits.
     first: u8,
     length: usize,
-    /// Where another byte stands in place of a digit, if it is no digit.
+    /// Where another byte stands in place of a digit, if it is not a digit.
     place: usize,
     byte: u8,
     end: usize,
@@ -98,7 +98,7 @@ impl LongCase {
         [SHORT, &self.bytes(), end, behind].concat()
     }
 
-    /// The line, and each CR of what stands behind it.
+    /// The line, and each CR of what stands after it.
     pub fn line(&self) -> LineCase {
         let crs = ENDS[self.end].trim_end_matches('\n').as_bytes();
         LineCase::new([&self.bytes(), crs].concat())
@@ -129,7 +129,7 @@ impl LongCase {
     }
 }
 
-/// Places that tell, in a line of this length.
+/// Places that matter, in a line of this length.
 fn places(length: usize, chance: &mut Chance) -> Vec<usize> {
     let early = [0, 1, 2, 520, 521, 522, 523];
     let late = [LAST_PLACE - 1, LAST_PLACE, LAST_PLACE + 1];
@@ -140,9 +140,9 @@ fn places(length: usize, chance: &mut Chance) -> Vec<usize> {
     found
 }
 
-/// Lines of this length: with each line end, and with a byte that is mostly no digit at places that tell. Then
-/// with the first cut a byte ahead of that byte, at it, and behind it, and with none; a LF ends the line,
-/// or the text does.
+/// Lines of this length: with each line end, and with a byte that is mostly not a digit at places that matter.
+/// Then with the first cut a byte before that byte, at it, and after it, and with none; a LF ends the line, or
+/// the text does.
 pub fn long(length: usize, chance: &mut Chance) -> Vec<LongCase> {
     let mut found = Vec::new();
     for place in places(length, chance) {

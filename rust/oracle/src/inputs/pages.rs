@@ -119,7 +119,7 @@ impl Case for PageCase {
     }
 }
 
-/// Lengths that tell, of runs and of gaps.
+/// Lengths that matter, of runs and of gaps.
 const TELLING: [usize; 8] = [1, 2, 15, 16, 17, 31, 32, 33];
 
 fn length(chance: &mut Chance) -> usize {
@@ -236,7 +236,7 @@ pub fn page(chance: &mut Chance) -> PageCase {
 }
 
 /// A page whose file is the longest: a multiple of 65,536 at an odd place, and each second place marked
-/// ahead of it, and from it on.
+/// before it, and from it on.
 fn longest(chance: &mut Chance) -> PageCase {
     let across = 2 * chance.under(MAX_PAGE / 2) + 1;
     let multiple = chance.from_to(1, 0xFFFF) << 16;

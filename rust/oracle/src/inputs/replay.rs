@@ -64,7 +64,7 @@ impl Words<'_> {
         (word.len() % 2 == 0).then(|| word.chunks(2).map(byte).collect())?
     }
 
-    /// The bytes behind which no word stands.
+    /// The bytes after which no word stands.
     fn last_bytes(&mut self) -> Option<Vec<u8>> {
         let bytes = self.bytes();
         bytes.filter(|_| self.0.next().is_none())
@@ -199,7 +199,7 @@ impl Given {
     }
 
     /// Whether the crate could be given what is read in it only with other bytes in the place of those
-    /// that are no UTF-8.
+    /// that are not UTF-8.
     pub fn is_no_string(&self) -> bool {
         let read = match self {
             Given::Line(case) => &case.line,

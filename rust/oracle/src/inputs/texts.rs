@@ -1,7 +1,7 @@
 //! Texts of many lines, and where a reader of one stands.
 
 use crate::inputs::chance::Chance;
-use crate::inputs::lines::{around, damaged, good, random, summed};
+use crate::inputs::lines::{damaged, good, random, summed};
 use crate::inputs::shrink::{fewer_flags, shown, smaller_number, smaller_text, with_each, Case};
 use crate::inputs::spelling::line_of;
 
@@ -125,7 +125,7 @@ pub fn by_hand(chance: &mut Chance) -> TextCase {
     let text = text(chance);
     let state = State {
         position: match chance.under(8) {
-            0 => around(text.len(), chance),
+            0 => chance.around(text.len()),
             _ => chance.under(text.len() + 2),
         },
         line: if chance.once_in(2) {

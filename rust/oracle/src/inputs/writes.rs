@@ -1,7 +1,6 @@
 //! Records and lists of them that are to be written.
 
 use crate::inputs::chance::Chance;
-use crate::inputs::lines::around;
 use crate::inputs::shrink::{plainer, shorter, smaller_number, with_each, Case};
 use crate::subjects::told::Entry;
 
@@ -54,7 +53,7 @@ pub struct ObjectCase {
     pub out: usize,
     /// What stands in the byte of an entry that is not read.
     pub spare: u8,
-    /// How many bytes stand behind the last entry.
+    /// How many bytes stand after the last entry.
     pub tail: usize,
 }
 
@@ -122,12 +121,12 @@ pub fn entry(pool: usize, chance: &mut Chance) -> Entry {
     };
     let len = match chance.under(16) {
         0 => chance.from_to(253, 300),
-        1 => around(pool, chance),
+        1 => chance.around(pool),
         2 => chance.under(301),
         _ => chance.under(34),
     };
     let at = match chance.under(8) {
-        0 => around(pool.saturating_sub(len), chance),
+        0 => chance.around(pool.saturating_sub(len)),
         _ => chance.under(pool.saturating_sub(len) + 1),
     };
     let number = match chance.under(16) {
@@ -164,7 +163,7 @@ pub fn record(chance: &mut Chance) -> RecordCase {
     RecordCase { entry, pool, out }
 }
 
-/// Makes a record that is no end of an entry that is an end or no record.
+/// Makes a record of an entry that is an end or not a record; it is not an end.
 pub fn make_record(one: &mut Entry) {
     if one.kind == 1 || !one.is_record() {
         one.kind %= 6;
@@ -173,7 +172,7 @@ pub fn make_record(one: &mut Entry) {
     }
 }
 
-/// Puts an end behind a list; with a flaw none to three, anywhere.
+/// Puts an end after a list; with a flaw none to three, anywhere.
 pub fn put_ends(entries: &mut Vec<Entry>, flaw: bool, chance: &mut Chance) {
     let end = Entry {
         kind: 1,
@@ -194,7 +193,7 @@ pub fn put_ends(entries: &mut Vec<Entry>, flaw: bool, chance: &mut Chance) {
 
 /// A list of records with up to three ends. A third are as they should be, the others have a flaw:
 /// ends too few, too many or in the wrong place, payloads too long or outside the pool, or entries
-/// that are no records.
+/// that are not records.
 pub fn object(chance: &mut Chance) -> ObjectCase {
     let n = chance.one_of(&[0, 40, 300, 600]);
     let pool = chance.bytes(n);

@@ -1,4 +1,4 @@
-//! What a call of the chunk reader should tell and leave: the lines are cut here by the rules, and the
+//! What a call of the chunk reader should answer and leave: the lines are cut here by the rules, and the
 //! crate judges them.
 
 use ihex_sys::{CARRY, CR_WAITS, DONE, FINISHED, IN_CARRY, IN_CHUNK, NOWHERE, REFUSED, USED_UP};
@@ -12,7 +12,7 @@ use crate::subjects::told::{pool_full, told, Place, Told, LAST_PLACE};
 /// The code of a carry under 522 bytes, or of a state that counts more than 522 used.
 pub const CARRY_TOO_SMALL: u32 = REFUSED + 18;
 
-/// What a call should tell and leave.
+/// What a call should answer and leave.
 pub struct Outcome {
     pub told: Told,
     pub state: Standing,
@@ -23,8 +23,8 @@ pub struct Outcome {
     pub carried: Vec<u8>,
 }
 
-/// What is kept of a line that is begun: of one over 522 bytes the first 521, and the first behind them
-/// that is no digit, or the last if all are digits. And how many digits are left out between the two.
+/// What is kept of a line that is begun: of one over 522 bytes the first 521, and the first after them
+/// that is not a digit, or the last if all are digits. And how many digits are left out between the two.
 fn kept(line: &[u8]) -> (Vec<u8>, usize) {
     let (front, behind) = line.split_at(line.len().min(CARRY - 1));
     let last = behind.len().saturating_sub(1);
@@ -36,14 +36,14 @@ fn kept(line: &[u8]) -> (Vec<u8>, usize) {
 
 /// The first line that has a byte, from a state on.
 enum Cut {
-    /// It ends in the chunk, and begins there at `from` if it is no older.
+    /// It ends in the chunk, and begins there at `from` if it is not older.
     Whole {
         from: Option<usize>,
         empties: usize,
         line: Vec<u8>,
         next: usize,
     },
-    /// It does not end in the chunk, and begins there at `from` if it is no older.
+    /// It does not end in the chunk, and begins there at `from` if it is not older.
     Open {
         from: Option<usize>,
         empties: usize,
@@ -136,7 +136,7 @@ fn read_in_line(line: &[u8], left: usize) -> Answer {
     answer
 }
 
-/// A line is answered, and behind it the next begins at this position.
+/// A line is answered, and after it the next begins at this position.
 fn answered(
     state: Standing,
     given: &Given,
@@ -223,7 +223,7 @@ fn end_of(state: Standing, given: &Given) -> Outcome {
     answered(state, given, line, None, behind)
 }
 
-/// What a call should tell and leave, from any state.
+/// What a call should answer and leave, from any state.
 pub fn outcome(state: Standing, given: &Given) -> Outcome {
     let state = Standing {
         flags: state.flags & 15,

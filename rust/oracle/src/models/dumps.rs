@@ -6,7 +6,8 @@ use crate::models::texts::{flags_behind, shown};
 use crate::subjects::the_crate::rows;
 use crate::subjects::told::Shown;
 
-/// The crate's answers to a text, and to what follows each line that stops its reader, as to a text of its own.
+/// The crate's answers to a text, and to what follows each line that stops its reader, as to a text of its
+/// own.
 pub fn by_the_crate(text: &[u8], flags: u8) -> Vec<Vec<Shown>> {
     let mut rest = text;
     let mut dumps = Vec::new();

@@ -18,9 +18,9 @@ pub type Answer = (u32, u64, u64, usize);
 #[derive(Clone, Copy)]
 pub enum Latest {
     None,
-    /// A type 02 that stands behind no type 04.
+    /// A type 02 before which no type 04 stands.
     Segment(u64),
-    /// A type 02 that stands behind a type 04.
+    /// A type 02 after a type 04.
     Back(u64),
     Linear(u64),
 }
@@ -75,8 +75,8 @@ pub fn first_outside(addresses: &[u64], window: &Range<u64>) -> Option<u64> {
     outside.next().copied()
 }
 
-/// Placings that leave out one wrap each: before any extension record, behind a type 02 with no type 04
-/// ahead of it, and behind a type 02 with one.
+/// Placings that leave out one wrap each: before any extension record, after a type 02 with no type 04
+/// before it, and after a type 02 with one.
 pub const UNWRAPPED: [(&str, Placing); 3] = [
     (
         "takes the sum before any extension record",

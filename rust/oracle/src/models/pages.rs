@@ -7,7 +7,7 @@ use original::{create_object_file_representation, Record};
 
 use crate::models::writes::{answered, refused, Written};
 
-/// The code of page and marks that are no window.
+/// The code of page and marks that are not a window.
 pub const BAD_WINDOW: u32 = REFUSED + 16;
 /// The code of a mark that is neither 0 nor 1.
 pub const BAD_MARK: u32 = REFUSED + 19;
@@ -19,7 +19,7 @@ pub struct Rules {
     pub runs: fn(&[u8]) -> Vec<Range<u64>>,
     /// The records of a run, by their addresses.
     pub records: fn(Range<u64>) -> Vec<Range<u64>>,
-    /// Whether a type 04 stands before a record, from the record ahead of it, if there is one.
+    /// Whether a type 04 stands before a record, from the record before it, if there is one.
     pub extends: fn(Option<&Range<u64>>, &Range<u64>) -> bool,
 }
 

@@ -1,4 +1,4 @@
-//! The crate's answers to the cases of `replay`, told as that program tells its own.
+//! The crate's answers to the cases of `replay`, printed as that program prints its own.
 
 use ihex_sys::{DONE, REFUSED, STOP_AFTER_EOF, STOP_AFTER_FIRST_ERROR};
 
@@ -19,10 +19,10 @@ const OUT: u8 = 0xDD;
 const PAGE: u8 = 0xCC;
 const MARKS: u8 = 0xAA;
 
-/// The most answers of a text that it tells, but for the last.
+/// The most answers of a text that it prints, but for the last.
 const MOST_ANSWERS: usize = 40;
 
-/// The crate's answer to a case, told as `replay` tells its own.
+/// The crate's answer to a case, printed as `replay` prints its own.
 pub fn answer(given: &Given) -> String {
     match given {
         Given::Heading(line) => line.clone(),
@@ -70,7 +70,7 @@ fn reply(answer: &Told) -> String {
     }
 }
 
-/// One answer, and the pool of this length behind it.
+/// One answer, and the pool of this length after it.
 fn with_pool(answer: &Told, pool: usize, at: usize) -> String {
     let mut pool = vec![POOL; pool];
     pour(answer, &mut pool, at);
@@ -81,8 +81,8 @@ fn line(case: &LineCase) -> String {
     with_pool(&lines::told(&read(&case.line), case), case.pool, case.at)
 }
 
-/// The answer to the call behind so many lines that were used up, with room in the pool, and the
-/// number of the line behind which the reader then stands.
+/// The answer to the call after so many lines that were used up, with room in the pool, and the
+/// number of the line after which the reader then stands.
 fn call(rows: &[Row], used: usize) -> (Told, usize) {
     let line = |(_, place): &Row| place.line;
     match rows.get(used) {

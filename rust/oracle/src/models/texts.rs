@@ -6,14 +6,14 @@ use crate::inputs::texts::State;
 use crate::subjects::the_crate::{by_crate, rows, Row};
 use crate::subjects::told::{Shown, Told};
 
-/// The flags behind an answer.
+/// The flags after an answer.
 pub fn flags_behind(flags: u8, answer: &Told) -> u8 {
     let refused = answer.code >= REFUSED && flags & STOP_AFTER_FIRST_ERROR != 0;
     let ended = answer.code == 1 && flags & STOP_AFTER_EOF != 0;
     flags & 7 | if refused || ended { FINISHED } else { 0 }
 }
 
-/// The crate's answers to what lies behind this state.
+/// The crate's answers to what lies after this state.
 pub fn rows_from(state: State, text: &[u8]) -> Vec<Row> {
     if state.flags & FINISHED != 0 {
         return vec![];

@@ -32,7 +32,7 @@ fn nameless() -> io::Result<File> {
     Ok(file)
 }
 
-/// What a command prints for an input; behind it how it ended, if it failed. Both go through files,
+/// What a command prints for an input; after it how it ended, if it failed. Both go through files,
 /// which cannot fill up as pipes do.
 pub fn run(words: &[String], input: &str) -> io::Result<String> {
     let (mut given, mut printed) = (nameless()?, nameless()?);

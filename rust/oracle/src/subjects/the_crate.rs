@@ -25,7 +25,7 @@ pub fn at_hand(tests: &str) -> bool {
     original::AT_HAND
 }
 
-/// The bytes as a string, which is all that the crate takes. Bytes that are no UTF-8 lie outside
+/// The bytes as a string, which is all that the crate takes. Bytes that are not UTF-8 lie outside
 /// its domain and count as no digit and no colon: each byte from 80 on becomes a `~`, which is
 /// neither.
 pub fn as_str(bytes: &[u8]) -> Cow<'_, str> {
@@ -76,7 +76,7 @@ pub fn options(flags: u8) -> ReaderOptions {
 #[derive(Clone, Copy, Debug)]
 pub struct Refusal {
     pub error: ReaderError,
-    /// Where the crate finds a character that is no digit, the place of the line's first one: that of its
+    /// Where the crate finds a character that is not a digit, the place of the line's first one: that of its
     /// first byte, the colon's being 0.
     pub offender: Option<usize>,
 }
@@ -84,7 +84,7 @@ pub struct Refusal {
 /// An answer of the crate to a line.
 pub type Answer = Result<Record, Refusal>;
 
-/// The place of the first character behind a line's colon that is no digit.
+/// The place of the first character after a line's colon that is not a digit.
 fn offender(line: &str) -> Option<usize> {
     let mut behind = line.char_indices().skip(1);
     let (place, _) = behind.find(|(_, character)| !character.is_ascii_hexdigit())?;
@@ -104,7 +104,7 @@ fn judged(answer: Result<Record, ReaderError>, line: &str) -> Answer {
     })
 }
 
-/// The place of the character that is no digit, where a line is refused for one.
+/// The place of the character that is not a digit, where a line is refused for one.
 pub fn offender_of(answer: &Answer) -> Option<usize> {
     answer.as_ref().err()?.offender
 }
@@ -116,7 +116,7 @@ impl Refusal {
             .map_or(0, |place| place.min(LAST_PLACE) as u16)
     }
 
-    /// What people are to read: the crate's text, behind the line where that is known, and the column.
+    /// What people are to read: the crate's text, after the line where that is known, and the column.
     pub fn printed(&self, line: Option<usize>) -> String {
         let line = line.map(|number| format!("line {number}"));
         let column = self.offender.map(|place| match place {

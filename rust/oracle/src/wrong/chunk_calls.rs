@@ -10,7 +10,7 @@ use crate::wrong::named::{Numbers, Wrong};
 /// The place of the carry's last byte, in a line of which nothing was left out.
 pub const LAST_CARRIED: u64 = CARRY as u64 - 1;
 
-/// What a call is given, and what it leaves behind.
+/// What a call is given, and what it leaves.
 pub struct Call<'a> {
     /// The chunk, or nothing where the text is to end.
     pub chunk: Option<&'a [u8]>,
@@ -62,7 +62,7 @@ impl<'a> Call<'a> {
         chunk.get(self.state.position..).unwrap_or(&[])
     }
 
-    /// Whether a byte that is no digit stands in what is still to be read of the line.
+    /// Whether a byte that is not a digit stands in what is still to be read of the line.
     pub fn has_offender_ahead(&self) -> bool {
         let line = self.rest().split(|&byte| byte == b'\n').next();
         let line = line.unwrap_or(&[]);
@@ -70,7 +70,7 @@ impl<'a> Call<'a> {
         !line.iter().all(u8::is_ascii_hexdigit)
     }
 
-    /// Names another place, where one is named behind digits left out of a line that began in an earlier
+    /// Names another place, where one is named after digits left out of a line that began in an earlier
     /// chunk.
     pub fn rename(&mut self, code: u32, before: Standing, place: fn(u64) -> u64) {
         if code == REFUSED + 2 && before.used > 0 && self.first > LAST_CARRIED {
@@ -79,7 +79,7 @@ impl<'a> Call<'a> {
     }
 }
 
-/// A reader of chunks that does something ahead of a call, and something behind it, from the code and
+/// A reader of chunks that does something before a call, and something after it, from the code and
 /// the state before it.
 struct Chunks {
     ahead: fn(&mut Call),
@@ -135,13 +135,13 @@ impl Port for Chunks {
     }
 }
 
-/// A reader that does this ahead of each call.
+/// A reader that does this before each call.
 pub fn ahead(name: &'static str, ahead: fn(&mut Call)) -> Wrong {
     let behind = |_: u32, _: Standing, _: &mut Call| {};
     (name, Box::new(Chunks { ahead, behind }))
 }
 
-/// A reader that does this behind each call.
+/// A reader that does this after each call.
 pub fn behind(name: &'static str, behind: fn(u32, Standing, &mut Call)) -> Wrong {
     let ahead = |_: &mut Call| {};
     (name, Box::new(Chunks { ahead, behind }))

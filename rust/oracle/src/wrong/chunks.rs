@@ -94,7 +94,7 @@ fn long() -> Vec<Wrong> {
     ]
 }
 
-/// Those that name another place of a byte that is no digit, in a line that is too long.
+/// Those that name another place of a byte that is not a digit, in a line that is too long.
 fn places() -> Vec<Wrong> {
     vec![
         behind(

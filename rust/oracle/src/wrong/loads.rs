@@ -9,7 +9,7 @@ use crate::models::loads::{
 use crate::subjects::port::{Port, Real};
 use crate::wrong::named::Wrong;
 
-/// What is done to the marks or the first number, from the code and the address behind the window.
+/// What is done to the marks or the first number, from the code and the address after the window.
 type LoadChange = fn(u32, u64, &mut [u8], &mut u64);
 
 /// A loader that does something to its marks or first number.

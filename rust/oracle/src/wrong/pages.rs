@@ -13,7 +13,7 @@ use crate::wrong::named::Wrong;
 /// The code of an output that is too short.
 const OUTPUT_FULL: u32 = REFUSED + 15;
 
-/// What a page writer is given, and what it tells beside its code.
+/// What a page writer is given, and what it returns beside its code.
 struct Call<'a> {
     first: u32,
     page: &'a [u8],
@@ -73,7 +73,7 @@ impl<F: Fn(&mut Call) -> u32 + Sync> Port for Page<F> {
     }
 }
 
-/// A page writer that tells another length: from the code and the right one.
+/// A page writer that returns another length: from the code and the right one.
 struct Length(fn(u32, &mut u64) -> u32);
 
 impl Port for Length {
@@ -319,7 +319,7 @@ fn outputs() -> Vec<Wrong> {
     ]
 }
 
-/// Those that tell another length.
+/// Those that return another length.
 fn lengths() -> Vec<Wrong> {
     let length = |name, told| -> Wrong { (name, Box::new(Length(told))) };
     vec![

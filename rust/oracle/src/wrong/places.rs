@@ -1,4 +1,4 @@
-//! Readers that name another place of a byte that is no digit.
+//! Readers that name another place of a byte that is not a digit.
 
 use ihex_sys::REFUSED;
 
@@ -6,7 +6,7 @@ use crate::subjects::port::{Port, Real};
 use crate::wrong::loads::load;
 use crate::wrong::named::{Numbers, State, Wrong};
 
-/// A record reader that names another place of a byte that is no digit: from the line and the right one.
+/// A record reader that names another place of a byte that is not a digit: from the line and the right one.
 struct Named(fn(&[u8], u64) -> u64);
 
 impl Port for Named {
@@ -40,7 +40,7 @@ impl Port for NamedInText {
     }
 }
 
-/// The places of a line's bytes behind the colon that are no digits.
+/// The places of a line's bytes after the colon that are not digits.
 fn odd(line: &[u8]) -> impl DoubleEndedIterator<Item = u64> + '_ {
     let odd = move |&place: &usize| !line[place].is_ascii_hexdigit();
     (1..line.len()).filter(odd).map(|place| place as u64)

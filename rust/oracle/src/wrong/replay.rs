@@ -18,7 +18,7 @@ fn changed(change: Change) -> Box<Program<'static>> {
     Box::new(move |cases| -> io::Result<String> { Ok(cases.lines().map(changed).collect()) })
 }
 
-/// The output behind an object's answer, if the object fills it.
+/// The output after an object's answer, if the object fills it.
 fn filling<'a>(case: &str, answer: &'a str) -> Option<&'a str> {
     let out = case.strip_prefix("O ")?.split(' ').next()?;
     let (length, held) = answer.strip_prefix("W ")?.split_once(" | ")?;
