@@ -229,19 +229,12 @@ fn shown_by_port(port: &dyn Port, case: &ShownCase) -> Option<String> {
 /// What is compared with the port.
 pub fn of_port<'a>(port: &'a dyn Port, plan: Plan) -> Vec<Kind<'a>> {
     let calls = move |case: &ChunkCase| self::port(port, case);
-    let by_hand = "texts in chunks, states made up by hand";
+    let shown = move |case: &ShownCase| shown_by_port(port, case);
+    let kind = |name, thousands, make| by_chance(name, plan, thousands, make, calls);
     vec![
-        by_chance(
-            "texts in chunks, call by call",
-            plan,
-            8,
-            cuts::cut_text,
-            calls,
-        ),
-        by_chance(by_hand, plan, 12, cuts::by_hand, calls),
-        by_chance("places shown", plan, 20, cuts::place, move |case| {
-            shown_by_port(port, case)
-        }),
+        kind("texts in chunks, call by call", 8, cuts::cut_text),
+        kind("texts in chunks, states made up by hand", 12, cuts::by_hand),
+        by_chance("places shown", plan, 20, cuts::place, shown),
         by_length(
             "texts in chunks, lines of 519 to 70,000 bytes, call by call",
             plan,

@@ -130,17 +130,16 @@ fn by_rule<'a>(port: &'a dyn Port, plan: Plan) -> Vec<Kind<'a>> {
 /// Lines that come by chance.
 fn by_chances<'a>(port: &'a dyn Port, plan: Plan) -> Vec<Kind<'a>> {
     let line = move |case: &LineCase| self::port(port, case);
+    let kind = |name, thousands, make| by_chance(name, plan, thousands, make, line);
     vec![
-        by_chance("good lines", plan, 60, lines::good_line, line),
-        by_chance("lines by chance", plan, 250, lines::random_line, line),
-        by_chance(
+        kind("good lines", 60, lines::good_line),
+        kind("lines by chance", 250, lines::random_line),
+        kind(
             "good lines with one to three damages",
-            plan,
             300,
             lines::damaged_line,
-            line,
         ),
-        by_chance("lines with narrow pools", plan, 100, lines::pooled, line),
+        kind("lines with narrow pools", 100, lines::pooled),
     ]
 }
 
@@ -153,15 +152,10 @@ pub fn of_port<'a>(port: &'a dyn Port, plan: Plan) -> Vec<Kind<'a>> {
 
 /// What is compared with the face.
 pub fn of_face(plan: Plan) -> Vec<Kind<'static>> {
+    let kind = |name, thousands, make| by_chance(name, plan, thousands, make, face);
     vec![
-        by_chance("face: good lines", plan, 20, lines::good_line, face),
-        by_chance("face: lines by chance", plan, 50, lines::random_line, face),
-        by_chance(
-            "face: good lines with damages",
-            plan,
-            100,
-            lines::damaged_line,
-            face,
-        ),
+        kind("face: good lines", 20, lines::good_line),
+        kind("face: lines by chance", 50, lines::random_line),
+        kind("face: good lines with damages", 100, lines::damaged_line),
     ]
 }
