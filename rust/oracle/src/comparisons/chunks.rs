@@ -9,8 +9,8 @@ use crate::comparisons::lines::unlike;
 use crate::comparisons::run::{by_chance, by_length, Kind, Plan};
 use crate::inputs::chunks::{ChunkCase, ShownCase, Standing};
 use crate::inputs::cuts;
-use crate::inputs::shrink::shown;
-use crate::models::chunks::{outcome, Given, Outcome, CARRY_TOO_SMALL};
+use crate::inputs::shrink::readable;
+use crate::models::chunks::{outcome, Call, Outcome, CARRY_TOO_SMALL};
 use crate::models::texts;
 use crate::subjects::face::{self, ask};
 use crate::subjects::port::Port;
@@ -84,13 +84,13 @@ impl<'a> Calls<'a> {
     /// One call, with a chunk or for the end: its answer, or what is wrong with it.
     fn call(&mut self, chunk: Option<&[u8]>) -> Result<Told, String> {
         let (held, before) = (self.carry.bytes().to_vec(), self.pool.bytes().to_vec());
-        let given = Given {
+        let call = Call {
             chunk,
             carry: &held,
             pool: before.len(),
             at: self.at,
         };
-        let expected = outcome(self.state, &given);
+        let expected = outcome(self.state, &call);
         let (mut numbers, mut lent) = (Numbers::default(), Lending::new(self.state));
         let code = self.lend(chunk, &mut lent, &mut numbers);
         let told = &expected.told;
@@ -102,8 +102,8 @@ impl<'a> Calls<'a> {
         let chunk = chunk.unwrap_or(&[]);
         let line = line_at(self.port, expected.place, chunk, self.carry.bytes())?;
         if line != expected.shown {
-            let should = shown(&expected.shown);
-            return Err(format!("shows {}, should be {should}", shown(&line)));
+            let should = readable(&expected.shown);
+            return Err(format!("shows {}, should be {should}", readable(&line)));
         }
         Ok(expected.told)
     }
@@ -205,7 +205,10 @@ fn face_row(case: &ChunkCase) -> Vec<Shown> {
 pub fn face(case: &ChunkCase) -> Option<String> {
     let text = case.text();
     let rows = rows(&text, case.state.flags);
-    let should: Vec<Shown> = rows.iter().map(|row| texts::shown(&text, row)).collect();
+    let should: Vec<Shown> = rows
+        .iter()
+        .map(|row| texts::shown_row(&text, row))
+        .collect();
     let is = face_row(case);
     (is != should).then(|| format!("face {is:?}, crate {should:?}"))
 }
@@ -222,7 +225,11 @@ fn shown_by_port(port: &dyn Port, case: &ShownCase) -> Option<String> {
     match line_at(port, case.place, &case.chunk, &case.carry) {
         Err(why) => Some(why),
         Ok(line) if line == should => None,
-        Ok(line) => Some(format!("{}, should be {}", shown(&line), shown(should))),
+        Ok(line) => Some(format!(
+            "{}, should be {}",
+            readable(&line),
+            readable(should)
+        )),
     }
 }
 

@@ -4,17 +4,17 @@
 use ihex_sys::{DONE, IN_CARRY, IN_CHUNK, USED_UP};
 
 use crate::comparisons::run::{blocks, by_block, by_chance, by_length, Kind, Plan};
-use crate::comparisons::seen::{Places, Reading};
+use crate::comparisons::seen::{EntryPoint, Places};
 use crate::inputs::chunks::{ChunkCase, Standing};
 use crate::inputs::cuts;
-use crate::inputs::shrink::shown;
+use crate::inputs::shrink::readable;
 use crate::models::texts::line_of;
 use crate::subjects::port::Port;
 use crate::subjects::the_crate::{by_crate, offender_of, rows, Row};
 use crate::subjects::told::{pool_full, told, Place, Told};
 
 /// What the chunk reader is to be asked for.
-pub static SEEN: Reading = Reading::new(
+pub static SEEN: EntryPoint = EntryPoint::new(
     "chunk reader",
     &[
         0, 1, 2, 3, 4, 5, 257, 258, 259, 260, 261, 262, 263, 264, 265, 266, 274, DONE, USED_UP,
@@ -22,7 +22,7 @@ pub static SEEN: Reading = Reading::new(
 );
 
 /// What the end of a text in chunks is to be asked for.
-pub static SEEN_END: Reading = Reading::new(
+pub static SEEN_END: EntryPoint = EntryPoint::new(
     "end of a text in chunks",
     &[
         0, 1, 2, 3, 4, 5, 257, 258, 259, 260, 261, 262, 263, 264, 265, 266, 274, DONE,
@@ -39,7 +39,7 @@ pub static SEEN_CUTS: [Places; 4] = [
 ];
 
 /// The entry point that is given a chunk, or that ends a text in chunks.
-pub fn entry_of(chunk: Option<&[u8]>) -> &'static Reading {
+pub fn entry_of(chunk: Option<&[u8]>) -> &'static EntryPoint {
     chunk.map_or(&SEEN_END, |_| &SEEN)
 }
 
@@ -68,7 +68,7 @@ pub fn line_at(
 /// An answer, "used up" and "done" left out: of which entry point, with which pool and position it was
 /// asked for, the number of the line answered last, and the line shown.
 struct Step {
-    entry: &'static Reading,
+    entry: &'static EntryPoint,
     told: Told,
     pool: usize,
     at: usize,
@@ -171,8 +171,8 @@ fn unlike_crate(rows: &[Row], text: &[u8], steps: &[Step]) -> Option<String> {
         let (number, line) = (row.1.line, line_of(text, row));
         let is = step.map(|step| (&step.told, step.line, &step.shown));
         if is != Some((&told, number, &line)) {
-            let is = is.map(|(told, number, line)| (told, number, shown(line)));
-            let should = (told, number, shown(&line));
+            let is = is.map(|(told, number, line)| (told, number, readable(line)));
+            let should = (told, number, readable(&line));
             return Some(format!("answer {i}: {is:?}, crate {should:?}"));
         }
     }

@@ -2,16 +2,16 @@
 
 use crate::comparisons::lent::{Lent, Numbers};
 use crate::comparisons::run::{blocks, by_block, by_chance, Kind, Plan};
-use crate::comparisons::seen::Reading;
+use crate::comparisons::seen::EntryPoint;
 use crate::inputs::lines::{self, LineCase};
-use crate::models::lines::{pour, told};
+use crate::models::lines::{answered, pour};
 use crate::subjects::face::by_face;
 use crate::subjects::port::Port;
 use crate::subjects::the_crate::{as_str, by_crate, offender_of, read, Answer};
 use crate::subjects::told::Told;
 
 /// What the record reader is to be asked for.
-pub static SEEN: Reading = Reading::new(
+pub static SEEN: EntryPoint = EntryPoint::new(
     "record reader",
     &[
         0, 1, 2, 3, 4, 5, 257, 258, 259, 260, 261, 262, 263, 264, 265, 266,
@@ -42,7 +42,7 @@ pub fn unlike(
 /// What is wrong with what the port's record reader answers to a line.
 pub fn port(port: &dyn Port, case: &LineCase) -> Option<String> {
     let answer = read(&case.line);
-    let expected = told(&answer, case);
+    let expected = answered(&answer, case);
     SEEN.answers.note(expected.code);
     SEEN.places.note(offender_of(&answer));
     let line = Lent::holding(&case.line);

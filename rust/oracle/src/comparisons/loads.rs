@@ -5,15 +5,15 @@ use ihex_sys::REFUSED;
 
 use crate::comparisons::lent::{Lent, Numbers};
 use crate::comparisons::run::{by_chance, Kind, Plan};
-use crate::comparisons::seen::{Answers, Reading};
+use crate::comparisons::seen::{Answers, EntryPoint};
 use crate::inputs::loads::{load, LoadCase};
-use crate::models::loads::{model, stated, Answer, Rules, BOTH_STOPS, RIGHT, UNWRAPPED};
+use crate::models::loads::{model, stated, LoadAnswer, Rules, BOTH_STOPS, RIGHT, UNWRAPPED};
 use crate::subjects::face::by_face;
 use crate::subjects::port::Port;
 use crate::subjects::the_crate::{offender_of, rows};
 
 /// What the loader is to be asked for.
-pub static SEEN: Reading = Reading::new(
+pub static SEEN: EntryPoint = EntryPoint::new(
     "loader",
     &[
         0, 257, 258, 259, 260, 261, 262, 263, 264, 265, 269, 272, 273,
@@ -48,7 +48,7 @@ fn note_wraps(case: &LoadCase, code: u32) {
 }
 
 /// A page and marks to load into, and copies of them on which the model has run, with its answer.
-fn lent(case: &LoadCase) -> (Lent, Lent, Vec<u8>, Vec<u8>, Answer) {
+fn lent(case: &LoadCase) -> (Lent, Lent, Vec<u8>, Vec<u8>, LoadAnswer) {
     let (page, marks) = (Lent::new(case.page), Lent::new(case.marks));
     let (mut held, mut marked) = (page.bytes().to_vec(), marks.bytes().to_vec());
     let answer = model(case, &mut held, &mut marked);
@@ -92,7 +92,7 @@ pub fn port(port: &dyn Port, case: &LoadCase) -> Option<String> {
 }
 
 /// What the face answers, in the form of the port's answers.
-fn told(answer: Result<Loaded, LoadError>) -> Answer {
+fn as_port(answer: Result<Loaded, LoadError>) -> LoadAnswer {
     let why = match answer {
         Ok(loaded) => return (0, loaded.data_records as u64, 0, 0),
         Err(why) => why,
@@ -109,7 +109,7 @@ fn told(answer: Result<Loaded, LoadError>) -> Answer {
 pub fn face(case: &LoadCase) -> Option<String> {
     let (mut page, mut marks, held, marked, should) = lent(case);
     let answer = ihex::load(&case.text, case.first, page.slice(), marks.slice());
-    let is = told(answer);
+    let is = as_port(answer);
     if is != should {
         return Some(format!("face {is:?}, model {should:?}"));
     }

@@ -122,7 +122,7 @@ fn port(port: &dyn Port, case: &PageCase) -> Option<String> {
 }
 
 /// What the face answers, in the form of the port's answers.
-fn told(answer: Result<usize, PageError>) -> (u32, u64) {
+fn as_port(answer: Result<usize, PageError>) -> (u32, u64) {
     match answer {
         Ok(length) => (0, length as u64),
         Err(PageError::BadMark(place)) => (BAD_MARK, place as u64),
@@ -138,7 +138,7 @@ fn misgiven(case: &PageCase, file: &Filed) -> Option<String> {
     let measured = ihex::page_file_length(*first, page, marks);
     let given = ihex::write_page(*first, page, marks);
     let found = given.as_ref().map(String::len).map_err(|&why| why);
-    let (is, should) = ([measured, found].map(told), [length(file); 2]);
+    let (is, should) = ([measured, found].map(as_port), [length(file); 2]);
     if is != should {
         return Some(format!("face {is:?}, should be {should:?}"));
     }
@@ -153,7 +153,7 @@ fn misput(case: &PageCase, file: &Filed) -> Option<String> {
     let PageCase {
         first, page, marks, ..
     } = case;
-    let is = told(ihex::write_page_into(*first, page, marks, out.slice()));
+    let is = as_port(ihex::write_page_into(*first, page, marks, out.slice()));
     let should = (expected.code, expected.value);
     if is != should {
         return Some(format!("face {is:?}, should be {should:?}"));

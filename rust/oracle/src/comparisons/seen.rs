@@ -114,14 +114,14 @@ impl Places {
 }
 
 /// What is counted of an entry point that reads.
-pub struct Reading {
+pub struct EntryPoint {
     pub answers: Answers,
     pub places: Places,
 }
 
-impl Reading {
+impl EntryPoint {
     pub const fn new(name: &'static str, codes: &'static [u32]) -> Self {
-        Reading {
+        EntryPoint {
             answers: Answers::new(name, codes),
             places: Places::new(name, 1),
         }

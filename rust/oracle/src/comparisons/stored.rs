@@ -28,7 +28,7 @@ fn lines_of(name: &str) -> io::Result<Vec<String>> {
 }
 
 /// What the comparison of a list came to.
-pub struct Outcome {
+pub struct ListReport {
     pub report: Report,
     /// How many cases of each form were compared, and how many were passed over.
     pub told: String,
@@ -97,7 +97,7 @@ impl List {
     }
 
     /// Compares the stored answers with the crate's.
-    pub fn compare(&self) -> Outcome {
+    pub fn compare(&self) -> ListReport {
         let start = Instant::now();
         let given = self.given();
         let answers = given.iter().map(|(i, case)| (*i, answer(case)));
@@ -108,7 +108,7 @@ impl List {
             format!("line {}, {case}: stored {stored}, crate {is}", i + 1)
         };
         let headings = |(_, case): &&(_, Given)| matches!(case, Given::Heading(_));
-        Outcome {
+        ListReport {
             report: Report {
                 name: "stored cases of replay",
                 inputs: (given.len() - given.iter().filter(headings).count()) as u64,

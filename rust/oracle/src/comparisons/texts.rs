@@ -6,7 +6,7 @@ use ihex_sys::{DONE, FINISHED};
 use crate::comparisons::lent::{Lent, Numbers};
 use crate::comparisons::lines::unlike;
 use crate::comparisons::run::{by_chance, Kind, Plan};
-use crate::comparisons::seen::Reading;
+use crate::comparisons::seen::EntryPoint;
 use crate::inputs::chance::Chance;
 use crate::inputs::texts::{by_hand, stopped_text, State, TextCase};
 use crate::models::lines::in_pool;
@@ -17,7 +17,7 @@ use crate::subjects::the_crate::{as_str, by_crate, offender_of, rows, Answer};
 use crate::subjects::told::{pool_full, told, Told};
 
 /// What the text reader is to be asked for.
-pub static SEEN: Reading = Reading::new(
+pub static SEEN: EntryPoint = EntryPoint::new(
     "text reader",
     &[
         0, 1, 2, 3, 4, 5, 257, 258, 259, 260, 261, 262, 263, 264, 265, 266, DONE,

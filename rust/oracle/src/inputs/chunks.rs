@@ -4,7 +4,7 @@ use std::ops::Range;
 use std::slice;
 
 use crate::inputs::shrink::{
-    fewer_flags, plainer, shorter, shown, smaller_number, smaller_text, with_each, Case,
+    fewer_flags, plainer, readable, shorter, smaller_number, smaller_text, with_each, Case,
 };
 use crate::subjects::told::Place;
 
@@ -146,7 +146,7 @@ impl Case for ChunkCase {
     }
 
     fn show(&self) -> String {
-        let chunks: Vec<String> = self.chunks.iter().map(|chunk| shown(chunk)).collect();
+        let chunks: Vec<String> = self.chunks.iter().map(|chunk| readable(chunk)).collect();
         format!(
             "chunks {} pool {} carry {} {:?}",
             chunks.join(" "),
@@ -185,7 +185,7 @@ impl Case for ShownCase {
     }
 
     fn show(&self) -> String {
-        let (chunk, carry) = (shown(&self.chunk), shown(&self.carry));
+        let (chunk, carry) = (readable(&self.chunk), readable(&self.carry));
         format!("{:?} in chunk {chunk} carry {carry}", self.place)
     }
 }

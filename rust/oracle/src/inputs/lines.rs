@@ -1,7 +1,7 @@
 //! Lines: good ones, damaged ones, and those that tell readers apart.
 
 use crate::inputs::chance::Chance;
-use crate::inputs::shrink::{shown, smaller_number, smaller_text, with_each, Case};
+use crate::inputs::shrink::{readable, smaller_number, smaller_text, with_each, Case};
 use crate::inputs::spelling::{line_of, spelt};
 
 #[derive(Clone)]
@@ -38,7 +38,7 @@ impl Case for LineCase {
     fn show(&self) -> String {
         format!(
             "line {} pool {} at {}",
-            shown(&self.line),
+            readable(&self.line),
             self.pool,
             self.at
         )

@@ -2,7 +2,7 @@
 
 use crate::inputs::chance::Chance;
 use crate::inputs::lines::{damage, damaged, random, summed};
-use crate::inputs::shrink::{shown, smaller_number, smaller_text, with_each, Case};
+use crate::inputs::shrink::{readable, smaller_number, smaller_text, with_each, Case};
 use crate::inputs::spelling::line_of;
 
 #[derive(Clone)]
@@ -42,7 +42,7 @@ impl Case for LoadCase {
         } = self;
         format!(
             "text {} first {first:08X} page {page} marks {marks}",
-            shown(&self.text)
+            readable(&self.text)
         )
     }
 }

@@ -5,7 +5,7 @@ use std::ops::Range;
 use ihex_sys::MAX_PAGE;
 
 use crate::inputs::chance::Chance;
-use crate::inputs::shrink::{shown, smaller_number, with_each, Case};
+use crate::inputs::shrink::{readable, smaller_number, with_each, Case};
 
 #[derive(Clone)]
 pub struct PageCase {
@@ -112,8 +112,8 @@ impl Case for PageCase {
         format!(
             "first {:08X} page {} marks {} output {:+}",
             self.first,
-            shown(&self.page),
-            shown(&self.marks),
+            readable(&self.page),
+            readable(&self.marks),
             self.spare
         )
     }

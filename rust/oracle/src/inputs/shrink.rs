@@ -142,7 +142,7 @@ pub fn fewer_flags(flags: u8) -> impl Iterator<Item = u8> {
 
 /// A text as one reads it: all that is not a plain character is escaped, and a long run of one
 /// character stands as `0{520}`.
-pub fn shown(text: &[u8]) -> String {
+pub fn readable(text: &[u8]) -> String {
     let mut line = String::from("\"");
     let mut rest = text;
     while let Some(&byte) = rest.first() {

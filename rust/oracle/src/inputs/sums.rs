@@ -1,7 +1,7 @@
 //! Bytes for the checksum.
 
 use crate::inputs::chance::Chance;
-use crate::inputs::shrink::{shown, smaller_text, Case};
+use crate::inputs::shrink::{readable, smaller_text, Case};
 
 #[derive(Clone)]
 pub struct SumCase(pub Vec<u8>);
@@ -16,7 +16,7 @@ impl Case for SumCase {
     }
 
     fn show(&self) -> String {
-        format!("bytes {}", shown(&self.0))
+        format!("bytes {}", readable(&self.0))
     }
 }
 

@@ -2,7 +2,7 @@
 
 use crate::inputs::chance::Chance;
 use crate::inputs::lines::{damaged, good, random, summed};
-use crate::inputs::shrink::{fewer_flags, shown, smaller_number, smaller_text, with_each, Case};
+use crate::inputs::shrink::{fewer_flags, readable, smaller_number, smaller_text, with_each, Case};
 use crate::inputs::spelling::line_of;
 
 #[derive(Clone)]
@@ -61,7 +61,7 @@ impl Case for TextCase {
     fn show(&self) -> String {
         format!(
             "text {} pool {} {:?}",
-            shown(&self.text),
+            readable(&self.text),
             self.pool,
             self.state
         )

@@ -104,7 +104,7 @@ fn unchanged(told: Told, state: Standing, carried: &[u8]) -> Outcome {
 }
 
 /// What a call is given beside the state.
-pub struct Given<'a> {
+pub struct Call<'a> {
     /// The chunk, or nothing where the text is to end.
     pub chunk: Option<&'a [u8]>,
     pub carry: &'a [u8],
@@ -139,15 +139,15 @@ fn read_in_line(line: &[u8], left: usize) -> Answer {
 /// A line is answered, and after it the next begins at this position.
 fn answered(
     state: Standing,
-    given: &Given,
+    call: &Call,
     line: Vec<u8>,
     from: Option<usize>,
     behind: Standing,
 ) -> Outcome {
     let answer = read_in_line(&line, left_out(state, from));
-    let told = in_pool(by_crate::answer(&answer, given.at), given.pool, given.at);
+    let told = in_pool(by_crate::answer(&answer, call.at), call.pool, call.at);
     if told == pool_full() {
-        return unchanged(told, state, &given.carry[..state.used]);
+        return unchanged(told, state, &call.carry[..state.used]);
     }
     let state = Standing {
         flags: flags_behind(state.flags & 3, &told) | behind.flags,
@@ -171,8 +171,8 @@ fn answered(
     }
 }
 
-fn next_of(state: Standing, given: &Given, chunk: &[u8]) -> Outcome {
-    match cut(state, chunk, given.carry) {
+fn next_of(state: Standing, call: &Call, chunk: &[u8]) -> Outcome {
+    match cut(state, chunk, call.carry) {
         Cut::Open {
             from,
             empties,
@@ -201,13 +201,13 @@ fn next_of(state: Standing, given: &Given, chunk: &[u8]) -> Outcome {
                 line: state.line.wrapping_add(empties).wrapping_add(1),
                 ..Standing::default()
             };
-            answered(state, given, line, from, behind)
+            answered(state, call, line, from, behind)
         }
     }
 }
 
-fn end_of(state: Standing, given: &Given) -> Outcome {
-    let mut line = given.carry[..state.used].to_vec();
+fn end_of(state: Standing, call: &Call) -> Outcome {
+    let mut line = call.carry[..state.used].to_vec();
     if state.flags & CR_WAITS != 0 {
         line.push(b'\r');
     }
@@ -220,23 +220,23 @@ fn end_of(state: Standing, given: &Given) -> Outcome {
         line: state.line.wrapping_add(state.empties).wrapping_add(1),
         ..Standing::new(FINISHED)
     };
-    answered(state, given, line, None, behind)
+    answered(state, call, line, None, behind)
 }
 
 /// What a call should answer and leave, from any state.
-pub fn outcome(state: Standing, given: &Given) -> Outcome {
+pub fn outcome(state: Standing, call: &Call) -> Outcome {
     let state = Standing {
         flags: state.flags & 15,
         ..state
     };
-    if given.carry.len() < CARRY || state.used > CARRY {
-        return unchanged(told(CARRY_TOO_SMALL, 0, 0, 0), state, given.carry);
+    if call.carry.len() < CARRY || state.used > CARRY {
+        return unchanged(told(CARRY_TOO_SMALL, 0, 0, 0), state, call.carry);
     }
     if state.flags & FINISHED != 0 {
-        return unchanged(told(DONE, 0, 0, 0), state, given.carry);
+        return unchanged(told(DONE, 0, 0, 0), state, call.carry);
     }
-    match given.chunk {
-        Some(chunk) => next_of(state, given, chunk),
-        None => end_of(state, given),
+    match call.chunk {
+        Some(chunk) => next_of(state, call, chunk),
+        None => end_of(state, call),
     }
 }

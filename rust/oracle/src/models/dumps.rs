@@ -2,7 +2,7 @@
 
 use ihex_sys::FINISHED;
 
-use crate::models::texts::{flags_behind, shown};
+use crate::models::texts::{flags_behind, shown_row};
 use crate::subjects::the_crate::rows;
 use crate::subjects::told::Shown;
 
@@ -13,7 +13,7 @@ pub fn by_the_crate(text: &[u8], flags: u8) -> Vec<Vec<Shown>> {
     let mut dumps = Vec::new();
     loop {
         let rows = rows(rest, flags);
-        let dump: Vec<Shown> = rows.iter().map(|row| shown(rest, row)).collect();
+        let dump: Vec<Shown> = rows.iter().map(|row| shown_row(rest, row)).collect();
         let last = dump.last().map_or(0, |last| flags_behind(flags, &last.0));
         dumps.push(dump);
         match rows.last() {

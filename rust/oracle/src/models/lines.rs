@@ -15,7 +15,7 @@ pub fn in_pool(answer: Told, pool: usize, at: usize) -> Told {
 }
 
 /// An answer of the crate, as the case's pool makes it.
-pub fn told(answer: &Answer, case: &LineCase) -> Told {
+pub fn answered(answer: &Answer, case: &LineCase) -> Told {
     in_pool(by_crate::answer(answer, case.at), case.pool, case.at)
 }
 

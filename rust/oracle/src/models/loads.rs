@@ -12,7 +12,7 @@ use crate::subjects::the_crate::{by_crate, rows};
 pub const BOTH_STOPS: u8 = STOP_AFTER_FIRST_ERROR | STOP_AFTER_EOF;
 
 /// What a load answers: its code and values, and the number of the line.
-pub type Answer = (u32, u64, u64, usize);
+pub type LoadAnswer = (u32, u64, u64, usize);
 
 /// The latest extension record, with its base.
 #[derive(Clone, Copy)]
@@ -103,7 +103,7 @@ pub const UNWRAPPED: [(&str, Placing); 3] = [
 
 /// What a text states by these rules: how many data records, and the places of the window with their
 /// bytes, in order; or the refusal.
-pub fn stated(rules: Rules, case: &LoadCase) -> Result<(u64, Vec<(usize, u8)>), Answer> {
+pub fn stated(rules: Rules, case: &LoadCase) -> Result<(u64, Vec<(usize, u8)>), LoadAnswer> {
     let first = u64::from(case.first);
     let window = first..first + case.page as u64;
     if case.page != case.marks || case.page > 65_536 || window.end > 1 << 32 {
@@ -143,7 +143,7 @@ pub fn stated(rules: Rules, case: &LoadCase) -> Result<(u64, Vec<(usize, u8)>), 
 }
 
 /// A load by these rules: page and marks change on acceptance only.
-pub fn placed_by(rules: Rules, case: &LoadCase, page: &mut [u8], marks: &mut [u8]) -> Answer {
+pub fn placed_by(rules: Rules, case: &LoadCase, page: &mut [u8], marks: &mut [u8]) -> LoadAnswer {
     match stated(rules, case) {
         Err(refused) => refused,
         Ok((records, stated)) => {
@@ -158,6 +158,6 @@ pub fn placed_by(rules: Rules, case: &LoadCase, page: &mut [u8], marks: &mut [u8
 }
 
 /// The model: a load by the right rules.
-pub fn model(case: &LoadCase, page: &mut [u8], marks: &mut [u8]) -> Answer {
+pub fn model(case: &LoadCase, page: &mut [u8], marks: &mut [u8]) -> LoadAnswer {
     placed_by(RIGHT, case, page, marks)
 }

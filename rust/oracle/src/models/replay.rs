@@ -78,7 +78,11 @@ fn with_pool(answer: &Told, pool: usize, at: usize) -> String {
 }
 
 fn line(case: &LineCase) -> String {
-    with_pool(&lines::told(&read(&case.line), case), case.pool, case.at)
+    with_pool(
+        &lines::answered(&read(&case.line), case),
+        case.pool,
+        case.at,
+    )
 }
 
 /// The answer to the call after so many lines that were used up, with room in the pool, and the

@@ -33,6 +33,6 @@ pub fn line_of(text: &[u8], (answer, place): &Row) -> Vec<u8> {
 }
 
 /// A row of a text as it should be told and shown.
-pub fn shown(text: &[u8], row: &Row) -> Shown {
+pub fn shown_row(text: &[u8], row: &Row) -> Shown {
     (by_crate::answer(&row.0, 0), row.1.line, line_of(text, row))
 }
