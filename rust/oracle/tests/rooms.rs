@@ -195,48 +195,51 @@ fn faults_with(name: &str, source: &str) -> Vec<String> {
     faults(&house.into_iter().map(owned).collect())
 }
 
+/// Files that are wrong, and the fault of each.
+const FAULTS: [(&str, &str, &str); 8] = [
+    ("sums", "", "sums stands in no room"),
+    (
+        "models::lines",
+        "use crate::subjects::{told, port::Port};",
+        "models::lines uses subjects::port::Port",
+    ),
+    (
+        "wrong::lines",
+        "use crate::{\n    subjects::told,\n    comparisons::sums,\n};",
+        "wrong::lines uses comparisons::sums",
+    ),
+    (
+        "wrong::lines",
+        "use crate::models;",
+        "wrong::lines uses models, which is no file of a room",
+    ),
+    (
+        "inputs::lines",
+        "use super::sums;",
+        "inputs::lines names what it uses from `super` on",
+    ),
+    (
+        "inputs::sums",
+        "use ihex_sys::{checksum, CARRY};",
+        "inputs::sums asks checksum",
+    ),
+    (
+        "models::lines",
+        "fn f() { ihex::load() }",
+        "models::lines asks load",
+    ),
+    (
+        "subjects::told",
+        "use crate::subjects::port;",
+        "in a circle: subjects::port, subjects::told",
+    ),
+];
+
 #[test]
 fn each_fault_is_found() {
     let right = "use crate::models::sums::{self, Sum};\nuse crate::subjects::{port::Port, told};";
     assert_eq!(faults_with("comparisons::sums", right), [""; 0]);
-    for (name, source, fault) in [
-        ("sums", "", "sums stands in no room"),
-        (
-            "models::lines",
-            "use crate::subjects::{told, port::Port};",
-            "models::lines uses subjects::port::Port",
-        ),
-        (
-            "wrong::lines",
-            "use crate::{\n    subjects::told,\n    comparisons::sums,\n};",
-            "wrong::lines uses comparisons::sums",
-        ),
-        (
-            "wrong::lines",
-            "use crate::models;",
-            "wrong::lines uses models, which is no file of a room",
-        ),
-        (
-            "inputs::lines",
-            "use super::sums;",
-            "inputs::lines names what it uses from `super` on",
-        ),
-        (
-            "inputs::sums",
-            "use ihex_sys::{checksum, CARRY};",
-            "inputs::sums asks checksum",
-        ),
-        (
-            "models::lines",
-            "fn f() { ihex::load() }",
-            "models::lines asks load",
-        ),
-        (
-            "subjects::told",
-            "use crate::subjects::port;",
-            "in a circle: subjects::port, subjects::told",
-        ),
-    ] {
+    for (name, source, fault) in FAULTS {
         let found = faults_with(name, source);
         assert!(found.iter().any(|one| one == fault), "{found:?}");
     }
