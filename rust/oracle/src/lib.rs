@@ -1,32 +1,23 @@
 //! The crate ihex 3.0.0 against the port: inputs, comparisons, and the search for a small input on
 //! which the two disagree.
+//!
+//! The files stand in rooms, and each room uses only those above it:
+//!
+//! | Room | Holds | Uses |
+//! |---|---|---|
+//! | `subjects` | what is compared: the crate, the port, the face, the program | |
+//! | `inputs` | cases, how they are made, and how they are made smaller | `subjects` |
+//! | `models` | what should be answered | `inputs`, `subjects` |
+//! | `comparisons` | the checks, and the kinds of comparison that run them | `models`, `inputs`, `subjects` |
+//! | `wrong` | ports, faces and programs that are wrong in one point each | `models`, `inputs`, `subjects` |
+//!
+//! Inputs and models ask neither the port, nor the face, nor the program. No file uses itself by way of
+//! others. `tests/rooms.rs` holds all of this. What is new gets a file in each room, and a line in each list
+//! of `comparisons::all` and `wrong::all`.
 #![forbid(unsafe_code)]
 
-pub mod carried;
-pub mod chance;
-pub mod chunks;
-pub mod cuts;
-pub mod domain;
-pub mod dumps;
-pub mod forms;
+pub mod comparisons;
 pub mod inputs;
-pub mod joined;
-pub mod kinds;
-pub mod lent;
-pub mod lines;
-pub mod loads;
-pub mod long;
-pub mod page_inputs;
-pub mod pages;
-pub mod port;
-pub mod replay;
-pub mod seen;
-pub mod shrink;
-pub mod stored;
-pub mod sums;
-pub mod texts;
-pub mod told;
-pub mod writes;
+pub mod models;
+pub mod subjects;
 pub mod wrong;
-pub mod wrong_chunks;
-pub mod wrong_pages;

@@ -14,13 +14,14 @@ use std::io;
 use std::process::exit;
 use std::time::Instant;
 
-use oracle::domain::{keeps_last_cr, NO_SOURCE};
-use oracle::kinds::{
-    of_chunks, of_dumps, of_face, of_pages, of_port, of_replay, Kind, Plan, Report,
-};
-use oracle::port::Real;
-use oracle::stored::List;
-use oracle::{replay, seen, wrong, wrong_chunks, wrong_pages};
+use oracle::comparisons::all::{of_chunks, of_face, of_port, show_seen};
+use oracle::comparisons::run::{Kind, Plan, Report};
+use oracle::comparisons::stored::List;
+use oracle::comparisons::{dumps, pages, replay};
+use oracle::subjects::port::Real;
+use oracle::subjects::program::{command, run};
+use oracle::subjects::the_crate::{keeps_last_cr, NO_SOURCE};
+use oracle::wrong;
 
 const USAGE: &str = "\
 usage: oracle [--seed N] [--long | --times N] [--short]
@@ -102,7 +103,7 @@ fn finds(what: &str, kinds: Vec<Kind>) -> bool {
     false
 }
 
-/// What was done with the stored list, or nothing behind a line that says why not.
+/// What was done with the stored list, or nothing after a line that says why not.
 fn done<T>(result: io::Result<T>) -> Option<T> {
     result
         .map_err(|why| println!("FAILED the stored cases: {why}"))
@@ -167,7 +168,7 @@ impl Counts {
     /// Compares the lent forms by the program of this command, and says whether there is one.
     fn compare_lent(&mut self, command: Option<Vec<String>>, plan: Plan) -> bool {
         match &command {
-            Some(words) => self.compare(of_replay(&|cases| replay::run(words, cases), plan)),
+            Some(words) => self.compare(replay::of_program(&|cases| run(words, cases), plan)),
             None => println!(
                 "-- passed over: the lent forms: IHEX_REPLAY names no program; `rt check replay` builds it"
             ),
@@ -175,33 +176,42 @@ impl Counts {
         command.is_some()
     }
 
+    /// Looks for each wrong one by these kinds of comparison.
+    fn find<T: ?Sized>(
+        &mut self,
+        what: &str,
+        wrong: Vec<(&str, Box<T>)>,
+        kinds: impl for<'a> Fn(&'a T) -> Vec<Kind<'a>>,
+    ) {
+        for (name, one) in wrong {
+            self.add(finds(&format!("{what} that {name}"), kinds(&one)));
+        }
+    }
+
     fn compare_all(&mut self, plan: Plan) {
         self.compare(of_port(&Real, plan));
         self.compare(of_chunks(&Real, plan));
-        self.compare(of_pages(&Real, plan));
+        self.compare(pages::of_port(&Real, plan));
         self.compare(of_face(plan));
-        let lent = self.compare_lent(replay::command(), plan);
+        let lent = self.compare_lent(command(), plan);
         self.add(stored_agree());
-        self.add(seen::show());
-        for (name, port) in wrong::all() {
-            let kinds = of_port(port.as_ref(), few(plan));
-            self.add(finds(&format!("a port that {name}"), kinds));
-        }
-        for (name, port) in wrong_chunks::all() {
-            let kinds = of_chunks(port.as_ref(), few(plan));
-            self.add(finds(&format!("a chunk reader that {name}"), kinds));
-        }
-        for (name, face) in wrong_chunks::faces() {
-            let kinds = of_dumps(face.as_ref(), few(plan));
-            self.add(finds(&format!("a face that {name}"), kinds));
-        }
-        for (name, port) in wrong_pages::all() {
-            let kinds = of_pages(port.as_ref(), few(plan));
-            self.add(finds(&format!("a page writer that {name}"), kinds));
-        }
-        for (name, program) in wrong::programs().iter().filter(|_| lent) {
-            let kinds = of_replay(program.as_ref(), few(plan));
-            self.add(finds(&format!("a replay that {name}"), kinds));
+        self.add(show_seen());
+        let few = few(plan);
+        self.find("a port", wrong::all::ports(), |port| of_port(port, few));
+        self.find("a chunk reader", wrong::chunks::all(), |port| {
+            of_chunks(port, few)
+        });
+        self.find("a face", wrong::dumps::all(), |face| {
+            dumps::of_face(face, few)
+        });
+        self.find("a page writer", wrong::pages::all(), |port| {
+            pages::of_port(port, few)
+        });
+        if lent {
+            let programs = wrong::replay::all();
+            self.find("a replay", programs, |program| {
+                replay::of_program(program, few)
+            });
         }
     }
 }

@@ -2,15 +2,18 @@
 //! small one.
 
 use ihex_sys::CARRY;
-use oracle::chance::Chance;
-use oracle::chunks::ChunkCase;
-use oracle::cuts::{by_hand, cut_dumps, cut_everywhere, cut_text};
-use oracle::domain::at_hand;
-use oracle::dumps::RealFace;
-use oracle::kinds::{of_chunks, of_dumps, Plan};
-use oracle::long::{long, LENGTHS};
-use oracle::port::Real;
-use oracle::wrong_chunks;
+use oracle::comparisons::all::of_chunks;
+use oracle::comparisons::dumps;
+use oracle::comparisons::run::Plan;
+use oracle::inputs::chance::Chance;
+use oracle::inputs::chunks::ChunkCase;
+use oracle::inputs::cuts::{by_hand, cut_everywhere, cut_text};
+use oracle::inputs::dumps::cut_dumps;
+use oracle::inputs::long::{long, LENGTHS};
+use oracle::subjects::face::RealFace;
+use oracle::subjects::port::Real;
+use oracle::subjects::the_crate::at_hand;
+use oracle::wrong;
 
 fn cases(make: fn(&mut Chance) -> ChunkCase) -> Vec<ChunkCase> {
     let mut chance = Chance::new(3);
@@ -142,7 +145,7 @@ fn a_wrong_reader_is_told_with_a_small_text() {
     if !at_hand("chunks") {
         return;
     }
-    let mut all = wrong_chunks::all();
+    let mut all = wrong::chunks::all();
     let (name, port) = all.remove(0);
     assert_eq!(name, "takes a CR at a chunk's end for part of the line");
     let report = of_chunks(port.as_ref(), PLAN)[0]();
@@ -158,7 +161,7 @@ fn each_dump_is_read() {
     if !at_hand("chunks") {
         return;
     }
-    for kind in of_dumps(&RealFace, PLAN) {
+    for kind in dumps::of_face(&RealFace, PLAN) {
         let report = kind();
         assert_eq!(report.smallest, None, "{}", report.name);
         assert!(report.inputs > 0);
@@ -170,10 +173,10 @@ fn a_face_that_loses_a_dump_is_told_with_a_small_text() {
     if !at_hand("chunks") {
         return;
     }
-    let mut all = wrong_chunks::faces();
+    let mut all = wrong::dumps::all();
     let (name, face) = all.remove(0);
     assert_eq!(name, "loses what follows a stop in its chunk");
-    let report = of_dumps(face.as_ref(), PLAN)[0]();
+    let report = dumps::of_face(face.as_ref(), PLAN)[0]();
     let told = report.smallest.expect("it is found");
     assert!(
         told.starts_with(r#"chunks ":00000001ff\n0" pool 0 carry 0"#),

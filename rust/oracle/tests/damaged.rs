@@ -1,8 +1,9 @@
 //! The Rust face on the oracle's inputs, good and damaged, in the build that checks every sum: it
 //! answers as the crate does, and never panics. The oracle itself does the same in release.
 
-use oracle::domain::at_hand;
-use oracle::kinds::{of_face, Plan};
+use oracle::comparisons::all::of_face;
+use oracle::comparisons::run::Plan;
+use oracle::subjects::the_crate::at_hand;
 
 #[test]
 fn the_face_answers_as_the_crate_does() {

@@ -3,10 +3,13 @@
 
 use std::io;
 
-use oracle::chance::Chance;
-use oracle::kinds::{of_replay, Plan};
-use oracle::replay::{first, list, run, shrunk, smallest, text, unlike, wrong, Program};
-use oracle::stored::Given;
+use oracle::comparisons::replay::{of_program, shrunk, smallest, unlike, wrong};
+use oracle::comparisons::run::Plan;
+use oracle::inputs::chance::Chance;
+use oracle::inputs::lent::{first, list, text};
+use oracle::inputs::replay::Given;
+use oracle::models::replay::answer;
+use oracle::subjects::program::{run, Program};
 
 fn cases(make: fn(&mut Chance) -> Given) -> Vec<Given> {
     let mut chance = Chance::new(3);
@@ -14,8 +17,8 @@ fn cases(make: fn(&mut Chance) -> Given) -> Vec<Given> {
 }
 
 fn right(cases: &str) -> io::Result<String> {
-    let answer = |case| Given::of(case).expect("a case within the limits").answer() + "\n";
-    Ok(cases.lines().map(answer).collect())
+    let right = |case| answer(&Given::of(case).expect("a case within the limits")) + "\n";
+    Ok(cases.lines().map(right).collect())
 }
 
 fn words(command: &[&str]) -> Vec<String> {
@@ -28,7 +31,7 @@ fn each_case_is_told_as_its_line() {
         for case in &cases(make)[..200] {
             let again = Given::of(&case.line()).expect("a case within the limits");
             assert_eq!(again.line(), case.line());
-            assert_eq!(again.answer(), case.answer());
+            assert_eq!(answer(&again), answer(case));
         }
     }
 }
@@ -51,7 +54,7 @@ fn every_answer_is_called_for() {
         (first, &read[..]),
         (list, &written[..]),
     ] {
-        let answers: Vec<String> = cases(make).iter().map(Given::answer).collect();
+        let answers: Vec<String> = cases(make).iter().map(answer).collect();
         for said in all {
             assert!(called_for(&answers, said), "{said}");
         }
@@ -61,7 +64,7 @@ fn every_answer_is_called_for() {
 #[test]
 fn lists_have_up_to_64_records_and_are_written() {
     let length = |case: &Given| match case {
-        Given::Object(object) if case.answer().starts_with('W') => object.entries.len(),
+        Given::Object(object) if answer(case).starts_with('W') => object.entries.len(),
         _ => 0,
     };
     let lengths: Vec<usize> = cases(list).iter().map(length).collect();
@@ -90,7 +93,7 @@ fn a_wrong_answer_is_found() {
         part_of: 20,
         enough: 1,
     };
-    let report = of_replay(program.as_ref(), plan)[1]();
+    let report = of_program(program.as_ref(), plan)[1]();
     let found = r#"T 4 0 30: replay "! 2 |", crate "! 1 | ""#;
     assert_eq!(report.smallest.as_deref(), Some(found));
     assert!(report.disagreements > 0);

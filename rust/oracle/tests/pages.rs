@@ -2,20 +2,20 @@
 //! small page.
 
 use ihex_sys::MAX_PAGE;
-use oracle::chance::Chance;
-use oracle::domain::at_hand;
-use oracle::kinds::{of_pages, Plan};
-use oracle::page_inputs::{large, page};
-use oracle::pages::PageCase;
-use oracle::port::Real;
-use oracle::wrong_pages;
+use oracle::comparisons::pages::of_port;
+use oracle::comparisons::run::Plan;
+use oracle::inputs::chance::Chance;
+use oracle::inputs::pages::{large, page, PageCase};
+use oracle::subjects::port::Real;
+use oracle::subjects::the_crate::at_hand;
+use oracle::wrong;
 
 /// Whether a few of the cases are such.
 fn some(cases: &[PageCase], such: fn(&PageCase) -> bool) -> bool {
     cases.iter().filter(|case| such(case)).count() > 3
 }
 
-/// The address behind a window.
+/// The address after a window.
 fn end(case: &PageCase) -> u64 {
     u64::from(case.first) + case.page.len() as u64
 }
@@ -63,7 +63,7 @@ fn the_port_is_right() {
     if !at_hand("pages") {
         return;
     }
-    for kind in of_pages(&Real, PLAN) {
+    for kind in of_port(&Real, PLAN) {
         let report = kind();
         assert_eq!(report.smallest, None, "{}", report.name);
         assert!(report.inputs > 0);
@@ -75,10 +75,10 @@ fn a_wrong_writer_is_told_with_a_small_page() {
     if !at_hand("pages") {
         return;
     }
-    let mut all = wrong_pages::all();
+    let mut all = wrong::pages::all();
     let (name, port) = all.remove(0);
     assert_eq!(name, "does not cut a record at a multiple of 65,536");
-    let report = of_pages(port.as_ref(), PLAN)[0]();
+    let report = of_port(port.as_ref(), PLAN)[0]();
     let told = report.smallest.expect("it is found");
     let small = r#"first 0000FFFF page "\x00\x00" marks "\x01\x01" output "#;
     assert!(told.starts_with(small), "{told}");

@@ -121,5 +121,9 @@ macro_rules! uses {
     };
 }
 
-uses!(of_crate, original, oracle::domain::at_hand("shapes"));
+uses!(
+    of_crate,
+    original,
+    oracle::subjects::the_crate::at_hand("shapes")
+);
 uses!(of_face, ihex, true);

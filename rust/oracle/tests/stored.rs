@@ -1,9 +1,11 @@
 //! A small stored list, with a case of each form: right answers agree, a wrong one is found and
-//! written anew, and what is no case is passed over and kept.
+//! written anew, and what is not a case is passed over and kept.
 
 use std::io;
 
-use oracle::stored::{Given, List};
+use oracle::comparisons::stored::List;
+use oracle::inputs::replay::Given;
+use oracle::models::replay::answer;
 
 const HEADINGS_AND_CASES: [(&str, &str); 15] = [
     ("# a heading", "# a heading"),
@@ -109,7 +111,7 @@ fn each_stored_case_is_told_as_its_line() -> io::Result<()> {
 #[test]
 fn an_object_has_up_to_64_records() {
     let list = |n| format!("O C {}", " 1 0 0 0 0".repeat(n));
-    let answer = |n| Given::of(&list(n)).map(|given| given.answer());
+    let answer = |n| Given::of(&list(n)).map(|given| answer(&given));
     let refused = "! 14 40 | DDDDDDDDDDDDDDDDDDDDDDDD";
     assert_eq!(answer(64).as_deref(), Some(refused));
     assert_eq!(answer(65), None);

@@ -1,0 +1,129 @@
+//! Loads: the model against the port's loader and the face's.
+
+use ihex::{LoadError, Loaded};
+use ihex_sys::REFUSED;
+
+use crate::comparisons::lent::{Lent, Numbers};
+use crate::comparisons::run::{by_chance, Kind, Plan};
+use crate::comparisons::seen::{Answers, EntryPoint};
+use crate::inputs::loads::{load, LoadCase};
+use crate::models::loads::{model, stated, LoadAnswer, Rules, BOTH_STOPS, RIGHT, UNWRAPPED};
+use crate::subjects::face::by_face;
+use crate::subjects::port::Port;
+use crate::subjects::the_crate::{offender_of, rows};
+
+/// What the loader is to be asked for.
+pub static SEEN: EntryPoint = EntryPoint::new(
+    "loader",
+    &[
+        0, 257, 258, 259, 260, 261, 262, 263, 264, 265, 269, 272, 273,
+    ],
+);
+
+/// The codes of loads that rest on each of the three wraps at a segment's end, in the order of `UNWRAPPED`.
+pub static SEEN_WRAPS: [Answers; 3] = [
+    Answers::new(
+        "loader, across a segment's end before any extension record",
+        &[0, 273],
+    ),
+    Answers::new("loader, across a segment's end behind a type 02", &[0, 273]),
+    Answers::new(
+        "loader, across a segment's end behind a type 02 that stands behind a type 04",
+        &[0, 273],
+    ),
+];
+
+/// Notes the code of a load for each of the three wraps that it rests on: with that one left out, the
+/// text states something else. Only accepted loads and 17 are noted.
+fn note_wraps(case: &LoadCase, code: u32) {
+    if code != 0 && code != REFUSED + 17 {
+        return;
+    }
+    let right = stated(RIGHT, case);
+    for ((_, placing), seen) in UNWRAPPED.into_iter().zip(&SEEN_WRAPS) {
+        if stated(Rules { placing, ..RIGHT }, case) != right {
+            seen.note(code);
+        }
+    }
+}
+
+/// A page and marks to load into, and copies of them on which the model has run, with its answer.
+fn lent(case: &LoadCase) -> (Lent, Lent, Vec<u8>, Vec<u8>, LoadAnswer) {
+    let (page, marks) = (Lent::new(case.page), Lent::new(case.marks));
+    let (mut held, mut marked) = (page.bytes().to_vec(), marks.bytes().to_vec());
+    let answer = model(case, &mut held, &mut marked);
+    (page, marks, held, marked, answer)
+}
+
+/// What is wrong with a load by the port.
+pub fn port(port: &dyn Port, case: &LoadCase) -> Option<String> {
+    let (mut page, mut marks, held, marked, should) = lent(case);
+    SEEN.answers.note(should.0);
+    if should.0 == REFUSED + 2 {
+        let last = rows(&case.text, BOTH_STOPS).pop();
+        let place = last.and_then(|(answer, _)| offender_of(&answer));
+        SEEN.places.note(place);
+    }
+    note_wraps(case, should.0);
+    let text = Lent::holding(&case.text);
+    let mut numbers = Numbers::default();
+    let third = numbers.values()[2];
+    let mut lines = [3, 5, 7];
+    let (a, b, _) = numbers.lend();
+    let code = port.load(
+        text.bytes(),
+        case.first,
+        page.slice(),
+        marks.slice(),
+        &mut lines[1],
+        (a, b),
+    );
+    let [a, b, c] = numbers.values();
+    if !numbers.is_guarded() || c != third || (lines[0], lines[2]) != (3, 7) {
+        return Some("numbers beside the lent ones were written".into());
+    }
+    let is = (code, a, b, lines[1]);
+    if is != should {
+        return Some(format!("port {is:?}, model {should:?}"));
+    }
+    page.unlike("page", &held)
+        .or_else(|| marks.unlike("marks", &marked))
+        .or_else(|| text.unlike("text", &case.text))
+}
+
+/// What the face answers, in the form of the port's answers.
+fn as_port(answer: Result<Loaded, LoadError>) -> LoadAnswer {
+    let why = match answer {
+        Ok(loaded) => return (0, loaded.data_records as u64, 0, 0),
+        Err(why) => why,
+    };
+    let [a, b, _] = match why {
+        LoadError::Line(refused) => by_face::refusal(&refused.error).values,
+        LoadError::OutsideWindow { address, .. } => [address.into(), 0, 0],
+        _ => [0; 3],
+    };
+    (REFUSED + why.number(), a, b, why.line().unwrap_or(0))
+}
+
+/// What is wrong with a load by the face.
+pub fn face(case: &LoadCase) -> Option<String> {
+    let (mut page, mut marks, held, marked, should) = lent(case);
+    let answer = ihex::load(&case.text, case.first, page.slice(), marks.slice());
+    let is = as_port(answer);
+    if is != should {
+        return Some(format!("face {is:?}, model {should:?}"));
+    }
+    page.unlike("page", &held)
+        .or_else(|| marks.unlike("marks", &marked))
+}
+
+/// What is compared with the port.
+pub fn of_port<'a>(port: &'a dyn Port, plan: Plan) -> Vec<Kind<'a>> {
+    let check = move |case: &LoadCase| self::port(port, case);
+    vec![by_chance("loads", plan, 60, load, check)]
+}
+
+/// What is compared with the face.
+pub fn of_face(plan: Plan) -> Vec<Kind<'static>> {
+    vec![by_chance("face: loads", plan, 20, load, face)]
+}

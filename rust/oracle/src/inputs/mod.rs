@@ -1,0 +1,18 @@
+//! The inputs: what a case of each kind is, how it is made smaller, and how cases are made, by rule and by
+//! chance.
+
+pub mod chance;
+pub mod chunks;
+pub mod cuts;
+pub mod dumps;
+pub mod lent;
+pub mod lines;
+pub mod loads;
+pub mod long;
+pub mod pages;
+pub mod replay;
+pub mod shrink;
+pub mod spelling;
+pub mod sums;
+pub mod texts;
+pub mod writes;

@@ -1,0 +1,11 @@
+//! The models: what should be answered, from the crate's answers and the rules. A model asks neither the port
+//! nor the face.
+
+pub mod chunks;
+pub mod dumps;
+pub mod lines;
+pub mod loads;
+pub mod pages;
+pub mod replay;
+pub mod texts;
+pub mod writes;

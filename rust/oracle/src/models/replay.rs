@@ -1,0 +1,144 @@
+//! The crate's answers to the cases of `replay`, printed as that program prints its own.
+
+use ihex_sys::{DONE, REFUSED, STOP_AFTER_EOF, STOP_AFTER_FIRST_ERROR};
+
+use crate::inputs::lines::LineCase;
+use crate::inputs::loads::LoadCase;
+use crate::inputs::replay::Given;
+use crate::inputs::spelling::hex;
+use crate::inputs::texts::TextCase;
+use crate::models::lines::{self, in_pool, pour};
+use crate::models::loads;
+use crate::models::writes::{self, Written};
+use crate::subjects::the_crate::{by_crate, read, rows, Row};
+use crate::subjects::told::{pool_full, told, Told};
+
+/// What each place of a lent buffer holds before a call.
+const POOL: u8 = 0xEE;
+const OUT: u8 = 0xDD;
+const PAGE: u8 = 0xCC;
+const MARKS: u8 = 0xAA;
+
+/// The most answers of a text that it prints, but for the last.
+const MOST_ANSWERS: usize = 40;
+
+/// The crate's answer to a case, printed as `replay` prints its own.
+pub fn answer(given: &Given) -> String {
+    match given {
+        Given::Heading(line) => line.clone(),
+        Given::Sum(case) => format!("{:02X}", original::checksum(&case.0)),
+        Given::Line(case) => line(case),
+        Given::Text(case) => text(case),
+        Given::First(case) => first(case),
+        Given::Record(case) => written(&writes::record(case), case.out),
+        Given::Object(case) => written(&writes::object(case), case.out),
+        Given::Load(case) => load(case),
+    }
+}
+
+/// All bytes, or the runs of equal ones where there are more than 64.
+fn spelt_long(bytes: &[u8]) -> String {
+    if bytes.len() <= 64 {
+        return format!(" {}", hex(bytes));
+    }
+    let ends = (1..=bytes.len()).filter(|&i| bytes.get(i) != Some(&bytes[i - 1]));
+    ends.map(|i| format!(" {:02X}<{i:X}", bytes[i - 1]))
+        .collect()
+}
+
+fn refusal(code: u32, a: u64, b: u64) -> String {
+    match code - REFUSED {
+        2 => format!("! 2 {a:04X}"),
+        6 => format!("! 6 {a:02X} {b:02X}"),
+        8 => format!("! 8 {a:02X}"),
+        n @ (12 | 14) => format!("! {n} {a:X}"),
+        17 => format!("! 17 {a:08X}"),
+        n => format!("! {n}"),
+    }
+}
+
+fn reply(answer: &Told) -> String {
+    let [a, b, c] = answer.values;
+    match answer.code {
+        0 => format!("D {a:04X} {b:X} {c:X}"),
+        1 => "E".into(),
+        3 => format!("X3 {a:04X}{b:04X}"),
+        5 => format!("X5 {a:08X}"),
+        DONE => "done".into(),
+        code if code > REFUSED => refusal(code, a, b),
+        code => format!("X{code} {a:04X}"),
+    }
+}
+
+/// One answer, and the pool of this length after it.
+fn with_pool(answer: &Told, pool: usize, at: usize) -> String {
+    let mut pool = vec![POOL; pool];
+    pour(answer, &mut pool, at);
+    format!("{} | {}", reply(answer), hex(&pool))
+}
+
+fn line(case: &LineCase) -> String {
+    with_pool(
+        &lines::answered(&read(&case.line), case),
+        case.pool,
+        case.at,
+    )
+}
+
+/// The answer to the call after so many lines that were used up, with room in the pool, and the
+/// number of the line after which the reader then stands.
+fn call(rows: &[Row], used: usize) -> (Told, usize) {
+    let line = |(_, place): &Row| place.line;
+    match rows.get(used) {
+        Some(row) => (by_crate::answer(&row.0, 0), line(row)),
+        None => (told(DONE, 0, 0, 0), rows.last().map_or(0, line)),
+    }
+}
+
+fn text(case: &TextCase) -> String {
+    let rows = rows(&case.text, case.state.flags);
+    let mut pool = vec![POOL; case.pool];
+    let mut all = String::new();
+    let (mut used, mut line) = (0, 0);
+    for _ in 0..MOST_ANSWERS {
+        let (answer, behind) = call(&rows, used);
+        let answer = in_pool(answer, case.pool, 0);
+        let full = answer == pool_full();
+        if !full {
+            used += 1;
+            line = behind;
+        }
+        pour(&answer, &mut pool, 0);
+        all += &format!("{} @{line:X} | {}; ", reply(&answer), hex(&pool));
+        if full || answer.code == DONE {
+            break;
+        }
+    }
+    let (answer, behind) = call(&rows, used);
+    all + &format!("{} @{behind:X}", reply(&answer))
+}
+
+/// The first answer alone, with both stops on.
+fn first(case: &TextCase) -> String {
+    let rows = rows(&case.text, STOP_AFTER_FIRST_ERROR | STOP_AFTER_EOF);
+    let (answer, _) = call(&rows, 0);
+    with_pool(&in_pool(answer, case.pool, 0), case.pool, 0)
+}
+
+fn written(answer: &Written, out: usize) -> String {
+    let said = match answer.code {
+        0 => format!("W {:X}", answer.value),
+        code => refusal(code, answer.value, 0),
+    };
+    format!("{said} | {}", hex(&answer.held(&vec![OUT; out])))
+}
+
+fn load(case: &LoadCase) -> String {
+    let mut page = vec![PAGE; case.page];
+    let mut marks = vec![MARKS; case.marks];
+    let said = match loads::model(case, &mut page, &mut marks) {
+        (0, records, _, _) => format!("A {records:X}"),
+        (code, a, b, line) => format!("{} @{line:X}", refusal(code, a, b)),
+    };
+    format!("{said} |{} |{}", spelt_long(&page), spelt_long(&marks))
+}

@@ -1,0 +1,16 @@
+//! Ports, faces and programs that are wrong in one point each. The comparisons must find every one. `all` has
+//! the wrong ports in the order in which they are tried.
+
+pub mod all;
+pub mod chunk_calls;
+pub mod chunks;
+pub mod dumps;
+pub mod lines;
+pub mod loads;
+pub mod named;
+pub mod pages;
+pub mod places;
+pub mod replay;
+pub mod sums;
+pub mod texts;
+pub mod writes;
