@@ -3,7 +3,7 @@
 
 A crate's line lists each crate that its files name, and no other: in src/ as `NAME::`, in contracts, specs/ and proofs/ as `Rattle.NAME`. The
 checker asks for these, and not for what they stand on. The lines stand floor by floor, lowest first, under `# Floor N`; a crate's floor is the
-length of the longest way down from it."""
+length of the longest way down from it. In README.md each crate has its floor in a row `| N | `crates/NAME` .. | .. |`."""
 import re
 import sys
 
@@ -43,10 +43,17 @@ def headings(text):
     return under
 
 
+def shown(text):
+    """The crates that rows of README.md name beside a floor, each with that floor."""
+    rows = re.findall(r'(?m)^\| (\d+) \|([^|]*)\|', text)
+    return {(crate, int(number)) for number, cell in rows for crate in re.findall(r'`crates/(\w+)`', cell)}
+
+
 def faults():
     """What is wrong, a line each."""
     crates = house.read()
     floor = house.floors(house.below(crates))
+    readme = shown((repo / 'README.md').read_text(encoding='utf-8'))
     under = headings((repo / 'crates.txt').read_text(encoding='utf-8'))
     known = list(crates) + KIT
     last = 0
@@ -63,6 +70,10 @@ def faults():
         if under[crate] != floor[crate]:
             yield f'{crate} is of floor {floor[crate]}, and does not stand under "# Floor {floor[crate]}"'
         last = max(last, floor[crate])
+    for crate, number in sorted(set(floor.items()) - readme):
+        yield f'README.md does not show {crate} on floor {number}'
+    for crate, number in sorted(readme - set(floor.items())):
+        yield f'README.md shows {crate} on floor {number}'
     if not house.current():
         yield 'docs/house.svg is not current: python3 tests/house.py writes it'
 
