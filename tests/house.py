@@ -52,7 +52,10 @@ def floors(under):
 
     def floor(name):
         if name not in known:
+            known[name] = None
             known[name] = max((floor(other) + 1 for other in under[name]), default=0)
+        if known[name] is None:
+            sys.exit(f'house: {name} stands on itself')
         return known[name]
 
     return {name: floor(name) for name in under}
