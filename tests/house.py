@@ -139,7 +139,7 @@ def layers(floor, edges):
 
 
 def crossings(rows, steps):
-    """How often lines cross, and between what places."""
+    """How often lines cross."""
     place = {thing: i for row in rows for i, thing in enumerate(row)}
     level = {thing: i for i, row in enumerate(rows) for thing in row}
     count = 0
@@ -213,8 +213,7 @@ def middles(rows, steps):
         joined.setdefault(lower, []).append(upper)
     at = {}
     for row in rows:
-        packed = apart(row, {thing: 0.0 for thing in row})
-        at.update(packed)
+        at.update(apart(row, {thing: 0.0 for thing in row}))
     for turn in range(400):
         centre = mean(at.values())
         for row in rows if turn % 2 else rows[::-1]:
