@@ -4,7 +4,8 @@
 In a cell of a table of docs/CLAIMS.md each file in backquotes is there, and each name in backquotes after a file stands in
 that file, outside its comments. A claim is a name of a crate's specs/ that is a statement by itself: `abbrev pub X : Type n`,
 or a record without parameters each of whose fields is a statement. It stands in docs/CLAIMS.md after its file, and has a proof of exactly its type: `pub x : X` in the
-crate's proofs/, in a file that has X from the file of specs/ that states it. That the proof holds is the check's to say."""
+crate's proofs/, in a file that has X from the file of specs/ that states it. That the proof holds is the check's to say.
+Files and names of docs/GLOSSARY.md are looked up in the same way."""
 import pathlib
 import re
 import sys
@@ -73,15 +74,16 @@ def unproved(listed):
 
 
 def main():
-    table = list(names((repo / 'docs' / 'CLAIMS.md').read_text(encoding='utf-8')))
-    missing = ['docs/CLAIMS.md:%d: %s' % (line, name) for line, file, name in table if not stands(file, name)]
+    tables = {doc: list(names((repo / doc).read_text(encoding='utf-8'))) for doc in ('docs/CLAIMS.md', 'docs/GLOSSARY.md')}
+    table = tables['docs/CLAIMS.md']
+    missing = ['%s:%d: %s' % (doc, line, name) for doc in tables for line, file, name in tables[doc] if not stands(file, name)]
     found = list(unproved({(file, name) for _, file, name in table}))
     missing += ['%s: %s %s' % (file, claim, why) for file, claim, lacking in found for why in lacking]
     print('\n'.join([*missing, '%d names, %d claims, %d things missing' % (len(table), len(found), len(missing))]))
     sees = finds_what_is_wrong()
     if not sees:
         print('this test does not find what is wrong in its own samples')
-    sys.exit(bool(missing) or not table or not found or not sees)
+    sys.exit(bool(missing) or not all(tables.values()) or not found or not sees)
 
 
 main()

@@ -1,4 +1,4 @@
-// The two lent forms, a reader that holds its text and an object from a lent list, called with values: their callers need no proof by hand.
+// The two lent forms, a reader that holds its text and an object from a lent list, called with values. Their callers need no proof by hand.
 use reader::Reader;
 use reader::ReaderOptions;
 use reader::Reply;

@@ -18,7 +18,7 @@ use Rattle.reader.specs.Row.{Numbered, on, sayings}
 use Rattle.reader.specs.Told.{Told}
 use Rattle.reader.specs.Answer.{answered, poured}
 use Rattle.reader.specs.Text.{is-full, ends-row, behind, next-number, Outcome, of-found, outcome}
-use Rattle.reader.specs.Along.{unread, Countable, Heard, Ran-out, Goes-along}
+use Rattle.reader.specs.Along.{unread, Countable, Heard, Ran-out}
 use Rattle.reader.proofs.Cutting.{at-LF-is, later-is, cut}
 use Rattle.reader.proofs.Reading.{full-keeps, outcome-finished, outcome-found}
 
@@ -188,6 +188,3 @@ unread-judged s text n said more e = go (s .finished) e
     go : (b : Bool) → (if b then [] else sayings (suc (s .line)) (lines (drop (s .position) text))) ≡ on n said ∷ more → (line : List ℕ) × (judge line ≡ said)
     go true e = let z : _≡_ {A = ℕ} 0 1 = cc in absurd (omega arith)
     go false e = first-judged (suc (s .line)) n (lines (drop (s .position) text)) said more e
-
-pub goes-along : Goes-along
-goes-along s text pool at small = (heard s text pool at small, ended s text pool at small)

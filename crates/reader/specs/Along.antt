@@ -12,7 +12,7 @@ use Rattle.reader.specs.Lines.{lines}
 use Rattle.reader.specs.Row.{Numbered, on, sayings}
 use Rattle.reader.specs.Told.{done}
 use Rattle.reader.specs.Answer.{answered, poured}
-use Rattle.reader.specs.Text.{is-full, ends-row, Outcome, outcome}
+use Rattle.reader.specs.Text.{is-full, ends-row, Outcome}
 
 -- what a state has still to read of a text
 unfoldable pub unread : State → List ℕ → List Numbered
@@ -40,10 +40,3 @@ pub record Ran-out (s : State) (text pool : List ℕ) (o : Outcome) : Type 0 whe
   pub options : o .state .options ≡ s .options
   pub left : unread (o .state) text ≡ []
   pub countable : Countable (o .state) text
-
--- a call with something left answers the first of it, and one with nothing left is told "done"
-abbrev pub Goes-along : Type 0
-Goes-along =
-    (s : State) (text pool : List ℕ) (at : ℕ) → Countable s text
-    → ((n : ℕ) (said : Said) (more : List Numbered) → unread s text ≡ on n said ∷ more → Heard s text pool at n said more (outcome s text pool at))
-    × (unread s text ≡ [] → Ran-out s text pool (outcome s text pool at))
