@@ -1,0 +1,80 @@
+-- The claims of `specs/Claims.antt` on bad marks and on the contracts, proved. Those on runs are proved in `Runs`.
+-- Assumes nothing.
+use Prim.Native.Nat.{ℕ, zero, suc, _≤_, _<_}
+use mathlib.Core.Path.{_≡_, refl, sym, _∙_}
+use mathlib.Core.Logic.{_⊎_, inl, inr}
+use mathlib.Core.Bool.{Bool, true, false, cond}
+use mathlib.Core.List.{[], _∷_}
+use native.Mathlib.Omega.{arith}
+use lib.Dec.{leb}
+use lib.ListN.{length, getD}
+use borrow.Author.Tests.{leb-true, leb-false}
+use Rattle.marks.specs.Marks.{mark-at, first-bad, Next}
+use Rattle.marks.specs.Claims.{Mark, First-bad, Bad-or-good, One-first-bad, Row-length-unique, First-bad-unique, Clear-unique, Mark-run-unique, Next-marked-unique, Next-unmarked-unique}
+
+-- ---- bad marks
+
+is-mark : (m : ℕ) → m ≤ 1 → Mark m
+is-mark zero h = inl refl
+is-mark (suc zero) h = inr refl
+is-mark (suc (suc m)) h = absurd (omega arith)
+
+no-mark : (m : ℕ) → 1 < m → ¬ Mark m
+no-mark m h (inl e) = omega arith
+no-mark m h (inr e) = omega arith
+
+pub bad-or-good : Bad-or-good
+unfolding first-bad mark-at
+bad-or-good [] = inr (refl, λ i. inl refl)
+bad-or-good (m ∷ marks) = go (leb m 1) refl (bad-or-good marks)
+  where
+    Found : ℕ → Type 0
+    Found r = First-bad (m ∷ marks) r ⊎ ((r ≡ length (m ∷ marks)) × ((i : ℕ) → Mark (getD (m ∷ marks) i 0)))
+
+    first : Mark m → (i : ℕ) → ((j : ℕ) → suc j ≡ i → Mark (getD marks j 0)) → Mark (getD (m ∷ marks) i 0)
+    first h zero f = h
+    first h (suc i) f = f i refl
+
+    go : (b : Bool) → leb m 1 ≡ b → First-bad marks (first-bad marks) ⊎ ((first-bad marks ≡ length marks) × ((i : ℕ) → Mark (getD marks i 0)))
+        → Found (cond b (suc (first-bad marks)) 0)
+    go true e (inl f) = inl (record { inside = omega (arith, f .inside); bad = f .bad; none-before = λ i k. first (is-mark m (leb-true m 1 e)) i (λ j u. f .none-before j (omega arith)) })
+    go true e (inr (f, g)) = inr (omega arith, λ i. first (is-mark m (leb-true m 1 e)) i (λ j u. g j))
+    go false e f = inl (record { inside = omega arith; bad = no-mark m (leb-false m 1 e); none-before = λ i k. absurd (omega arith) })
+
+-- neither of two numbers is the lesser
+equal : (p q : ℕ) → ¬ (p < q) → ¬ (q < p) → p ≡ q
+equal p q a b = omega arith
+
+pub one-first-bad : One-first-bad
+one-first-bad marks p q f g = equal p q (λ l. f .bad (g .none-before p l)) (λ l. g .bad (f .none-before q l))
+
+-- ---- no second answer
+
+pub row-length-unique : Row-length-unique
+row-length-unique places r r′ x y = x ∙ sym y
+
+pub first-bad-unique : First-bad-unique
+first-bad-unique marks r r′ x y = x ∙ sym y
+
+pub clear-unique : Clear-unique
+clear-unique marks m m′ x y = x ∙ sym y
+
+pub mark-run-unique : Mark-run-unique
+mark-run-unique marks from len m m′ x y = x ∙ sym y
+
+-- a search has one answer, where nothing is both passed and found
+no-later : (Passed Found : ℕ → Type 0) (places from r r′ : ℕ) → ((p : ℕ) → Passed p → Found p → ⊥) → Next Passed Found places from r → Next Passed Found places from r′ → ¬ (r < r′)
+no-later Passed Found places from r r′ apart x y l = go (x .there)
+  where
+    go : (r ≡ places) ⊎ ((from ≤ r) × Found r) → ⊥
+    go (inl e) = omega (arith, y .high)
+    go (inr (k, f)) = apart r (y .passed r k l) f
+
+next-unique : (Passed Found : ℕ → Type 0) (places from r r′ : ℕ) → ((p : ℕ) → Passed p → Found p → ⊥) → Next Passed Found places from r → Next Passed Found places from r′ → r ≡ r′
+next-unique Passed Found places from r r′ apart x y = equal r r′ (no-later Passed Found places from r r′ apart x y) (no-later Passed Found places from r′ r apart y x)
+
+pub next-marked-unique : Next-marked-unique
+next-marked-unique marks places from r r′ x y = next-unique _ _ places from r r′ (λ p u m. u m) x y
+
+pub next-unmarked-unique : Next-unmarked-unique
+next-unmarked-unique marks places from r r′ x y = next-unique _ _ places from r r′ (λ p m u. u m) x y

@@ -1,0 +1,62 @@
+-- `marks::clear` meets its contract: so many zeros, then what was there.
+-- Assumes nothing.
+use denote.Ref.{now}
+use mathlib.Core.Path.{_≡_, refl, ap, _∙_}
+use Prim.Native.Nat.{ℕ, _-_, _≤_, _<_}
+use mathlib.Core.List.{List, _++_, append-nil}
+use native.Mathlib.Omega.{arith}
+use lib.ListN.{length, set, drop, replicate, length-set, drop-of-length-le}
+use borrow.Author.Fill.{fill-more}
+use borrow.Author.Needs.{needs}
+use Rattle.marks.proofs.clear.Statement.{statement}
+use Rattle.marks.proofs.clear.Tie as tie
+
+abbrev Inv-loop : tie.InvT-loop
+Inv-loop marks₀ i₀ marks i = (marks ≡ replicate i 0 ++ drop i marks₀) × (i ≤ length marks₀) × (length marks ≡ length marks₀)
+
+abbrev μ-loop : tie.MeasureT-loop
+μ-loop marks₀ i₀ marks i = length marks₀ - i
+
+loop-holds : tie.Need-loop-holds Inv-loop μ-loop
+loop-holds c = (refl, omega arith, refl)
+
+slice-write-marks : tie.Need-slice-write-marks Inv-loop μ-loop
+slice-write-marks c = search needs
+
+add-i : tie.Need-add-i Inv-loop μ-loop
+add-i c = search needs
+
+loop-less : tie.Need-loop-less Inv-loop μ-loop
+loop-less c = search needs
+
+loop-again : tie.Need-loop-again Inv-loop μ-loop
+loop-again c =
+    let l = c .before .loop in
+    let m = now (c .before .before .args .marks) in
+    let h : l .i < length m = omega (arith, l .inv .2) in
+    (ap (λ (x : List ℕ). set x (l .i) 0) (l .inv .0) ∙ fill-more (l .i) 0 m h, omega arith, length-set (l .marks) (l .i) 0 ∙ l .inv .2)
+
+same-length : tie.Need-same-length Inv-loop μ-loop
+same-length c = search needs
+
+returns : tie.Need-returns Inv-loop μ-loop
+returns c =
+    let l = c .before .loop in
+    let m = now (c .before .before .args .marks) in
+    let e : l .i ≡ length m = omega (arith, l .inv .1, l .inv .2, c .loop-test .left) in
+    let n : length m ≤ length m = omega arith in
+    l .inv .0 ∙ rw (e, drop-of-length-le m n, append-nil)
+
+pub clear-spec : {M : Type 1} → statement M
+clear-spec =
+    tie.close
+    (tie.spec
+    Inv-loop
+    μ-loop
+    loop-holds
+    slice-write-marks
+    add-i
+    loop-less
+    loop-again
+    same-length
+    returns)

@@ -1,0 +1,81 @@
+-- `marks::mark_run` meets its contract: what is left of the run, on the row as it is, is all of it on the row as it was.
+-- Assumes nothing.
+use denote.Ref.{now}
+use Prim.Native.Nat.{_-_, _≤_, _<_}
+use mathlib.Core.Path.{_≡_, refl, sym, ap, _∙_}
+use native.Mathlib.Omega.{arith}
+use lib.ListN.{length, length-set}
+use borrow.Author.Needs.{needs}
+use Rattle.marks.specs.Marks.{marked-run}
+use Rattle.marks.proofs.Runs.{run-outside, run-cut, run-more, run-none}
+use Rattle.marks.proofs.mark_run.Statement.{statement}
+use Rattle.marks.proofs.mark_run.Tie as tie
+
+abbrev Inv-loop : tie.InvT-loop
+Inv-loop marks₀ from len end i₀ marks i =
+    (end ≤ length marks₀) × (length marks ≡ length marks₀) × (marked-run marks i (end - i) ≡ marked-run marks₀ from len)
+
+abbrev μ-loop : tie.MeasureT-loop
+μ-loop marks₀ from len end i₀ marks i = end - i
+
+returns : tie.Need-returns Inv-loop μ-loop
+returns c = let s = c .before .before .args in sym (run-outside (now (s .marks)) (s .from) (s .len) (c .if1 .taken))
+
+sub-least : tie.Need-sub-least Inv-loop μ-loop
+sub-least c = search needs
+
+least-requires : tie.Need-least-requires Inv-loop μ-loop
+least-requires c κs = search needs
+
+add-end : tie.Need-add-end Inv-loop μ-loop
+add-end c = search needs
+
+loop-holds : tie.Need-loop-holds Inv-loop μ-loop
+loop-holds c =
+    let s = c .before .before .before .args in
+    let m = now (s .marks) in
+    let h : s .from < length m = omega (arith, c .before .if1 .left) in (
+      omega (arith, c .least .ensures),
+      refl,
+      ap (marked-run m (s .from)) (omega (arith, c .least .ensures)) ∙ run-cut m (s .from) (s .len) h,
+    )
+
+slice-write-marks : tie.Need-slice-write-marks Inv-loop μ-loop
+slice-write-marks c = search needs
+
+add-i : tie.Need-add-i Inv-loop μ-loop
+add-i c = search needs
+
+loop-less : tie.Need-loop-less Inv-loop μ-loop
+loop-less c = search needs
+
+loop-again : tie.Need-loop-again Inv-loop μ-loop
+loop-again c =
+    let l = c .before .loop in
+    (l .inv .0, length-set (l .marks) (l .i) 1 ∙ l .inv .1, run-more (l .marks) (l .i) _ (c .loop-test .taken) ∙ l .inv .2)
+
+same-length : tie.Need-same-length Inv-loop μ-loop
+same-length c = search needs
+
+returns-2 : tie.Need-returns-2 Inv-loop μ-loop
+returns-2 c =
+    let l = c .before .loop in
+    sym (run-none (l .marks) (l .i) _ (c .loop-test .left)) ∙ l .inv .2
+
+pub mark-run-spec : {M : Type 1} → statement M
+mark-run-spec =
+    tie.close
+    (tie.spec
+    Inv-loop
+    μ-loop
+    returns
+    sub-least
+    least-requires
+    add-end
+    loop-holds
+    slice-write-marks
+    add-i
+    loop-less
+    loop-again
+    same-length
+    returns-2)

@@ -1,0 +1,51 @@
+-- A row of marks, a byte for each place: 1 where the place is marked, and 0 where it is not.
+-- Assumes nothing.
+use Prim.Native.Nat.{ℕ, zero, suc, _≤_, _<_}
+use mathlib.Core.Path.{_≡_}
+use mathlib.Core.Logic.{_≢_, _⊎_}
+use mathlib.Core.Bool.{cond}
+use mathlib.Core.List.{List, [], _∷_}
+use lib.Dec.{leb}
+use lib.ListN.{getD, set}
+
+-- ---- what a row says
+
+-- how many bytes the row of so many places has
+unfoldable pub row-length : (places : ℕ) → ℕ
+row-length places = places
+
+-- the mark at a place; outside the row it is 0
+unfoldable pub mark-at : (marks : List ℕ) (place : ℕ) → ℕ
+mark-at marks place = getD marks place 0
+
+abbrev pub Marked : (marks : List ℕ) (place : ℕ) → Type 0
+Marked marks place = mark-at marks place ≡ 1
+
+abbrev pub Unmarked : (marks : List ℕ) (place : ℕ) → Type 0
+Unmarked marks place = mark-at marks place ≢ 1
+
+-- the first place whose mark is neither 0 nor 1, or the length of the row
+unfoldable pub first-bad : (marks : List ℕ) → ℕ
+first-bad [] = 0
+first-bad (m ∷ marks) = cond (leb m 1) (suc (first-bad marks)) 0
+
+-- ---- the row with a run of places marked
+
+-- one place after the other; a place outside the row changes nothing
+unfoldable pub marked-run : (marks : List ℕ) (from len : ℕ) → List ℕ
+marked-run marks from zero = marks
+marked-run marks from (suc len) = marked-run (set marks from 1) (suc from) len
+
+-- ---- the contracts of the searches
+
+-- from a place on others are passed, up to the first that is found, or to the number of places
+pub record Next (Passed Found : ℕ → Type 0) (places from r : ℕ) : Type 0 where
+  pub high : r ≤ places
+  pub passed : (p : ℕ) → from ≤ p → p < r → Passed p
+  pub there : (r ≡ places) ⊎ ((from ≤ r) × Found r)
+
+abbrev pub NextMarked : (marks : List ℕ) (places from r : ℕ) → Type 0
+NextMarked marks = Next (Unmarked marks) (Marked marks)
+
+abbrev pub NextUnmarked : (marks : List ℕ) (places from r : ℕ) → Type 0
+NextUnmarked marks = Next (Marked marks) (Unmarked marks)

@@ -1,0 +1,92 @@
+// A row of marks, a byte for each place: 1 where the place is marked, and 0 where it is not.
+ghost use mathlib.Core.Path.{_≡_};
+ghost use Prim.Native.Nat.{min};
+ghost use lib.ListN.{length, replicate};
+ghost use Rattle.marks.specs.Marks.{row-length, first-bad, marked-run, NextMarked, NextUnmarked};
+
+// How many bytes the row of so many places has.
+pub fn row_length(places: usize) -> usize
+    ensures { λ r. ⌜ r ≡ row-length places ⌝ }
+{
+    places
+}
+
+// The first place whose mark is neither 0 nor 1, or the length of the row.
+pub fn first_bad(marks: &[u8]) -> usize
+    ensures { λ r. ⌜ r ≡ first-bad (now (marks .entry)) ⌝ }
+{
+    let mut i = 0;
+    while i < marks.len() {
+        if marks[i] > 1 {
+            return i;
+        }
+        i += 1;
+    }
+    i
+}
+
+// Takes every mark away.
+pub fn clear(marks: &mut [u8])
+    ensures { λ _. ⌜ now (marks .exit) ≡ replicate (length (now (marks .entry))) 0 ⌝ }
+{
+    let mut i = 0;
+    while i < marks.len() {
+        marks[i] = 0;
+        i += 1;
+    }
+}
+
+// The lesser of two.
+fn least(a: usize, b: usize) -> usize
+    ensures { λ r. ⌜ r ≡ min a b ⌝ }
+{
+    if a < b {
+        return a;
+    }
+    b
+}
+
+// Marks `len` places from a place on. Outside the row nothing changes.
+pub fn mark_run(marks: &mut [u8], from: usize, len: usize)
+    ensures { λ _. ⌜ now (marks .exit) ≡ marked-run (now (marks .entry)) from len ⌝ }
+{
+    if marks.len() <= from {
+        return;
+    }
+    let end = from + least(len, marks.len() - from);
+    let mut i = from;
+    while i < end {
+        marks[i] = 1;
+        i += 1;
+    }
+}
+
+// The first marked place from a place on, or the number of places if there is none. No place outside the row is marked.
+pub fn next_marked(marks: &[u8], places: usize, from: usize) -> usize
+    ensures { λ r. ⌜ NextMarked (now (marks .entry)) places from r ⌝ }
+{
+    let end = least(places, marks.len());
+    let mut i = from;
+    while i < end {
+        if marks[i] == 1 {
+            return i;
+        }
+        i += 1;
+    }
+    places
+}
+
+// The first place without a mark from a place on, or the number of places if there is none.
+pub fn next_unmarked(marks: &[u8], places: usize, from: usize) -> usize
+    ensures { λ r. ⌜ NextUnmarked (now (marks .entry)) places from r ⌝ }
+{
+    let end = least(places, marks.len());
+    let mut i = from;
+    while i < end {
+        if marks[i] != 1 {
+            return i;
+        }
+        i += 1;
+    }
+    least(places, i)
+}
