@@ -66,9 +66,9 @@ mark-run-unique marks from len m m′ x y = x ∙ sym y
 no-later : (Passed Found : ℕ → Type 0) (places from r r′ : ℕ) → ((p : ℕ) → Passed p → Found p → ⊥) → Next Passed Found places from r → Next Passed Found places from r′ → ¬ (r < r′)
 no-later Passed Found places from r r′ apart x y l = go (x .there)
   where
-    go : (r ≡ places) ⊎ ((from ≤ r) × Found r) → ⊥
-    go (inl e) = omega (arith, y .high)
-    go (inr (k, f)) = apart r (y .passed r k l) f
+    go : (places ≤ r) ⊎ Found r → ⊥
+    go (inl e) = omega (arith, x .low, y .high)
+    go (inr f) = apart r (y .passed r (x .low) l) f
 
 next-unique : (Passed Found : ℕ → Type 0) (places from r r′ : ℕ) → ((p : ℕ) → Passed p → Found p → ⊥) → Next Passed Found places from r → Next Passed Found places from r′ → r ≡ r′
 next-unique Passed Found places from r r′ apart x y = equal r r′ (no-later Passed Found places from r r′ apart x y) (no-later Passed Found places from r′ r apart y x)
