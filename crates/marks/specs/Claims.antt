@@ -63,9 +63,12 @@ pub record First-bad (marks : List ℕ) (place : ℕ) : Type 0 where
   pub bad : ¬ Mark (mark-at marks place)
   pub none-before : (i : ℕ) → i < place → Mark (mark-at marks i)
 
--- `first-bad` is such a place, or every mark is good
-abbrev pub Bad-or-good : Type 0
-Bad-or-good = (marks : List ℕ) → First-bad marks (first-bad marks) ⊎ ((first-bad marks ≡ length marks) × All-good marks)
+-- `first-bad` is such a place where it lies in the row, and else every mark is good
+abbrev pub Bad-found : Type 0
+Bad-found = (marks : List ℕ) → first-bad marks < length marks → First-bad marks (first-bad marks)
+
+abbrev pub None-bad : Type 0
+None-bad = (marks : List ℕ) → length marks ≤ first-bad marks → All-good marks
 
 abbrev pub One-first-bad : Type 0
 One-first-bad = (marks : List ℕ) (p q : ℕ) → First-bad marks p → First-bad marks q → p ≡ q
