@@ -29,7 +29,7 @@ returns : tie.Need-returns Inv-loop μ-loop
 returns c =
     let s = c .before .before .before .before .before .before .args in
     let l = c .before .before .before .loop in
-    found-unmarked (now (s .marks)) (s .places) (s .from) _ (l .i) (l .inv .0) (l .inv .1) (c .before .before .loop-test .taken) (l .inv .3) (c .if1 .taken)
+    found-unmarked (now (s .marks)) (s .places) (s .from) _ (l .i) (l .inv .0) (l .inv .1) (c .before .before .loop-test .taken) (l .inv .3) (λ e. omega (arith, c .if1 .taken, e))
 
 add-i : tie.Need-add-i Inv-loop μ-loop
 add-i c = search needs
@@ -41,7 +41,7 @@ loop-again : tie.Need-loop-again Inv-loop μ-loop
 loop-again c =
     let s = c .before .before .before .before .before .before .args in
     let l = c .before .before .before .loop in
-    (l .inv .0, omega (arith, l .inv .1), omega (arith, c .before .before .loop-test .taken), one-more (λ j. getD (now (s .marks)) j 0 ≡ 1) (s .from) (l .i) (l .inv .3) (c .if1 .left))
+    (l .inv .0, omega (arith, l .inv .1), omega (arith, c .before .before .loop-test .taken), one-more (λ j. getD (now (s .marks)) j 0 ≡ 1) (s .from) (l .i) (l .inv .3) (omega (arith, c .if1 .left)))
 
 returns-2 : tie.Need-returns-2 Inv-loop μ-loop
 returns-2 c =
