@@ -1,6 +1,6 @@
 -- What the private functions of the page writer promise each other.
 -- Assumes nothing.
-use Prim.Native.Nat.{ℕ, _+_, _%_, _^_, _≤_, _<_}
+use Prim.Native.Nat.{ℕ, _+_, _-_, _%_, _^_, _≤_, _<_, min}
 use mathlib.Core.Path.{_≡_}
 use mathlib.Core.Logic.{_≢_, _⊎_}
 use mathlib.Core.Bool.{false}
@@ -30,21 +30,11 @@ use Rattle.page.specs.Told.{refusal-of, told}
 
 -- ---- places
 
--- the lesser of two
-pub record Least (a b r : ℕ) : Type 0 where
-  pub under-a : r ≤ a
-  pub under-b : r ≤ b
-  pub one : (r ≡ a) ⊎ (r ≡ b)
+-- how far a piece from a place on may reach: 16 places, the next multiple of 65,536 or the end, whichever is nearest
+abbrev pub reach : (address place end : ℕ) → ℕ
+reach address place end = place + min (min 16 (65536 - address % 65536)) (end - place)
 
--- how far a piece may reach
-pub record Farthest (address place end r : ℕ) : Type 0 where
-  pub more : place < r
-  pub inside : r ≤ end
-  pub few : r ≤ place + 16
-  pub unbroken : address % 65536 + r ≤ place + 65536
-  pub no-less : (r ≡ end) ⊎ ((r ≡ place + 16) ⊎ (address % 65536 + r ≡ place + 65536))
-
--- the place behind the piece that starts at a place: it may reach there, all behind its first place is marked, and there it has to end
+-- the place after the piece that starts at a place: it may reach there, all after its first place is marked, and there it has to end
 pub record PieceEnd (flags : List ℕ) (first start r : ℕ) : Type 0 where
   pub more : start < r
   pub inside : r ≤ length flags

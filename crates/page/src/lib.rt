@@ -4,13 +4,13 @@ use writer::Survey;
 use writer::Written;
 ghost use mathlib.Core.Path.{_≡_};
 ghost use mathlib.Core.Bool.{false};
-ghost use Prim.Native.Nat.{_+_, _^_, _≤_, _<_};
+ghost use Prim.Native.Nat.{_+_, _^_, _≤_, _<_, min};
 ghost use lib.ListN.{length};
 ghost use Rattle.marks.specs.Marks.{flags};
 ghost use Rattle.writer.specs.Claims.{Surveys, Steps};
 ghost use Rattle.page.specs.File.{page-records};
 ghost use Rattle.page.specs.Told.{PageFileLength, WritePage};
-ghost use Rattle.page.specs.Helpers.{Least, Farthest, PieceEnd, Under-way, Stepped, Surveyed-as, May-be-full, As-written};
+ghost use Rattle.page.specs.Helpers.{reach, PieceEnd, Under-way, Stepped, Surveyed-as, May-be-full, As-written};
 
 // The largest number of a `usize`.
 const MOST: usize = 18446744073709551615;
@@ -55,7 +55,7 @@ enum Surveyed {
 
 // The lesser of two.
 fn least(a: usize, b: usize) -> usize
-    ensures { λ r. ⌜ Least a b r ⌝ }
+    ensures { λ r. ⌜ r ≡ min a b ⌝ }
 {
     if a < b {
         return a;
@@ -66,7 +66,7 @@ fn least(a: usize, b: usize) -> usize
 // How far a piece from a place on may reach: 16 places, the next multiple of 65,536 or the end, whichever is nearest.
 fn farthest(address: u32, place: usize, end: usize) -> usize
     requires { ⌜ place < end ⌝ }
-    ensures { λ r. ⌜ Farthest address place end r ⌝ }
+    ensures { λ r. ⌜ r ≡ reach address place end ⌝ }
 {
     let room = 65536 - (address % 65536) as usize;
     place + least(least(16, room), end - place)

@@ -2,7 +2,6 @@
 -- Assumes nothing.
 use native.Mathlib.Omega.{arith}
 use borrow.Author.Needs.{needs}
-use Rattle.page.proofs.Marks.{reaches}
 use Rattle.page.proofs.farthest.Statement.{statement}
 use Rattle.page.proofs.farthest.Tie as tie
 
@@ -22,10 +21,10 @@ least-requires-2 : tie.Need-least-requires-2
 least-requires-2 c κs = search needs
 
 add-result : tie.Need-add-result
-add-result c = omega (arith, c .before .before .pre, c .least2 .ensures .under-b, c .before .before .good .1 .1 .0)
+add-result c = omega (arith, c .before .before .pre, c .least2 .ensures, c .before .before .good .1 .1 .0)
 
 returns : tie.Need-returns
-returns c = let s = c .before .before in reaches (s .args .address) (s .args .place) (s .args .end) (c .before .least .result) (c .least2 .result) (s .pre) (c .before .least .ensures) (c .least2 .ensures)
+returns c = omega (arith, c .least2 .ensures, c .before .least .ensures)
 
 pub farthest-spec : {M : Type 1} → statement M
 farthest-spec = tie.close (tie.spec cast-room sub-room least-requires sub-least least-requires-2 add-result returns)

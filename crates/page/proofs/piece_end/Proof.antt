@@ -24,8 +24,9 @@ next-unmarked-requires c κs = search needs
 
 returns : tie.Need-returns
 returns c =
-    let a = c .before .before .before .args in
-    piece-ends (now (a .marks)) (a .places) (a .first) (a .start) _ _ (c .before .farthest .ensures) (c .next-unmarked .ensures)
+    let s = c .before .before .before in
+    let a = s .args in
+    piece-ends (now (a .marks)) (a .places) (a .first) (a .start) _ _ (s .pre .0) (c .before .farthest .ensures) (c .next-unmarked .ensures)
 
 pub piece-end-spec : {M : Type 1} → statement M
 piece-end-spec = tie.close (tie.spec cast-farthest add-farthest farthest-requires add-next-unmarked next-unmarked-requires returns)
