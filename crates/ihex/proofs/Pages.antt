@@ -10,6 +10,7 @@ use native.Mathlib.Omega.{arith}
 use lib.Dec.{leb}
 use lib.ListN.{length, take}
 use borrow.Author.Tests.{leb-false}
+use Rattle.marks.specs.Marks.{first-bad}
 use Rattle.record.specs.Common.{if_then_else_}
 use Rattle.record.specs.Refusals.{output-full}
 use Rattle.record.proofs.Tests.{branch}
@@ -19,7 +20,7 @@ use Rattle.loader.specs.Load.{Verdict, load}
 use Rattle.page.specs.declared.PageError.the-variants.{BadWindow, BadMark, OutputFull}
 use Rattle.page.specs.declared.Paged.{Paged}
 use Rattle.page.specs.declared.Paged.the-variants.{Wrote, Refused}
-use Rattle.page.specs.File.{file, good-marks, page-text}
+use Rattle.page.specs.File.{file, page-text}
 use Rattle.page.specs.Told.{told, WritePage}
 use Rattle.page.specs.Claims.{Why}
 use Rattle.page.proofs.Calls.{restores-so, loaded-back, equal-answers, length-of-lengths}
@@ -49,14 +50,14 @@ page-loads-back first page marks out n out′ old-page old-marks r l a b page′
 paged : (first : ℕ) (page marks : List ℕ) (room : ℕ) → (r : Paged) × (told r ≡ if-room (place-behind (page-text first page marks) 0) room)
 paged first page marks room =
     text-cases first page marks (λ t. (r : Paged) × (told r ≡ if-room (place-behind t 0) room))
-    (λ w. (Refused BadWindow, refl)) (λ w f. (Refused (BadMark (good-marks marks)), refl))
+    (λ w. (Refused BadWindow, refl)) (λ w f. (Refused (BadMark (first-bad marks)), refl))
     (λ p. branch (λ (t : Told). (r : Paged) × (told r ≡ t)) (leb (0 + length (file first page marks)) room) _ _
     (λ e. (Wrote (0 + length (file first page marks)), refl)) (λ e. (Refused OutputFull, refl)))
 
 measured : (first : ℕ) (page marks : List ℕ) → (r : Paged) × (told r ≡ place-behind (page-text first page marks) 0)
 measured first page marks =
     text-cases first page marks (λ t. (r : Paged) × (told r ≡ place-behind t 0))
-    (λ w. (Refused BadWindow, refl)) (λ w f. (Refused (BadMark (good-marks marks)), refl)) (λ p. (Wrote (0 + length (file first page marks)), refl))
+    (λ w. (Refused BadWindow, refl)) (λ w f. (Refused (BadMark (first-bad marks)), refl)) (λ p. (Wrote (0 + length (file first page marks)), refl))
 
 -- ---- the claims of `specs/Pages.antt`
 
@@ -72,9 +73,7 @@ pub ihex-page-room : Ihex-page-room
 ihex-page-room first page marks v x =
     text-cases first page marks (λ t. OK ≡ writing (some (place-behind t 0)) .code → v ≡ value (writing (some (place-behind t 0))) 0 → (v ≤ 7 * length page + 58) × (v ≤ 458810))
     (λ w c e. absurd (omega (arith, c))) (λ w f c e. absurd (omega (arith, c)))
-    (λ p c e.
-    let most : length (file first page marks) ≤ 7 * length marks + 58 = room first page marks (p .window) in
-    (omega (arith, e, most, p .window .even), omega (arith, e, most, p .window .even, p .window .small)))
+    (λ p c e. let most = room first page marks (p .window) in (omega (arith, e, most), omega (arith, e, most, p .window .small)))
     (x .code-is) (x .value-is)
 
 pub ihex-length-of-lengths : Ihex-length-of-lengths

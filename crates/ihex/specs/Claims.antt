@@ -6,6 +6,7 @@ use mathlib.Core.Option.{none, some}
 use mathlib.Core.List.{List, [], _∷_, _++_}
 use lib.ListN.{length, take}
 use Rattle.checksum.specs.Claims.{Checksum-unique}
+use Rattle.marks.specs.Marks.{flags}
 use Rattle.record.specs.Common.{Every, Byte}
 use Rattle.record.specs.declared.Record.the-variants.{Data, EndOfFile, StartSegmentAddress, StartLinearAddress}
 use Rattle.reader.specs.declared.State.{State}
@@ -101,7 +102,7 @@ Page-loads-back =
     (first : ℕ) (page marks out : List ℕ) (n : ℕ) (out′ old-page old-marks : List ℕ) (r l a b : ℕ) (page′ marks′ : List ℕ)
     → Every Byte page → length old-page ≡ length page → length old-marks ≡ length marks
     → IhexWritePage first page marks out 0 n out′ → IhexLoad (take n out′) first old-page old-marks r l a b page′ marks′
-    → let k = length (pieces first 0 none marks) in
+    → let k = length (pieces first 0 none (flags (length page) marks)) in
     (r ≡ 0) × (a ≡ k) × Restores page marks old-page (record { answer = accepted (record { records = k }); page = page′; marks = marks′ })
 
 -- ---- examples of a list in bytes

@@ -5,6 +5,7 @@ use mathlib.Core.Path.{_≡_}
 use mathlib.Core.Logic.{_⊎_}
 use mathlib.Core.List.{List}
 use lib.ListN.{length, getD}
+use Rattle.marks.specs.Marks.{Marked}
 use Rattle.record.specs.Refusals.{output-full}
 use Rattle.page.specs.Claims.{Why}
 use Rattle.ihex.specs.Codes.{OK, refused-with}
@@ -43,6 +44,6 @@ Ihex-length-of-lengths =
 abbrev pub Ihex-unmarked-bytes : Type 0
 Ihex-unmarked-bytes =
     (first : ℕ) (page₁ page₂ marks out : List ℕ) (r₁ v₁ : ℕ) (o₁ : List ℕ) (r₂ v₂ : ℕ) (o₂ : List ℕ) → length page₁ ≡ length page₂
-    → ((i : ℕ) → getD marks i 0 ≡ 1 → getD page₁ i 0 ≡ getD page₂ i 0)
+    → ((i : ℕ) → Marked marks i → getD page₁ i 0 ≡ getD page₂ i 0)
     → IhexWritePage first page₁ marks out r₁ v₁ o₁ → IhexWritePage first page₂ marks out r₂ v₂ o₂
     → (r₁ ≡ r₂) × (v₁ ≡ v₂) × (o₁ ≡ o₂)

@@ -4,13 +4,13 @@ use Prim.Native.Nat.{ℕ, zero, suc, _≤_, _<_}
 use mathlib.Core.Path.{_≡_, refl, sym, _∙_}
 use mathlib.Core.Logic.{_⊎_, inl, inr}
 use mathlib.Core.Bool.{Bool, true, false, cond}
-use mathlib.Core.List.{[], _∷_}
+use mathlib.Core.List.{List, [], _∷_}
 use native.Mathlib.Omega.{arith}
 use lib.Dec.{leb}
 use lib.ListN.{length, getD}
 use borrow.Author.Tests.{leb-true, leb-false}
 use Rattle.marks.specs.Marks.{mark-at, first-bad, Next}
-use Rattle.marks.specs.Claims.{Mark, First-bad, Bad-or-good, One-first-bad, Row-length-unique, First-bad-unique, Clear-unique, Mark-run-unique, Next-marked-unique, Next-unmarked-unique}
+use Rattle.marks.specs.Claims.{Mark, First-bad, Bad-found, None-bad, One-first-bad, Row-length-unique, First-bad-unique, Clear-unique, Mark-run-unique, Next-marked-unique, Next-unmarked-unique}
 
 -- ---- bad marks
 
@@ -23,23 +23,31 @@ no-mark : (m : ℕ) → 1 < m → ¬ Mark m
 no-mark m h (inl e) = omega arith
 no-mark m h (inr e) = omega arith
 
-pub bad-or-good : Bad-or-good
+-- a good mark before others
+one-more-good : (m : ℕ) (marks : List ℕ) (i : ℕ) → Mark m → ((j : ℕ) → suc j ≡ i → Mark (getD marks j 0)) → Mark (getD (m ∷ marks) i 0)
+one-more-good m marks zero h f = h
+one-more-good m marks (suc i) h f = f i refl
+
+pub bad-found : Bad-found
 unfolding first-bad mark-at
-bad-or-good [] = inr (refl, λ i. inl refl)
-bad-or-good (m ∷ marks) = go (leb m 1) refl (bad-or-good marks)
+bad-found [] h = absurd (omega arith)
+bad-found (m ∷ marks) h = go (leb m 1) refl h (bad-found marks)
   where
-    Found : ℕ → Type 0
-    Found r = First-bad (m ∷ marks) r ⊎ ((r ≡ length (m ∷ marks)) × ((i : ℕ) → Mark (getD (m ∷ marks) i 0)))
+    go : (b : Bool) → leb m 1 ≡ b → cond b (suc (first-bad marks)) 0 < length (m ∷ marks) → (first-bad marks < length marks → First-bad marks (first-bad marks))
+        → First-bad (m ∷ marks) (cond b (suc (first-bad marks)) 0)
+    go true e h later =
+        let f = later (omega arith) in
+        record { inside = omega (arith, f .inside); bad = f .bad; none-before = λ i k. one-more-good m marks i (is-mark m (leb-true m 1 e)) (λ j u. f .none-before j (omega arith)) }
+    go false e h later = record { inside = h; bad = no-mark m (leb-false m 1 e); none-before = λ i k. absurd (omega arith) }
 
-    first : Mark m → (i : ℕ) → ((j : ℕ) → suc j ≡ i → Mark (getD marks j 0)) → Mark (getD (m ∷ marks) i 0)
-    first h zero f = h
-    first h (suc i) f = f i refl
-
-    go : (b : Bool) → leb m 1 ≡ b → First-bad marks (first-bad marks) ⊎ ((first-bad marks ≡ length marks) × ((i : ℕ) → Mark (getD marks i 0)))
-        → Found (cond b (suc (first-bad marks)) 0)
-    go true e (inl f) = inl (record { inside = omega (arith, f .inside); bad = f .bad; none-before = λ i k. first (is-mark m (leb-true m 1 e)) i (λ j u. f .none-before j (omega arith)) })
-    go true e (inr (f, g)) = inr (omega arith, λ i. first (is-mark m (leb-true m 1 e)) i (λ j u. g j))
-    go false e f = inl (record { inside = omega arith; bad = no-mark m (leb-false m 1 e); none-before = λ i k. absurd (omega arith) })
+pub none-bad : None-bad
+unfolding first-bad mark-at
+none-bad [] h i = inl refl
+none-bad (m ∷ marks) h i = go (leb m 1) refl h (none-bad marks)
+  where
+    go : (b : Bool) → leb m 1 ≡ b → length (m ∷ marks) ≤ cond b (suc (first-bad marks)) 0 → (length marks ≤ first-bad marks → (j : ℕ) → Mark (getD marks j 0)) → Mark (getD (m ∷ marks) i 0)
+    go true e h later = one-more-good m marks i (is-mark m (leb-true m 1 e)) (λ j u. later (omega arith) j)
+    go false e h later = absurd (omega arith)
 
 -- neither of two numbers is the lesser
 equal : (p q : ℕ) → ¬ (p < q) → ¬ (q < p) → p ≡ q
@@ -66,9 +74,9 @@ mark-run-unique marks from len m m′ x y = x ∙ sym y
 no-later : (Passed Found : ℕ → Type 0) (places from r r′ : ℕ) → ((p : ℕ) → Passed p → Found p → ⊥) → Next Passed Found places from r → Next Passed Found places from r′ → ¬ (r < r′)
 no-later Passed Found places from r r′ apart x y l = go (x .there)
   where
-    go : (r ≡ places) ⊎ ((from ≤ r) × Found r) → ⊥
-    go (inl e) = omega (arith, y .high)
-    go (inr (k, f)) = apart r (y .passed r k l) f
+    go : (places ≤ r) ⊎ Found r → ⊥
+    go (inl e) = omega (arith, x .low, y .high)
+    go (inr f) = apart r (y .passed r (x .low) l) f
 
 next-unique : (Passed Found : ℕ → Type 0) (places from r r′ : ℕ) → ((p : ℕ) → Passed p → Found p → ⊥) → Next Passed Found places from r → Next Passed Found places from r′ → r ≡ r′
 next-unique Passed Found places from r r′ apart x y = equal r r′ (no-later Passed Found places from r r′ apart x y) (no-later Passed Found places from r′ r apart y x)

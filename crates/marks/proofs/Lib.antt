@@ -1,3 +1,4 @@
 pub mod Places
+pub mod Flags
 pub mod Runs
 pub mod Claims

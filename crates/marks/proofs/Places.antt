@@ -1,7 +1,7 @@
 -- Laws of a walk along a row: what lies between two places, where a search ends, and the first bad mark.
 -- Assumes nothing.
-use Prim.Native.Nat.{ℕ, zero, suc, _+_, _≤_, _<_, min}
-use mathlib.Core.Path.{_≡_, refl, sym, ap, subst, _∙_}
+use Prim.Native.Nat.{ℕ, zero, suc, _+_, _≤_, _<_, min, max}
+use mathlib.Core.Path.{_≡_, sym, ap, subst, _∙_}
 use mathlib.Core.Logic.{_≢_, _⊎_, inl, inr}
 use mathlib.Core.List.{List, [], _∷_}
 use native.Mathlib.Omega.{arith}
@@ -39,23 +39,21 @@ first-bad-is (m ∷ marks) (suc r) l h e =
 
 -- ---- where a search ends
 
-module _ (marks : List ℕ) (places from end i : ℕ) (e : end ≡ min places (length marks)) where
-  pub found-marked : i < end → from ≤ i → ((j : ℕ) → from ≤ j → j < i → getD marks j 0 ≢ 1) → getD marks i 0 ≡ 1 → NextMarked marks places from i
+module _ (marks : List ℕ) (places from end i : ℕ) (e : end ≡ min places (length marks)) (low : from ≤ i) where
+  pub found-marked : i < end → ((j : ℕ) → from ≤ j → j < i → getD marks j 0 ≢ 1) → getD marks i 0 ≡ 1 → NextMarked marks places from i
   unfolding mark-at
-  found-marked l k h m = record { high = omega arith; passed = h; there = inr (k, m) }
+  found-marked l h m = record { low = low; high = omega arith; passed = h; there = inr m }
+
+  pub found-unmarked : i < end → ((j : ℕ) → from ≤ j → j < i → getD marks j 0 ≡ 1) → getD marks i 0 ≢ 1 → NextUnmarked marks places from i
+  unfolding mark-at
+  found-unmarked l h m = record { low = low; high = omega arith; passed = h; there = inr m }
 
   -- from the end on all lies outside
-  pub none-marked : end ≤ i → ((j : ℕ) → from ≤ j → j < i → getD marks j 0 ≢ 1) → NextMarked marks places from places
+  pub none-marked : end ≤ i → ((j : ℕ) → from ≤ j → j < i → getD marks j 0 ≢ 1) → i ≤ max from end → NextMarked marks places from (max i places)
   unfolding mark-at
-  none-marked l h = record { high = omega arith; passed = λ j a b. split i j (λ u. outside marks j (omega arith)) (λ u. h j a u); there = inl refl }
+  none-marked l h k =
+      record { low = omega arith; high = omega arith; passed = λ j a b. split i j (λ u. outside marks j (omega arith)) (λ u. h j a u); there = inl (omega arith) }
 
-  pub found-unmarked : i < end → from ≤ i → ((j : ℕ) → from ≤ j → j < i → getD marks j 0 ≡ 1) → getD marks i 0 ≢ 1 → NextUnmarked marks places from i
+  pub all-marked : end ≤ i → ((j : ℕ) → from ≤ j → j < i → getD marks j 0 ≡ 1) → i ≤ max from end → NextUnmarked marks places from i
   unfolding mark-at
-  found-unmarked l k h m = record { high = omega arith; passed = h; there = inr (k, m) }
-
-  pub all-marked : end ≤ i → from ≤ i → ((j : ℕ) → from ≤ j → j < i → getD marks j 0 ≡ 1) → NextUnmarked marks places from (min places i)
-  unfolding mark-at
-  all-marked l k h =
-      split places i
-      (λ u. let m : min places i ≡ places = omega arith in rw m (record { high = omega arith; passed = λ j a b. h j a (omega arith); there = inl refl }))
-      (λ u. let m : min places i ≡ i = omega arith in rw m (record { high = omega arith; passed = h; there = inr (k, outside marks i (omega arith)) }))
+  all-marked l h k = record { low = low; high = omega arith; passed = h; there = split places i (λ u. inl u) (λ u. inr (outside marks i (omega arith))) }

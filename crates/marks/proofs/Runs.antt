@@ -3,10 +3,10 @@
 use Prim.Native.Nat.{ℕ, zero, suc, _+_, _-_, _≤_, _<_, min}
 use mathlib.Core.Path.{_≡_, refl, sym, ap, _∙_}
 use mathlib.Core.Logic.{_⊎_, inl, inr}
-use mathlib.Core.List.{List, [], _∷_}
+use mathlib.Core.List.{List}
 use native.Mathlib.Omega.{arith}
 use lib.ListN.{length, getD, set, length-set}
-use lib.Seq.{set-out, getD-set-same, getD-set-other}
+use lib.Seq.{ext-getD, set-out, getD-set-same, getD-set-other}
 use Rattle.marks.specs.Marks.{mark-at, marked-run}
 use Rattle.marks.specs.Claims.{Run-made-so, Run-only-so, Run-outside, Run-in-two}
 use Rattle.marks.proofs.Places.{split}
@@ -66,19 +66,10 @@ run-cut marks from len h =
     let f : n + (len - n) ≡ len = omega arith in
     rw e (sym (run-outside (marked-run marks from n) (from + n) (len - n) (omega (arith, run-length marks from n))) ∙ sym (run-in-two marks from n (len - n)) ∙ ap (marked-run marks from) f))
 
--- equal lists, place by place
-same-places : (l m : List ℕ) → length l ≡ length m → ((i : ℕ) → i < length l → getD l i 0 ≡ getD m i 0) → l ≡ m
-same-places [] [] e h = refl
-same-places [] (y ∷ m) e h = absurd (omega arith)
-same-places (x ∷ l) [] e h = absurd (omega arith)
-same-places (x ∷ l) (y ∷ m) e h =
-    let k : x ≡ y = h 0 (omega arith) in
-    rw k (ap (λ (t : List ℕ). y ∷ t) (same-places l m (omega arith) (λ i u. h (suc i) (omega arith))))
-
 pub run-only-so : Run-only-so
 unfolding mark-at
 run-only-so marks from len marks′ r =
-    same-places marks′ (marked-run marks from len) (r .same-length ∙ sym (run-length marks from len))
+    ext-getD 0 marks′ (marked-run marks from len) (r .same-length ∙ sym (run-length marks from len))
     (λ i u. split (from + len) i
     (λ l. r .elsewhere i (inr l) ∙ sym (run-elsewhere marks from len i (inr l)))
     (λ l. split from i

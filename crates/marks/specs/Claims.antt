@@ -4,8 +4,26 @@ use Prim.Native.Nat.{ℕ, _+_, _≤_, _<_}
 use mathlib.Core.Path.{_≡_}
 use mathlib.Core.Logic.{_⊎_}
 use mathlib.Core.List.{List}
-use lib.ListN.{length, replicate}
-use Rattle.marks.specs.Marks.{row-length, mark-at, first-bad, marked-run, NextMarked, NextUnmarked}
+use lib.ListN.{length, getD, replicate}
+use Rattle.marks.specs.Marks.{row-length, mark-at, flags, first-bad, marked-run, NextMarked, NextUnmarked}
+
+-- ---- the marks of places, as a list
+
+-- a list that has a number for each place, and at each place its mark
+pub record Flags-of (places : ℕ) (marks list : List ℕ) : Type 0 where
+  pub as-many : length list ≡ places
+  pub say : (p : ℕ) → p < places → getD list p 0 ≡ mark-at marks p
+
+-- `flags` is such, and nothing else is
+abbrev pub Flags-made-so : Type 0
+Flags-made-so = (places : ℕ) (marks : List ℕ) → Flags-of places marks (flags places marks)
+
+abbrev pub Flags-only-so : Type 0
+Flags-only-so = (places : ℕ) (marks list : List ℕ) → Flags-of places marks list → list ≡ flags places marks
+
+-- a row says for its own places what it holds
+abbrev pub Whole-row : Type 0
+Whole-row = (places : ℕ) (marks : List ℕ) → length marks ≡ row-length places → flags places marks ≡ marks
 
 -- ---- a run of places
 
@@ -36,15 +54,21 @@ Run-in-two = (marks : List ℕ) (from n m : ℕ) → marked-run marks from (n + 
 abbrev pub Mark : ℕ → Type 0
 Mark m = (m ≡ 0) ⊎ (m ≡ 1)
 
+abbrev pub All-good : List ℕ → Type 0
+All-good marks = (i : ℕ) → Mark (mark-at marks i)
+
 -- every mark before a place is good, and the place's own is not
 pub record First-bad (marks : List ℕ) (place : ℕ) : Type 0 where
   pub inside : place < length marks
   pub bad : ¬ Mark (mark-at marks place)
   pub none-before : (i : ℕ) → i < place → Mark (mark-at marks i)
 
--- `first-bad` is such a place, or every mark is good
-abbrev pub Bad-or-good : Type 0
-Bad-or-good = (marks : List ℕ) → First-bad marks (first-bad marks) ⊎ ((first-bad marks ≡ length marks) × ((i : ℕ) → Mark (mark-at marks i)))
+-- `first-bad` is such a place where it lies in the row, and else every mark is good
+abbrev pub Bad-found : Type 0
+Bad-found = (marks : List ℕ) → first-bad marks < length marks → First-bad marks (first-bad marks)
+
+abbrev pub None-bad : Type 0
+None-bad = (marks : List ℕ) → length marks ≤ first-bad marks → All-good marks
 
 abbrev pub One-first-bad : Type 0
 One-first-bad = (marks : List ℕ) (p q : ℕ) → First-bad marks p → First-bad marks q → p ≡ q

@@ -1,6 +1,6 @@
 -- A row of marks, a byte for each place: 1 where the place is marked, and 0 where it is not.
 -- Assumes nothing.
-use Prim.Native.Nat.{ℕ, zero, suc, _≤_, _<_}
+use Prim.Native.Nat.{ℕ, zero, suc, _≤_, _<_, max}
 use mathlib.Core.Path.{_≡_}
 use mathlib.Core.Logic.{_≢_, _⊎_}
 use mathlib.Core.Bool.{cond}
@@ -24,6 +24,16 @@ Marked marks place = mark-at marks place ≡ 1
 abbrev pub Unmarked : (marks : List ℕ) (place : ℕ) → Type 0
 Unmarked marks place = mark-at marks place ≢ 1
 
+-- f 0, f 1, .., so many
+unfoldable pub listed : (f : ℕ → ℕ) (count : ℕ) → List ℕ
+listed f zero = []
+listed f (suc count) = f 0 ∷ listed (λ i. f (suc i)) count
+
+-- the marks of so many places, a number for each
+unfoldable pub flags : (places : ℕ) (marks : List ℕ) → List ℕ
+unfolding listed mark-at
+flags places marks = listed (mark-at marks) places
+
 -- the first place whose mark is neither 0 nor 1, or the length of the row
 unfoldable pub first-bad : (marks : List ℕ) → ℕ
 first-bad [] = 0
@@ -38,11 +48,12 @@ marked-run marks from (suc len) = marked-run (set marks from 1) (suc from) len
 
 -- ---- the contracts of the searches
 
--- from a place on others are passed, up to the first that is found, or to the number of places
+-- from a place on others are passed, up to the first that is found, or to the number of places; none, if it lies beyond that
 pub record Next (Passed Found : ℕ → Type 0) (places from r : ℕ) : Type 0 where
-  pub high : r ≤ places
+  pub low : from ≤ r
+  pub high : r ≤ max from places
   pub passed : (p : ℕ) → from ≤ p → p < r → Passed p
-  pub there : (r ≡ places) ⊎ ((from ≤ r) × Found r)
+  pub there : (places ≤ r) ⊎ Found r
 
 abbrev pub NextMarked : (marks : List ℕ) (places from r : ℕ) → Type 0
 NextMarked marks = Next (Unmarked marks) (Marked marks)

@@ -1,6 +1,6 @@
 // A row of marks, a byte for each place: 1 where the place is marked, and 0 where it is not.
 ghost use mathlib.Core.Path.{_≡_};
-ghost use Prim.Native.Nat.{min};
+ghost use Prim.Native.Nat.{min, max};
 ghost use lib.ListN.{length, replicate};
 ghost use Rattle.marks.specs.Marks.{row-length, first-bad, marked-run, NextMarked, NextUnmarked};
 
@@ -46,6 +46,16 @@ fn least(a: usize, b: usize) -> usize
     b
 }
 
+// The greater of two.
+fn most(a: usize, b: usize) -> usize
+    ensures { λ r. ⌜ r ≡ max a b ⌝ }
+{
+    if a < b {
+        return b;
+    }
+    a
+}
+
 // Marks `len` places from a place on. Outside the row nothing changes.
 pub fn mark_run(marks: &mut [u8], from: usize, len: usize)
     ensures { λ _. ⌜ now (marks .exit) ≡ marked-run (now (marks .entry)) from len ⌝ }
@@ -61,7 +71,8 @@ pub fn mark_run(marks: &mut [u8], from: usize, len: usize)
     }
 }
 
-// The first marked place from a place on, or the number of places if there is none. No place outside the row is marked.
+// The first marked place from a place on, or `places` if none is before that. No place outside the row is marked.
+// Where `from` is not below `places` it is returned.
 pub fn next_marked(marks: &[u8], places: usize, from: usize) -> usize
     ensures { λ r. ⌜ NextMarked (now (marks .entry)) places from r ⌝ }
 {
@@ -73,10 +84,10 @@ pub fn next_marked(marks: &[u8], places: usize, from: usize) -> usize
         }
         i += 1;
     }
-    places
+    most(i, places)
 }
 
-// The first place without a mark from a place on, or the number of places if there is none.
+// The first place without a mark from a place on, or `places` if none is before that; `from` where it is not below `places`.
 pub fn next_unmarked(marks: &[u8], places: usize, from: usize) -> usize
     ensures { λ r. ⌜ NextUnmarked (now (marks .entry)) places from r ⌝ }
 {
@@ -88,5 +99,5 @@ pub fn next_unmarked(marks: &[u8], places: usize, from: usize) -> usize
         }
         i += 1;
     }
-    least(places, i)
+    i
 }

@@ -10,6 +10,7 @@ use mathlib.Core.List.{List, [], _∷_}
 use lib.Dec.{leb}
 use lib.ListN.{length, length-append}
 use borrow.Author.Tests.{le-leb, lt-ltb, le-ltb}
+use Rattle.marks.specs.Marks.{flags, first-bad}
 use Rattle.record.specs.Common.{if_then_else_}
 use Rattle.record.specs.Refusals.{output-full, bad-window, bad-mark}
 use Rattle.record.specs.declared.Record.{Record}
@@ -28,7 +29,7 @@ use Rattle.loader.specs.Load.{unfit}
 use Rattle.page.specs.declared.PageError.{PageError}
 use Rattle.page.specs.declared.Paged.{Paged}
 use Rattle.page.specs.declared.Paged.the-variants.{Refused}
-use Rattle.page.specs.File.{page-records, file, good-marks, page-text}
+use Rattle.page.specs.File.{page-records, file, page-text}
 use Rattle.page.specs.Told.{refusal-of, PageFileLength, WritePage}
 use Rattle.page.specs.Helpers.{Surveyed-whole, May-be-full, As-written}
 use Rattle.page.proofs.Files.{file-is-object}
@@ -41,13 +42,13 @@ module _ (first : ℕ) (page marks : List ℕ) where
   unfolding page-text
   text-unfit e = rw e
 
-  pub text-bad : unfit first (length page) (length marks) ≡ false → good-marks marks < length marks → page-text first page marks ≡ refused (bad-mark (good-marks marks))
+  pub text-bad : unfit first (length page) (length marks) ≡ false → first-bad marks < length marks → page-text first page marks ≡ refused (bad-mark (first-bad marks))
   unfolding page-text
-  text-bad e l = rw (e, lt-ltb (good-marks marks) (length marks) l)
+  text-bad e l = rw (e, lt-ltb (first-bad marks) (length marks) l)
 
-  pub text-good : unfit first (length page) (length marks) ≡ false → length marks ≤ good-marks marks → page-text first page marks ≡ chars (file first page marks)
+  pub text-good : unfit first (length page) (length marks) ≡ false → length marks ≤ first-bad marks → page-text first page marks ≡ chars (file first page marks)
   unfolding page-text
-  text-good e l = rw (e, le-ltb (good-marks marks) (length marks) l)
+  text-good e l = rw (e, le-ltb (first-bad marks) (length marks) l)
 
 -- ---- what the writer answers
 
@@ -62,31 +63,31 @@ fits : (n space : ℕ) → n ≤ space → if-room (wrote n) space ≡ wrote n
 fits n space l = rw (le-leb n space l)
 
 module _ (first : ℕ) (page marks : List ℕ) (s : Survey) (w : Surveyed-whole first page marks s) where
-  few : length (page-records first marks) ≤ length (file first page marks)
+  few : length (page-records first (flags (length page) marks)) ≤ length (file first page marks)
   unfolding file
-  few = no-more-records (page-records first marks) page
+  few = no-more-records (page-records first (flags (length page) marks)) page
 
   short : length (file first page marks) ≤ most
-  short = omega (arith, room first page marks (w .window), w .window .even, w .window .small)
+  short = omega (arith, room first page marks (w .window), w .window .small)
 
-  short-lines : length (joined-lines (page-records first marks) page) ≤ most
+  short-lines : length (joined-lines (page-records first (flags (length page) marks)) page) ≤ most
   unfolding file
   short-lines = short
 
   -- the survey answers the file's length
   pub surveyed-length : (a : Written) → SurveyAnswer s most a → writer.told a ≡ wrote (length (file first page marks))
   surveyed-length a h =
-      survey-answers (page-records first marks) page s most a (omega (arith, few, short)) (inr short-lines) (w .surveys) h
+      survey-answers (page-records first (flags (length page) marks)) page s most a (omega (arith, few, short)) (inr short-lines) (w .surveys) h
       ∙ ap (λ (t : Text). if-room (place-behind t 0) most) (file-is-object first page marks (w .window))
       ∙ fits (0 + length (file first page marks)) most (omega (arith, short))
       ∙ ap wrote (zero-add (length (file first page marks)))
 
   -- survey and steps write the file
-  pub file-written : (out : List ℕ) (start a : Written) (out′ : List ℕ) → length out < most → SurveyBegin s (length out) start → Steps page out start (page-records first marks) a out′
+  pub file-written : (out : List ℕ) (start a : Written) (out′ : List ℕ) → length out < most → SurveyBegin s (length out) start → Steps page out start (page-records first (flags (length page) marks)) a out′
       → Writes (page-text first page marks) out 0 a out′
   file-written out start a out′ l b t =
       subst (λ (x : Text). Writes x out 0 a out′) (file-is-object first page marks (w .window) ∙ sym (w .text-is))
-      (object-written (page-records first marks) page out s start a out′ (omega (arith, few, short)) l (w .surveys) b t)
+      (object-written (page-records first (flags (length page) marks)) page out s start a out′ (omega (arith, few, short)) l (w .surveys) b t)
 
 -- a text that is written is refused only for want of room
 pub only-full : (cs out : List ℕ) (t : Text) (a : Written) (out′ : List ℕ) → t ≡ chars cs → Writes t out 0 a out′ → May-be-full a

@@ -1,6 +1,6 @@
 -- The claims on calls: of what was written and is loaded again, of two pages that are written, and of why a length is told and what it hangs on.
 -- Assumes nothing.
-use Prim.Native.Nat.{ℕ, _+_}
+use Prim.Native.Nat.{ℕ, _+_, _≤_}
 use mathlib.Core.Path.{_≡_, refl, sym, _∙_, ap, subst}
 use mathlib.Core.Bool.{Bool, true, false}
 use mathlib.Core.Option.{none}
@@ -9,6 +9,8 @@ use native.Mathlib.Omega.{arith}
 use native.Mathlib.Nat.{zero-add}
 use lib.Dec.{ltb}
 use lib.ListN.{length, getD, take, length-append}
+use Rattle.marks.specs.Marks.{Marked, flags, first-bad}
+use Rattle.marks.proofs.Flags.{flags-length}
 use Rattle.record.specs.Common.{if_then_else_, Every, Byte}
 use Rattle.record.specs.Refusals.{bad-mark}
 use Rattle.record.specs.declared.Record.{Record}
@@ -22,10 +24,9 @@ use Rattle.writer.specs.Line.{ended-line}
 use Rattle.writer.specs.Object.{joined-lines}
 use Rattle.loader.specs.Load.{Verdict, accepted, unfit, Loaded, load}
 use Rattle.loader.specs.Told.{told}
-use Rattle.loader.proofs.Demand3.{good-window}
 use Rattle.page.specs.declared.Paged.the-variants.{Wrote}
-use Rattle.page.specs.Pieces.{pieces}
-use Rattle.page.specs.File.{page-records, file, good-marks, page-text}
+use Rattle.page.specs.Pieces.{Piece, pieces}
+use Rattle.page.specs.File.{page-records, file, page-text}
 use Rattle.page.specs.Told.{WritePage}
 use Rattle.page.specs.Claims.{Page, Restores, Why, no-window, ill-marked, all-written, Written-loads-back, Equal-answers, Length-reasons, Length-of-lengths}
 use Rattle.page.proofs.Held.{Good, all-good}
@@ -49,10 +50,10 @@ restores-so page marks old-page page′ marks′ l answer p m r =
 pub loaded-back : (first : ℕ) (page marks out : List ℕ) (n : ℕ) (out′ old-page old-marks : List ℕ)
     → Every Byte page → length old-page ≡ length page → length old-marks ≡ length marks → WritePage first page marks out (Wrote n) out′
     → let l = load (take n out′) first old-page old-marks in
-    (l .answer ≡ accepted (record { records = length (pieces first 0 none marks) })) × Restores page marks old-page l
+    (l .answer ≡ accepted (record { records = length (pieces first 0 none (flags (length page) marks)) })) × Restores page marks old-page l
 loaded-back first page marks out n out′ old-page old-marks b lp lm w =
     subst (λ (text : List ℕ). let l = load text first old-page old-marks in
-    (l .answer ≡ accepted (record { records = length (pieces first 0 none marks) })) × Restores page marks old-page l)
+    (l .answer ≡ accepted (record { records = length (pieces first 0 none (flags (length page) marks)) })) × Restores page marks old-page l)
     (sym (rest-untouched first page marks out n out′ w .0))
     (loads-back first page marks old-page old-marks (written-page first page marks (length out) n (reasons first page marks out (Wrote n) out′ w)) b lp lm)
 
@@ -63,15 +64,13 @@ written-loads-back first page marks out n out′ old-page old-marks r page′ ma
 
 -- of two pages that are alike at marked places the same text is written, or the same refusal stands in its place
 same-page-text : (first : ℕ) (page₁ page₂ marks : List ℕ) → length page₁ ≡ length page₂
-    → ((i : ℕ) → getD marks i 0 ≡ 1 → getD page₁ i 0 ≡ getD page₂ i 0) → page-text first page₁ marks ≡ page-text first page₂ marks
+    → ((i : ℕ) → Marked marks i → getD page₁ i 0 ≡ getD page₂ i 0) → page-text first page₁ marks ≡ page-text first page₂ marks
 unfolding page-text
 same-page-text first page₁ page₂ marks l h = go (unfit first (length page₂) (length marks)) refl
   where
     go : (b : Bool) → unfit first (length page₂) (length marks) ≡ b → page-text first page₁ marks ≡ page-text first page₂ marks
     go true e = rw (l, e)
-    go false e =
-        let w = good-window first page₂ marks e in
-        rw (l, e, equal-files first page₁ page₂ marks (l ∙ w .even) (w .even) h)
+    go false e = rw (equal-files first page₁ page₂ marks l h, l, e)
 
 pub equal-answers : Equal-answers
 equal-answers first page₁ page₂ marks out r₁ r₂ o₁ o₂ l h x y =
@@ -82,7 +81,7 @@ pub length-reasons : Length-reasons
 length-reasons first page marks r space l h =
     rw (l .answer)
     (text-cases first page marks (λ t. Why first page marks space (place-behind t 0))
-    no-window (λ v f. ill-marked (good-marks marks) v f)
+    no-window (λ v f. ill-marked (first-bad marks) v f)
     (λ p. rw (zero-add (length (file first page marks))) (all-written p (omega (arith, room first page marks (p .window))))))
 
 -- ---- the length
@@ -102,14 +101,20 @@ as-long (r ∷ rs) pool₁ pool₂ (h, hs) =
       ended-length r pool₂,
     )
 
-files-as-long : (first : ℕ) (page₁ page₂ marks : List ℕ) → length page₁ ≡ length marks → length page₂ ≡ length marks
-    → length (file first page₁ marks) ≡ length (file first page₂ marks)
+files-as-long : (first : ℕ) (page₁ page₂ marks : List ℕ) → length page₁ ≡ length page₂ → length (file first page₁ marks) ≡ length (file first page₂ marks)
 unfolding file page-records
-files-as-long first page₁ page₂ marks l₁ l₂ =
-    as-long (page-records first marks) page₁ page₂
-    (every-record first (λ r. length (payload-of (meant r page₁)) ≡ length (payload-of (meant r page₂))) (Good first marks)
-    (λ p g. part-length page₁ (p .place) (p .size) (omega (arith, g .inside)) ∙ sym (part-length page₂ (p .place) (p .size) (omega (arith, g .inside))))
-    (λ p g. refl) refl none (pieces first 0 none marks) (all-good first marks))
+files-as-long first page₁ page₂ marks l =
+    rw l
+    (as-long (page-records first shown) page₁ page₂
+    (every-record first (λ r. length (payload-of (meant r page₁)) ≡ length (payload-of (meant r page₂))) (Good first shown)
+    (λ p g. part-length page₁ (p .place) (p .size) (omega (arith, inside p g)) ∙ sym (part-length page₂ (p .place) (p .size) (omega (arith, inside p g))))
+    (λ p g. refl) refl none (pieces first 0 none shown) (all-good first shown)))
+  where
+    shown : List ℕ
+    shown = flags (length page₂) marks
+
+    inside : (p : Piece) → Good first shown p → p .place + p .size ≤ length page₂
+    inside p g = omega (arith, g .inside, flags-length (length page₂) marks)
 
 pub length-of-lengths : Length-of-lengths
 unfolding page-text
@@ -118,8 +123,8 @@ length-of-lengths first page₁ page₂ marks r₁ r₂ l x y = told-apart r₁ 
     go : (b : Bool) → unfit first (length page₂) (length marks) ≡ b → place-behind (page-text first page₁ marks) 0 ≡ place-behind (page-text first page₂ marks) 0
     go true e = rw (l, e)
     go false e =
-        let w = good-window first page₂ marks e in
-        rw (l, e)
-        (both-ways (λ b. place-behind (if b then refused (bad-mark (good-marks marks)) else chars (file first page₁ marks)) 0
-        ≡ place-behind (if b then refused (bad-mark (good-marks marks)) else chars (file first page₂ marks)) 0) (ltb (good-marks marks) (length marks)) refl
-        (ap (λ (n : ℕ). wrote (0 + n)) (files-as-long first page₁ page₂ marks (l ∙ w .even) (w .even))))
+        let e₁ : unfit first (length page₁) (length marks) ≡ false = rw l e in
+        rw (e₁, e)
+        (both-ways (λ b. place-behind (if b then refused (bad-mark (first-bad marks)) else chars (file first page₁ marks)) 0
+        ≡ place-behind (if b then refused (bad-mark (first-bad marks)) else chars (file first page₂ marks)) 0) (ltb (first-bad marks) (length marks)) refl
+        (ap (λ (n : ℕ). wrote (0 + n)) (files-as-long first page₁ page₂ marks l)))

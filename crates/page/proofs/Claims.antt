@@ -1,16 +1,19 @@
 -- The claims of `specs/Claims.antt` on the answer, the output and the contracts, proved: by the two tests of `page-text`, and by the room.
 -- Assumes nothing.
-use Prim.Native.Nat.{ℕ, zero, suc, _+_, _<_, _≤_}
+use Prim.Native.Nat.{ℕ, _+_, _<_}
 use mathlib.Core.Path.{_≡_, refl, sym, _∙_, ap}
 use mathlib.Core.Logic.{_⊎_, inl, inr}
 use mathlib.Core.Bool.{Bool, true, false}
-use mathlib.Core.List.{List, [], _∷_}
+use mathlib.Core.List.{List}
 use native.Mathlib.Omega.{arith}
 use native.Mathlib.Nat.{zero-add}
 use lib.Dec.{eqb, leb, ltb}
 use lib.ListN.{length, getD, take}
 use borrow.Author.Tests.{leb-true, leb-false, ltb-true, ltb-false}
-use Rattle.record.specs.Common.{if_then_else_, Every}
+use Rattle.marks.specs.Marks.{first-bad}
+use Rattle.marks.specs.Claims.{First-bad}
+use Rattle.marks.proofs.Claims.{bad-found, none-bad, one-first-bad}
+use Rattle.record.specs.Common.{if_then_else_}
 use Rattle.record.specs.Refusals.{Refusal, refusal, output-full, bad-window, bad-mark}
 use Rattle.record.specs.Written.{written}
 use Rattle.record.proofs.Tests.{branch}
@@ -26,85 +29,39 @@ use Rattle.page.specs.declared.PageError.{PageError}
 use Rattle.page.specs.declared.PageError.the-variants.{BadWindow, BadMark, OutputFull}
 use Rattle.page.specs.declared.Paged.{Paged}
 use Rattle.page.specs.declared.Paged.the-variants.{Wrote, Refused}
-use Rattle.page.specs.File.{file, good-marks, page-text}
+use Rattle.page.specs.File.{file, page-text}
 use Rattle.page.specs.Told.{refusal-of, told}
-use Rattle.page.specs.Claims.{Mark, Page, First-bad, Why, no-window, ill-marked, no-room, all-written, Reasons, One-reason, Length-as-written, Refusal-changes-nothing, Rest-untouched, Told-apart, Page-file-length-unique, Write-page-unique, Examples}
-use Rattle.page.proofs.Loading.{good-mark}
-
--- ---- marks
-
-is-mark : (m : ℕ) → m ≤ 1 → Mark m
-is-mark zero h = inl refl
-is-mark (suc zero) h = inr refl
-is-mark (suc (suc m)) h = absurd (omega arith)
-
-no-mark : (m : ℕ) → 1 < m → ¬ Mark m
-no-mark m h (inl e) = omega arith
-no-mark m h (inr e) = omega arith
-
--- the count of good marks stops at the first bad one
-first-bad : (marks : List ℕ) → good-marks marks < length marks → First-bad marks (good-marks marks)
-unfolding good-marks
-first-bad [] h = absurd (omega arith)
-first-bad (m ∷ marks) h = go (leb m 1) refl h (first-bad marks)
-  where
-    go : (b : Bool) → leb m 1 ≡ b → (if b then suc (good-marks marks) else 0) < length (m ∷ marks)
-        → (good-marks marks < length marks → First-bad marks (good-marks marks)) → First-bad (m ∷ marks) (if b then suc (good-marks marks) else 0)
-    go true e h ih =
-        let f = ih (omega arith) in
-        record { inside = omega (arith, f .inside); bad = f .bad; none-before = before f }
-      where
-        before : First-bad marks (good-marks marks) → (i : ℕ) → i < suc (good-marks marks) → Mark (getD (m ∷ marks) i 0)
-        before f zero k = is-mark m (leb-true m 1 e)
-        before f (suc i) k = f .none-before i (omega arith)
-    go false e h ih = record { inside = h; bad = no-mark m (leb-false m 1 e); none-before = λ i k. absurd (omega arith) }
-
--- or there is none
-all-marks : (marks : List ℕ) → length marks ≤ good-marks marks → Every Mark marks
-unfolding good-marks
-all-marks [] h = tt
-all-marks (m ∷ marks) h = go (leb m 1) refl h (all-marks marks)
-  where
-    go : (b : Bool) → leb m 1 ≡ b → length (m ∷ marks) ≤ (if b then suc (good-marks marks) else 0) → (length marks ≤ good-marks marks → Every Mark marks) → Every Mark (m ∷ marks)
-    go true e h ih = (is-mark m (leb-true m 1 e), ih (omega arith))
-    go false e h ih = absurd (omega arith)
+use Rattle.page.specs.Claims.{Page, Why, no-window, ill-marked, no-room, all-written, Reasons, One-reason, Length-as-written, Refusal-changes-nothing, Rest-untouched, Told-apart, Page-file-length-unique, Write-page-unique, Examples}
 
 -- ---- reasons
 
 -- what stands in the place of the file, by the two tests
 module _ (first : ℕ) (page marks : List ℕ) where
   pub text-cases : (P : Text → Type 0) → (¬ Window first page marks → P (refused bad-window))
-      → (Window first page marks → First-bad marks (good-marks marks) → P (refused (bad-mark (good-marks marks))))
+      → (Window first page marks → First-bad marks (first-bad marks) → P (refused (bad-mark (first-bad marks))))
       → (Page first page marks → P (chars (file first page marks))) → P (page-text first page marks)
   unfolding page-text
   text-cases P unfitting ill good =
       branch P (unfit first (length page) (length marks)) _ _
       (λ u. unfitting (loader.no-window first page marks u))
-      (λ u. branch P (ltb (good-marks marks) (length marks)) _ _
-      (λ b. ill (good-window first page marks u) (first-bad marks (ltb-true (good-marks marks) (length marks) b)))
-      (λ b. good (record { window = good-window first page marks u; marks-good = all-marks marks (ltb-false (good-marks marks) (length marks) b) })))
+      (λ u. branch P (ltb (first-bad marks) (length marks)) _ _
+      (λ b. ill (good-window first page marks u) (bad-found marks (ltb-true (first-bad marks) (length marks) b)))
+      (λ b. good (record { window = good-window first page marks u; marks-good = none-bad marks (ltb-false (first-bad marks) (length marks) b) })))
 
 pub reasons : Reasons
 reasons first page marks out r out′ w =
     rw (w .answer)
     (text-cases first page marks (λ t. Why first page marks (length out) (if-room (place-behind t 0) (length out)))
-    no-window (λ v f. ill-marked (good-marks marks) v f) fits)
+    no-window (λ v f. ill-marked (first-bad marks) v f) fits)
   where
     fits : Page first page marks → Why first page marks (length out) (if-room (wrote (0 + length (file first page marks))) (length out))
     fits p = rw (zero-add (length (file first page marks)))
         (branch (Why first page marks (length out)) (leb (length (file first page marks)) (length out)) _ _
         (λ e. all-written p (leb-true (length (file first page marks)) (length out) e)) (λ e. no-room p (leb-false (length (file first page marks)) (length out) e)))
 
--- one first bad mark at most
-one-first : (marks : List ℕ) (p q : ℕ) → First-bad marks p → First-bad marks q → p ≡ q
-one-first marks p q f g = order p q (λ l. f .bad (g .none-before p l)) (λ l. g .bad (f .none-before q l))
-  where
-    order : (p q : ℕ) → ¬ (p < q) → ¬ (q < p) → p ≡ q
-    order p q a b = omega arith
-
 -- a page that is written has none
-none-bad : {first : ℕ} {page : List ℕ} (marks : List ℕ) (p : ℕ) → Page first page marks → First-bad marks p → ⊥
-none-bad marks p g f = f .bad (good-mark marks p (g .marks-good))
+no-bad : {first : ℕ} {page : List ℕ} (marks : List ℕ) (p : ℕ) → Page first page marks → First-bad marks p → ⊥
+no-bad marks p g f = f .bad (g .marks-good p)
 
 pub one-reason : One-reason
 one-reason first page marks room _ _ (no-window n) (no-window n′) = refl
@@ -112,15 +69,15 @@ one-reason first page marks room _ _ (no-window n) (ill-marked p w f) = absurd (
 one-reason first page marks room _ _ (no-window n) (no-room g l) = absurd (n (g .window))
 one-reason first page marks room _ _ (no-window n) (all-written g l) = absurd (n (g .window))
 one-reason first page marks room _ _ (ill-marked p w f) (no-window n) = absurd (n w)
-one-reason first page marks room _ _ (ill-marked p w f) (ill-marked p′ w′ f′) = ap (λ (k : ℕ). refuses (bad-mark k)) (one-first marks p p′ f f′)
-one-reason first page marks room _ _ (ill-marked p w f) (no-room g l) = absurd (none-bad marks p g f)
-one-reason first page marks room _ _ (ill-marked p w f) (all-written g l) = absurd (none-bad marks p g f)
+one-reason first page marks room _ _ (ill-marked p w f) (ill-marked p′ w′ f′) = ap (λ (k : ℕ). refuses (bad-mark k)) (one-first-bad marks p p′ f f′)
+one-reason first page marks room _ _ (ill-marked p w f) (no-room g l) = absurd (no-bad marks p g f)
+one-reason first page marks room _ _ (ill-marked p w f) (all-written g l) = absurd (no-bad marks p g f)
 one-reason first page marks room _ _ (no-room g l) (no-window n) = absurd (n (g .window))
-one-reason first page marks room _ _ (no-room g l) (ill-marked p w f) = absurd (none-bad marks p g f)
+one-reason first page marks room _ _ (no-room g l) (ill-marked p w f) = absurd (no-bad marks p g f)
 one-reason first page marks room _ _ (no-room g l) (no-room g′ l′) = refl
 one-reason first page marks room _ _ (no-room g l) (all-written g′ l′) = absurd (omega arith)
 one-reason first page marks room _ _ (all-written g l) (no-window n) = absurd (n (g .window))
-one-reason first page marks room _ _ (all-written g l) (ill-marked p w f) = absurd (none-bad marks p g f)
+one-reason first page marks room _ _ (all-written g l) (ill-marked p w f) = absurd (no-bad marks p g f)
 one-reason first page marks room _ _ (all-written g l) (no-room g′ l′) = absurd (omega arith)
 one-reason first page marks room _ _ (all-written g l) (all-written g′ l′) = refl
 

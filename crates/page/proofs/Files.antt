@@ -9,6 +9,8 @@ use native.Mathlib.Omega.{arith}
 use lib.ListN.{length, getD, take, drop}
 use lib.Seq.{getD-take, getD-drop, ext-getD}
 use borrow.Author.Tests.{le-leb}
+use Rattle.marks.specs.Marks.{flags}
+use Rattle.marks.proofs.Flags.{flags-length, flag-marked}
 use Rattle.record.specs.Common.{if_then_else_, Every, Byte}
 use Rattle.record.specs.declared.Record.{Record}
 use Rattle.record.specs.declared.Record.the-variants.{EndOfFile, ExtendedLinearAddress}
@@ -45,19 +47,19 @@ module _ (first : ℕ) (P : Record → Type 0) (Q : Piece → Type 0)
 
 module _ (first : ℕ) (page marks : List ℕ) (w : Window first page marks) where
   -- each number is one of its type
-  pub in-range : Every In-range (page-records first marks)
+  pub in-range : Every In-range (page-records first (flags (length page) marks))
   unfolding page-records
   in-range =
-      every-record first In-range (Good first marks) (λ p g. omega arith) (λ p g. omega (arith, g .sized .least, g .inside, w .even, w .below)) tt none
-      (pieces first 0 none marks) (all-good first marks)
+      every-record first In-range (Good first (flags (length page) marks)) (λ p g. omega arith) (λ p g. omega (arith, g .sized .least, g .inside, flags-length (length page) marks, w .below)) tt none
+      (pieces first 0 none (flags (length page) marks)) (all-good first (flags (length page) marks))
 
   -- each payload lies in the page
-  pub each-has-line : Every (λ r. line-refusal r (length page) ≡ none) (page-records first marks)
+  pub each-has-line : Every (λ r. line-refusal r (length page) ≡ none) (page-records first (flags (length page) marks))
   unfolding page-records
   each-has-line =
-      every-record first (λ r. line-refusal r (length page) ≡ none) (Good first marks)
-      (λ p g. rw (le-leb (p .place + p .size) (length page) (omega (arith, g .inside, w .even)), le-leb (p .size) 255 (omega (arith, g .sized .most)))) (λ p g. refl) refl none
-      (pieces first 0 none marks) (all-good first marks)
+      every-record first (λ r. line-refusal r (length page) ≡ none) (Good first (flags (length page) marks))
+      (λ p g. rw (le-leb (p .place + p .size) (length page) (omega (arith, g .inside, flags-length (length page) marks)), le-leb (p .size) 255 (omega (arith, g .sized .most)))) (λ p g. refl) refl none
+      (pieces first 0 none (flags (length page) marks)) (all-good first (flags (length page) marks))
 
 -- ---- the object
 
@@ -82,18 +84,18 @@ ends-once first latest (p ∷ ps) =
 pub file-is-object : File-is-object
 unfolding file page-records
 file-is-object first page marks w =
-    let (l, o) = ends-once first none (pieces first 0 none marks) in
-    whole-object (page-records first marks) page (file first page marks) (record { fine = each-has-line first page marks w; lined = refl; ended = l; one = o })
+    let (l, o) = ends-once first none (pieces first 0 none (flags (length page) marks)) in
+    whole-object (page-records first (flags (length page) marks)) page (file first page marks) (record { fine = each-has-line first page marks w; lined = refl; ended = l; one = o })
 
 pub file-lines : File-lines
 unfolding file
-file-lines first page marks = lines-of (page-records first marks) page
+file-lines first page marks = lines-of (page-records first (flags (length page) marks)) page
 
 -- ---- what each line says
 
 -- each record of the file can be said in a line
-pub all-sayable : (first : ℕ) (page marks : List ℕ) → Window first page marks → Every Byte page → Every (λ r. Sayable (meant r page)) (page-records first marks)
-all-sayable first page marks w b = every-sayable (page-records first marks) page (in-range first page marks w) b (each-has-line first page marks w)
+pub all-sayable : (first : ℕ) (page marks : List ℕ) → Window first page marks → Every Byte page → Every (λ r. Sayable (meant r page)) (page-records first (flags (length page) marks))
+all-sayable first page marks w b = every-sayable (page-records first (flags (length page) marks)) page (in-range first page marks w) b (each-has-line first page marks w)
 
 lines-again : (rs : List Record) (pool : List ℕ) → Every (λ r. Sayable (meant r pool)) rs → Every (λ (l : List ℕ). rewritten (judge l) ≡ some l) (map (λ (r : Record). line r pool) rs)
 lines-again [] pool h = tt
@@ -101,7 +103,7 @@ lines-again (r ∷ rs) pool (h, hs) =
     (ap rewritten (says-so r pool h) ∙ ap (λ (m : Meaning). some (line-of m)) (reads-back (meant r pool) h .means), lines-again rs pool hs)
 
 pub lines-canonical : Lines-canonical
-lines-canonical first page marks w b = rw (file-lines first page marks) (lines-again (page-records first marks) page (all-sayable first page marks w b))
+lines-canonical first page marks w b = rw (file-lines first page marks) (lines-again (page-records first (flags (length page) marks)) page (all-sayable first page marks w b))
 
 -- ---- the marked bytes alone show
 
@@ -121,8 +123,16 @@ same-part page₁ page₂ at len l₁ l₂ h =
 
 pub equal-files : Equal-files
 unfolding file page-records
-equal-files first page₁ page₂ marks l₁ l₂ h =
-    same-text (page-records first marks) page₁ page₂
-    (every-record first (λ r. meant r page₁ ≡ meant r page₂) (Good first marks)
-    (λ p g. ap (data-at ((first + p .place) % 65536)) (same-part page₁ page₂ (p .place) (p .size) (omega (arith, g .inside)) (omega (arith, g .inside)) (λ i k. h (p .place + i) (g .all-marked i k))))
-    (λ p g. refl) refl none (pieces first 0 none marks) (all-good first marks))
+equal-files first page₁ page₂ marks l h =
+    rw l
+    (same-text (page-records first shown) page₁ page₂
+    (every-record first (λ r. meant r page₁ ≡ meant r page₂) (Good first shown)
+    (λ p g. ap (data-at ((first + p .place) % 65536))
+    (same-part page₁ page₂ (p .place) (p .size) (omega (arith, inside p g)) (omega (arith, inside p g)) (λ i k. h (p .place + i) (flag-marked (length page₂) marks (p .place + i) (g .all-marked i k)))))
+    (λ p g. refl) refl none (pieces first 0 none shown) (all-good first shown)))
+  where
+    shown : List ℕ
+    shown = flags (length page₂) marks
+
+    inside : (p : Piece) → Good first shown p → p .place + p .size ≤ length page₂
+    inside p g = omega (arith, g .inside, flags-length (length page₂) marks)

@@ -12,6 +12,9 @@ use native.Mathlib.Nat.{add-zero, zero-add}
 use lib.ListN.{length, getD, take, drop, List·getD-eq-default}
 use lib.Seq.{drop-cons, ext-getD}
 use borrow.Author.Tests.{eq-eqb, ne-eqb, le-leb, lt-ltb}
+use Rattle.marks.specs.Marks.{row-length, mark-at, Marked, flags}
+use Rattle.marks.specs.Claims.{Mark, All-good}
+use Rattle.marks.proofs.Flags.{flags-length, whole-row}
 use Rattle.record.specs.Common.{if_then_else_, Every}
 use Rattle.record.specs.declared.Record.{Record}
 use Rattle.record.specs.declared.Record.the-variants.{ExtendedLinearAddress}
@@ -32,7 +35,7 @@ use Rattle.page.specs.Pieces.{Piece, is-marked, pieces}
 use Rattle.page.specs.File.{upper, data-of, is-latest, records, page-records, file}
 use Rattle.page.specs.Shape.{places, held, marked-places}
 use Rattle.page.specs.Spoken.{said-of, spoken}
-use Rattle.page.specs.Claims.{Mark, Restores, Loads-back, Files-tell}
+use Rattle.page.specs.Claims.{Restores, Loads-back, Files-tell}
 use Rattle.page.proofs.Spoken.{same-row}
 use Rattle.page.proofs.Shape.{made-so}
 use Rattle.page.proofs.Records.{is-so}
@@ -165,12 +168,6 @@ module _ (first : ℕ) (page : List ℕ) where
 
 -- ---- painted and marked again
 
--- a mark of good marks, and 0 behind them
-pub good-mark : (marks : List ℕ) (i : ℕ) → Every Mark marks → Mark (getD marks i 0)
-good-mark [] i h = inl refl
-good-mark (m ∷ marks) zero (h, hs) = h
-good-mark (m ∷ marks) (suc i) (h, hs) = good-mark marks i hs
-
 mark-seen : (page : List ℕ) (m i : ℕ) → Mark m → mark (seen page m i) ≡ m
 unfolding mark seen
 mark-seen page m i (inl e) = rw e
@@ -187,18 +184,19 @@ module _ (first : ℕ) (page marks old-page old-marks : List ℕ) (even : length
   byte-there i h =
       painted-at first there old-page i (omega arith) ∙ ap (λ (o : Option ℕ). Option·getD o (getD old-page i 0)) (last-there i h)
 
-  marks-again : Every Mark marks → marked first there old-marks ≡ marks
+  marks-again : All-good marks → marked first there old-marks ≡ marks
+  unfolding mark-at
   marks-again g =
       let l = length-marked first there old-marks in
       ext-getD 0 (marked first there old-marks) marks (l ∙ lm)
-      (λ i k. marked-at first there old-marks i (omega arith) ∙ ap mark (last-there i (omega arith)) ∙ mark-seen page (getD marks i 0) i (good-mark marks i g))
+      (λ i k. marked-at first there old-marks i (omega arith) ∙ ap mark (last-there i (omega arith)) ∙ mark-seen page (getD marks i 0) i (g i))
 
-  bytes-again : (i : ℕ) → getD marks i 0 ≡ 1 → getD (painted first there old-page) i 0 ≡ getD page i 0
-  unfolding seen
+  bytes-again : (i : ℕ) → Marked marks i → getD (painted first there old-page) i 0 ≡ getD page i 0
+  unfolding seen mark-at
   bytes-again i m = byte-there i (marked-inside marks i m) ∙ rw m
 
-  others-again : (i : ℕ) → getD marks i 0 ≡ 0 → getD (painted first there old-page) i 0 ≡ getD old-page i 0
-  unfolding seen
+  others-again : (i : ℕ) → mark-at marks i ≡ 0 → getD (painted first there old-page) i 0 ≡ getD old-page i 0
+  unfolding seen mark-at
   others-again i m =
       split (length marks) i
       (λ h. let l = length-painted first there old-page in
@@ -206,7 +204,7 @@ module _ (first : ℕ) (page marks old-page old-marks : List ℕ) (even : length
       (λ h. byte-there i h ∙ rw m)
 
   -- a text that is accepted with k data records and states the marked places
-  restores : (text : List ℕ) (k : ℕ) → Every Mark marks → verdict (stopping text first old-page old-marks) ≡ accepted (tally k)
+  restores : (text : List ℕ) (k : ℕ) → All-good marks → verdict (stopping text first old-page old-marks) ≡ accepted (tally k)
       → placements text ≡ there
       → let l = load text first old-page old-marks in (l .answer ≡ accepted (tally k)) × Restores page marks old-page l
   restores text k g v s =
@@ -216,17 +214,18 @@ module _ (first : ℕ) (page marks old-page old-marks : List ℕ) (even : length
 -- ---- the claims
 
 pub loads-back : Loads-back
-unfolding placements stopping verdict page-records
+unfolding placements stopping verdict page-records row-length
 loads-back first page marks old-page old-marks P b lp lm =
     let w = P .window in
-    let ps : List Piece = pieces first 0 none marks in
-    let said = same-row (page-records first marks) page (file first page marks) (in-range first page marks w) b (file-is-object first page marks w) in
-    let c = comes first page (w .below) marks (w .even) 1 0 from-start none ps (all-good first marks) (all-sayable first page marks w b) (λ u e. cc) in
+    let shown : List ℕ = flags (length page) marks in
+    let ps : List Piece = pieces first 0 none shown in
+    let said = same-row (page-records first shown) page (file first page marks) (in-range first page marks w) b (file-is-object first page marks w) in
+    let c = comes first page (w .below) shown (sym (flags-length (length page) marks)) 1 0 from-start none ps (all-good first shown) (all-sayable first page marks w b) (λ u e. cc) in
     let old : Window first old-page old-marks = record { even = lp ∙ w .even ∙ sym lm; small = omega (arith, w .small); below = omega (arith, w .below) } in
     let fit : unfit first (length old-page) (length old-marks) ≡ false = unfit-is-no-window first old-page old-marks (unfit first (length old-page) (length old-marks)) (record { answer = refl }) .1 old in
     restores first page marks old-page old-marks (w .even) lp lm (file first page marks) (length ps) (P .marks-good)
     (rw (fit, lp, said, c .decides) (ap (λ (k : ℕ). accepted (tally k)) (zero-add (length ps))))
-    (rw said (c .states ∙ ap (map (placement first page)) (made-so first marks .holds)))
+    (rw said (c .states ∙ ap (map (placement first page)) (made-so first shown .holds ∙ ap (marked-places 0) (whole-row (length page) marks (sym (w .even))))))
 
 pub files-tell : Files-tell
 files-tell first page₁ marks₁ page₂ marks₂ P₁ P₂ b₁ b₂ l e =

@@ -7,6 +7,8 @@ use mathlib.Core.Option.{Option, none, some}
 use mathlib.Core.List.{List, [], _∷_, _++_}
 use native.Mathlib.Omega.{arith}
 use lib.ListN.{length, drop, length-append, length-take}
+use Rattle.marks.specs.Marks.{flags}
+use Rattle.marks.proofs.Flags.{flags-length}
 use Rattle.record.specs.declared.Record.{Record}
 use Rattle.record.specs.declared.Record.the-variants.{EndOfFile, ExtendedLinearAddress}
 use Rattle.record.specs.Record.{meant}
@@ -114,4 +116,4 @@ module _ (first : ℕ) (page : List ℕ) where
 
 pub room : Room
 unfolding file
-room first page marks w = omega (arith, most first page none (multiples first) (made first 0 none marks) tt (omega arith))
+room first page marks w = omega (arith, most first page none (multiples first) (made first 0 none (flags (length page) marks)) tt (omega arith), flags-length (length page) marks)

@@ -17,7 +17,8 @@ use Rattle.record.proofs.Tests.{if-true, if-false, split, both-ways, or-true}
 use Rattle.page.specs.declared.Walk.{Walk}
 use Rattle.page.specs.Pieces.{Piece, ends-before, one-longer, starting, pieces}
 use Rattle.page.specs.File.{upper, data-of, extension, records}
-use Rattle.page.specs.Helpers.{NextMarked, PieceEnd, latest-upper, to-come, Under-way, Stepped}
+use Rattle.page.specs.Helpers.{PieceEnd, latest-upper, to-come, Under-way, Stepped}
+use Rattle.page.proofs.Marks.{Next-flag}
 use Rattle.page.proofs.Records.{by-latest}
 
 -- ---- the tests, from facts
@@ -64,7 +65,7 @@ passes first (suc n) from marks l h =
     ∙ unmarked first from (getD marks from 0) (drop (suc from) marks) (h from (omega arith) (omega arith))
     ∙ rw e at (passes first n (suc from) marks (omega arith) (λ i a b. h i (omega arith) (omega arith)))
 
-to-next-marked : (first from r : ℕ) (marks : List ℕ) → NextMarked marks from r → pieces first from none (drop from marks) ≡ pieces first r none (drop r marks)
+to-next-marked : (first from r : ℕ) (marks : List ℕ) → Next-flag marks from r → pieces first from none (drop from marks) ≡ pieces first r none (drop r marks)
 to-next-marked first from r marks n =
     let e : from + (r - from) ≡ r = omega (arith, n .low) in
     rw e at (passes first (r - from) from marks (omega (arith, n .low, n .high)) (λ i a b. n .unmarked i a (omega (arith, n .low))))
@@ -149,7 +150,7 @@ piece-there first start marks l m =
     (q, ps, h, ap (pieces first start none) (drop-cons marks start 0 l) ∙ starts-here first start (getD marks start 0) (drop (suc start) marks) m ∙ e)
 
 -- a place that is not the end is marked
-pub marked-there : {marks : List ℕ} {from r : ℕ} → NextMarked marks from r → r ≢ length marks → (r < length marks) × (getD marks r 0 ≡ 1)
+pub marked-there : {marks : List ℕ} {from r : ℕ} → Next-flag marks from r → r ≢ length marks → (r < length marks) × (getD marks r 0 ≡ 1)
 marked-there {marks} {from} {r} n h = (omega (arith, n .high), go (n .there))
   where
     go : (r ≡ length marks) ⊎ (getD marks r 0 ≡ 1) → getD marks r 0 ≡ 1
@@ -184,7 +185,7 @@ new-upper first latest u p ps h n =
     (λ _. by-latest (λ l. ExtendedLinearAddress u ∷ data-of first p ∷ records first (some u) ps ≡ ExtendedLinearAddress u ∷ l ++ (data-of first p ∷ records first (some u) ps)) (some u) u
     (λ e. refl) (λ k. absurd (k refl))))
 
-module _ (first : ℕ) (marks : List ℕ) (w : Walk) (start : ℕ) (under : Under-way first marks w) (next : NextMarked marks (w .place) start) where
+module _ (first : ℕ) (marks : List ℕ) (w : Walk) (start : ℕ) (under : Under-way first marks w) (next : Next-flag marks (w .place) start) where
   -- what is to come, from the next marked place on
   from-there : to-come first marks w ≡ records first (latest-upper (w .latest)) (pieces first start none (drop start marks))
   unfolding to-come

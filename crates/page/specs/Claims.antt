@@ -12,6 +12,8 @@ use Rattle.record.specs.declared.Record.{Record}
 use Rattle.record.specs.Line.{judge}
 use Rattle.record.specs.Written.{rewritten}
 use Rattle.reader.specs.Lines.{LF, lines}
+use Rattle.marks.specs.Marks.{mark-at, Marked, flags}
+use Rattle.marks.specs.Claims.{All-good, First-bad}
 use Rattle.writer.specs.Told.{Told, wrote, refuses}
 use Rattle.writer.specs.Text.{chars, refused}
 use Rattle.writer.specs.Line.{line}
@@ -30,22 +32,18 @@ use Rattle.page.specs.Told.{told, PageFileLength, WritePage}
 
 -- ---- a page that is written
 
--- a mark is 0 or 1
-abbrev pub Mark : ℕ → Type 0
-Mark m = (m ≡ 0) ⊎ (m ≡ 1)
-
 -- a page that neither 16 nor 19 refuses
 pub record Page (first : ℕ) (page marks : List ℕ) : Type 0 where
   pub window : Window first page marks
-  pub marks-good : Every Mark marks
+  pub marks-good : All-good marks
 
 -- the text is the object of its records, so each has its line and the one end record is last
 abbrev pub File-is-object : Type 0
-File-is-object = (first : ℕ) (page marks : List ℕ) → Window first page marks → object (page-records first marks) page ≡ chars (file first page marks)
+File-is-object = (first : ℕ) (page marks : List ℕ) → Window first page marks → object (page-records first (flags (length page) marks)) page ≡ chars (file first page marks)
 
 -- its lines are those of the records
 abbrev pub File-lines : Type 0
-File-lines = (first : ℕ) (page marks : List ℕ) → lines (file first page marks) ≡ map (λ (r : Record). line r page) (page-records first marks)
+File-lines = (first : ℕ) (page marks : List ℕ) → lines (file first page marks) ≡ map (λ (r : Record). line r page) (page-records first (flags (length page) marks))
 
 -- each is the line that our writer writes for what it says
 abbrev pub Lines-canonical : Type 0
@@ -58,8 +56,8 @@ Lines-canonical =
 -- the load of the file: its marks are the marks, at marked places its bytes are the bytes, and every other place keeps its byte
 pub record Restores (page marks old-page : List ℕ) (l : Loaded) : Type 0 where
   pub same-marks : l .marks ≡ marks
-  pub same-bytes : (i : ℕ) → getD marks i 0 ≡ 1 → getD (l .page) i 0 ≡ getD page i 0
-  pub others-kept : (i : ℕ) → getD marks i 0 ≡ 0 → getD (l .page) i 0 ≡ getD old-page i 0
+  pub same-bytes : (i : ℕ) → Marked marks i → getD (l .page) i 0 ≡ getD page i 0
+  pub others-kept : (i : ℕ) → mark-at marks i ≡ 0 → getD (l .page) i 0 ≡ getD old-page i 0
 
 -- into the same window, whatever page and marks held, it is accepted with all its data records
 abbrev pub Loads-back : Type 0
@@ -67,7 +65,7 @@ Loads-back =
     (first : ℕ) (page marks old-page old-marks : List ℕ) → Page first page marks → Every Byte page
     → length old-page ≡ length page → length old-marks ≡ length marks
     → let l = load (file first page marks) first old-page old-marks in
-    (l .answer ≡ accepted (record { records = length (pieces first 0 none marks) })) × Restores page marks old-page l
+    (l .answer ≡ accepted (record { records = length (pieces first 0 none (flags (length page) marks)) })) × Restores page marks old-page l
 
 -- the n bytes that `write_page` says it wrote, given to `load`: that they were written says that window and marks are good
 abbrev pub Written-loads-back : Type 0
@@ -75,7 +73,7 @@ Written-loads-back =
     (first : ℕ) (page marks out : List ℕ) (n : ℕ) (out′ old-page old-marks : List ℕ) (r : Loading) (page′ marks′ : List ℕ)
     → Every Byte page → length old-page ≡ length page → length old-marks ≡ length marks
     → WritePage first page marks out (Wrote n) out′ → Load (take n out′) first old-page old-marks r page′ marks′
-    → (told-loading r ≡ accepted (record { records = length (pieces first 0 none marks) }))
+    → (told-loading r ≡ accepted (record { records = length (pieces first 0 none (flags (length page) marks)) }))
     × Restores page marks old-page (record { answer = told-loading r; page = page′; marks = marks′ })
 
 -- ---- two pages
@@ -83,15 +81,15 @@ Written-loads-back =
 -- for one window, equal marks and equal marked bytes give equal files
 abbrev pub Equal-files : Type 0
 Equal-files =
-    (first : ℕ) (page₁ page₂ marks : List ℕ) → length page₁ ≡ length marks → length page₂ ≡ length marks
-    → ((i : ℕ) → getD marks i 0 ≡ 1 → getD page₁ i 0 ≡ getD page₂ i 0)
+    (first : ℕ) (page₁ page₂ marks : List ℕ) → length page₁ ≡ length page₂
+    → ((i : ℕ) → Marked marks i → getD page₁ i 0 ≡ getD page₂ i 0)
     → file first page₁ marks ≡ file first page₂ marks
 
 -- so two such pages are answered alike, refusals and all, and leave an output alike
 abbrev pub Equal-answers : Type 0
 Equal-answers =
     (first : ℕ) (page₁ page₂ marks out : List ℕ) (r₁ r₂ : Paged) (o₁ o₂ : List ℕ) → length page₁ ≡ length page₂
-    → ((i : ℕ) → getD marks i 0 ≡ 1 → getD page₁ i 0 ≡ getD page₂ i 0)
+    → ((i : ℕ) → Marked marks i → getD page₁ i 0 ≡ getD page₂ i 0)
     → WritePage first page₁ marks out r₁ o₁ → WritePage first page₂ marks out r₂ o₂ → (r₁ ≡ r₂) × (o₁ ≡ o₂)
 
 -- and nothing else gives equal files
@@ -99,15 +97,9 @@ abbrev pub Files-tell : Type 0
 Files-tell =
     (first : ℕ) (page₁ marks₁ page₂ marks₂ : List ℕ) → Page first page₁ marks₁ → Page first page₂ marks₂ → Every Byte page₁ → Every Byte page₂
     → length page₁ ≡ length page₂ → file first page₁ marks₁ ≡ file first page₂ marks₂
-    → (marks₁ ≡ marks₂) × ((i : ℕ) → getD marks₁ i 0 ≡ 1 → getD page₁ i 0 ≡ getD page₂ i 0)
+    → (marks₁ ≡ marks₂) × ((i : ℕ) → Marked marks₁ i → getD page₁ i 0 ≡ getD page₂ i 0)
 
 -- ---- why a page is answered as it is
-
--- the first mark that is neither 0 nor 1
-pub record First-bad (marks : List ℕ) (place : ℕ) : Type 0 where
-  pub inside : place < length marks
-  pub bad : ¬ Mark (getD marks place 0)
-  pub none-before : (i : ℕ) → i < place → Mark (getD marks i 0)
 
 -- a reason for an answer, for an output of this much room
 pub data Why (first : ℕ) (page marks : List ℕ) (room : ℕ) : Told → Type 0 where
@@ -124,14 +116,14 @@ Reasons = (first : ℕ) (page marks out : List ℕ) (r : Paged) (out′ : List �
 abbrev pub One-reason : Type 0
 One-reason = (first : ℕ) (page marks : List ℕ) (room : ℕ) (t t′ : Told) → Why first page marks room t → Why first page marks room t′ → t ≡ t′
 
--- seven bytes for each place and 58 more have room for every file
+-- seven bytes for each place of the page and 58 more have room for every file
 abbrev pub Room : Type 0
-Room = (first : ℕ) (page marks : List ℕ) → Window first page marks → length (file first page marks) ≤ 7 * length marks + 58
+Room = (first : ℕ) (page marks : List ℕ) → Window first page marks → length (file first page marks) ≤ 7 * length page + 58
 
 -- so each answer of `page_file_length` has the reason that it has in every output with that room, and is never 15
 abbrev pub Length-reasons : Type 0
 Length-reasons =
-    (first : ℕ) (page marks : List ℕ) (r : Paged) (space : ℕ) → PageFileLength first page marks r → 7 * length marks + 58 ≤ space → Why first page marks space (told r)
+    (first : ℕ) (page marks : List ℕ) (r : Paged) (space : ℕ) → PageFileLength first page marks r → 7 * length page + 58 ≤ space → Why first page marks space (told r)
 
 -- `page_file_length` answers as `write_page` does, but that the latter may lack the room
 abbrev pub Length-as-written : Type 0

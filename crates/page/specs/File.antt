@@ -1,15 +1,16 @@
 -- The file of a page with marks, document 02's fourth request: its records, its text, and what stands in its place.
 -- Assumes nothing.
-use Prim.Native.Nat.{ℕ, suc, _+_, _/_, _%_}
+use Prim.Native.Nat.{ℕ, _+_, _/_, _%_}
 use mathlib.Core.Bool.{Bool, false}
 use mathlib.Core.Option.{Option, none, some}
 use mathlib.Core.List.{List, [], _∷_, _++_}
-use lib.Dec.{eqb, leb, ltb}
+use lib.Dec.{eqb, ltb}
 use lib.ListN.{length}
 use Rattle.record.specs.Common.{if_then_else_}
 use Rattle.record.specs.Refusals.{bad-window, bad-mark}
 use Rattle.record.specs.declared.Record.{Record}
 use Rattle.record.specs.declared.Record.the-variants.{Data, EndOfFile, ExtendedLinearAddress}
+use Rattle.marks.specs.Marks.{flags, first-bad}
 use Rattle.writer.specs.Text.{Text, chars, refused}
 use Rattle.writer.specs.Object.{joined-lines}
 use Rattle.loader.specs.Load.{unfit}
@@ -43,26 +44,21 @@ unfolding extension
 records first latest [] = EndOfFile ∷ []
 records first latest (p ∷ ps) = extension latest (upper first p) ++ (data-of first p ∷ records first (some (upper first p)) ps)
 
-unfoldable pub page-records : (first : ℕ) (marks : List ℕ) → List Record
+unfoldable pub page-records : (first : ℕ) (flags : List ℕ) → List Record
 unfolding records pieces
-page-records first marks = records first none (pieces first 0 none marks)
+page-records first flags = records first none (pieces first 0 none flags)
 
 -- ---- the text
 
 -- each record's line as our writer writes it, with one LF
 unfoldable pub file : (first : ℕ) (page marks : List ℕ) → List ℕ
-unfolding joined-lines page-records
-file first page marks = joined-lines (page-records first marks) page
-
--- how many marks stand ahead of the first that is neither 0 nor 1
-unfoldable pub good-marks : List ℕ → ℕ
-good-marks [] = 0
-good-marks (m ∷ marks) = if leb m 1 then suc (good-marks marks) else 0
+unfolding joined-lines page-records flags
+file first page marks = joined-lines (page-records first (flags (length page) marks)) page
 
 -- 16, then 19, and else the file; 15 comes where an output has no room for it
 unfoldable pub page-text : (first : ℕ) (page marks : List ℕ) → Text
-unfolding unfit good-marks file
+unfolding unfit first-bad file
 page-text first page marks =
     if unfit first (length page) (length marks) then refused bad-window else
-    if ltb (good-marks marks) (length marks) then refused (bad-mark (good-marks marks)) else
+    if ltb (first-bad marks) (length marks) then refused (bad-mark (first-bad marks)) else
     chars (file first page marks)

@@ -1,6 +1,6 @@
 -- What the private functions of the page writer promise each other.
 -- Assumes nothing.
-use Prim.Native.Nat.{ℕ, _+_, _%_, _^_, _≤_, _<_}
+use Prim.Native.Nat.{ℕ, _+_, _-_, _%_, _^_, _≤_, _<_, min}
 use mathlib.Core.Path.{_≡_}
 use mathlib.Core.Logic.{_≢_, _⊎_}
 use mathlib.Core.Bool.{false}
@@ -11,6 +11,7 @@ use lib.ListN.{length, getD, drop}
 use Rattle.record.specs.Common.{if_then_else_}
 use Rattle.record.specs.Refusals.{Refusal, output-full}
 use Rattle.record.specs.declared.Record.{Record}
+use Rattle.marks.specs.Marks.{flags}
 use Rattle.writer.specs.declared.Written.{Written}
 use Rattle.writer.specs.declared.Survey.{Survey}
 use Rattle.writer.specs.Told.{refuses}
@@ -29,35 +30,18 @@ use Rattle.page.specs.Told.{refusal-of, told}
 
 -- ---- places
 
--- from one place up to another no place is marked, and the other is, or is the end
-pub record NextMarked (marks : List ℕ) (from r : ℕ) : Type 0 where
-  pub low : from ≤ r
-  pub high : r ≤ length marks
-  pub unmarked : (i : ℕ) → from ≤ i → i < r → getD marks i 0 ≢ 1
-  pub there : (r ≡ length marks) ⊎ (getD marks r 0 ≡ 1)
+-- how far a piece from a place on may reach: 16 places, the next multiple of 65,536 or the end, whichever is nearest
+abbrev pub reach : (address place end : ℕ) → ℕ
+reach address place end = place + min (min 16 (65536 - address % 65536)) (end - place)
 
--- the lesser of two
-pub record Least (a b r : ℕ) : Type 0 where
-  pub under-a : r ≤ a
-  pub under-b : r ≤ b
-  pub one : (r ≡ a) ⊎ (r ≡ b)
-
--- how far a piece may reach
-pub record Farthest (address place end r : ℕ) : Type 0 where
-  pub more : place < r
-  pub inside : r ≤ end
-  pub few : r ≤ place + 16
-  pub unbroken : address % 65536 + r ≤ place + 65536
-  pub no-less : (r ≡ end) ⊎ ((r ≡ place + 16) ⊎ (address % 65536 + r ≡ place + 65536))
-
--- the place behind the piece that starts at a place: it may reach there, all behind its first place is marked, and there it has to end
-pub record PieceEnd (marks : List ℕ) (first start r : ℕ) : Type 0 where
+-- the place after the piece that starts at a place: it may reach there, all after its first place is marked, and there it has to end
+pub record PieceEnd (flags : List ℕ) (first start r : ℕ) : Type 0 where
   pub more : start < r
-  pub inside : r ≤ length marks
+  pub inside : r ≤ length flags
   pub few : r ≤ start + 16
   pub unbroken : (first + start) % 65536 + r ≤ start + 65536
-  pub marked : (i : ℕ) → start < i → i < r → getD marks i 0 ≡ 1
-  pub ends : (r ≡ length marks) ⊎ ((r ≡ start + 16) ⊎ (((first + start) % 65536 + r ≡ start + 65536) ⊎ (getD marks r 0 ≢ 1)))
+  pub marked : (i : ℕ) → start < i → i < r → getD flags i 0 ≡ 1
+  pub ends : (r ≡ length flags) ⊎ ((r ≡ start + 16) ⊎ (((first + start) % 65536 + r ≡ start + 65536) ⊎ (getD flags r 0 ≢ 1)))
 
 -- ---- the walk over the records
 
@@ -66,22 +50,22 @@ unfoldable pub latest-upper : ℕ → Option ℕ
 latest-upper latest = if ltb latest 65536 then some latest else none
 
 -- the records to come
-unfoldable pub to-come : (first : ℕ) (marks : List ℕ) → Walk → List Record
+unfoldable pub to-come : (first : ℕ) (flags : List ℕ) → Walk → List Record
 unfolding latest-upper
-to-come first marks w =
+to-come first flags w =
     if w .finished then [] else
-    records first (latest-upper (w .latest)) (pieces first (w .place) none (drop (w .place) marks))
+    records first (latest-upper (w .latest)) (pieces first (w .place) none (drop (w .place) flags))
 
 -- a walk that has records to come, in a window that is not refused
-pub record Under-way (first : ℕ) (marks : List ℕ) (w : Walk) : Type 0 where
+pub record Under-way (first : ℕ) (flags : List ℕ) (w : Walk) : Type 0 where
   pub on : w .finished ≡ false
-  pub inside : w .place ≤ length marks
-  pub below : first + length marks ≤ 2 ^ 32
+  pub inside : w .place ≤ length flags
+  pub below : first + length flags ≤ 2 ^ 32
 
 -- one record further
-pub record Stepped (first : ℕ) (marks : List ℕ) (w : Walk) (r : Step) : Type 0 where
-  pub next : to-come first marks w ≡ r .given ∷ to-come first marks (r .walk)
-  pub inside : r .walk .place ≤ length marks
+pub record Stepped (first : ℕ) (flags : List ℕ) (w : Walk) (r : Step) : Type 0 where
+  pub next : to-come first flags w ≡ r .given ∷ to-come first flags (r .walk)
+  pub inside : r .walk .place ≤ length flags
 
 -- ---- the answer
 
@@ -89,7 +73,7 @@ pub record Stepped (first : ℕ) (marks : List ℕ) (w : Walk) (r : Step) : Type
 pub record Surveyed-whole (first : ℕ) (page marks : List ℕ) (s : Survey) : Type 0 where
   pub window : Window first page marks
   pub text-is : page-text first page marks ≡ chars (file first page marks)
-  pub surveys : Surveys page (page-records first marks) s
+  pub surveys : Surveys page (page-records first (flags (length page) marks)) s
 
 -- or the refusal that stands in the file's place
 abbrev pub Surveyed-as : (first : ℕ) (page marks : List ℕ) → Surveyed → Type 0

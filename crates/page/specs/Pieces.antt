@@ -1,4 +1,5 @@
 -- Which places of a page each data record holds: every run of marked places, cut after 16 places and at each multiple of 65,536.
+-- Flags are the marks of the places, a number for each.
 -- Assumes nothing.
 use Prim.Native.Nat.{ℕ, suc, _+_, _%_}
 use mathlib.Core.Bool.{Bool, not, _||_}
@@ -26,13 +27,13 @@ one-longer p = record { place = p .place; size = suc (p .size) }
 unfoldable pub starting : (mark place : ℕ) → Option Piece
 starting mark place = if is-marked mark then some (record { place = place; size = 1 }) else none
 
--- the pieces of the marks from a place on, with the one that is begun there, if one is
-unfoldable pub pieces : (first place : ℕ) (begun : Option Piece) (marks : List ℕ) → List Piece
+-- the pieces of the flags from a place on, with the one that is begun there, if one is
+unfoldable pub pieces : (first place : ℕ) (begun : Option Piece) (flags : List ℕ) → List Piece
 unfolding ends-before starting
 pieces first place none [] = []
 pieces first place (some p) [] = p ∷ []
-pieces first place none (m ∷ marks) = pieces first (suc place) (starting m place) marks
-pieces first place (some p) (m ∷ marks) =
+pieces first place none (m ∷ flags) = pieces first (suc place) (starting m place) flags
+pieces first place (some p) (m ∷ flags) =
     if ends-before p m (first + place)
-    then p ∷ pieces first (suc place) (starting m place) marks
-    else pieces first (suc place) (some (one-longer p)) marks
+    then p ∷ pieces first (suc place) (starting m place) flags
+    else pieces first (suc place) (some (one-longer p)) flags

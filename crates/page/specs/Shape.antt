@@ -25,9 +25,9 @@ held [] = []
 held (p ∷ ps) = places (p .place) (p .size) ++ held ps
 
 -- the marked places, in order
-unfoldable pub marked-places : (place : ℕ) (marks : List ℕ) → List ℕ
+unfoldable pub marked-places : (place : ℕ) (flags : List ℕ) → List ℕ
 marked-places place [] = []
-marked-places place (m ∷ marks) = if is-marked m then place ∷ marked-places (suc place) marks else marked-places (suc place) marks
+marked-places place (m ∷ flags) = if is-marked m then place ∷ marked-places (suc place) flags else marked-places (suc place) flags
 
 -- 1 to 16 places, and no multiple of 65,536 inside
 pub record Sized (first : ℕ) (p : Piece) : Type 0 where
@@ -45,17 +45,17 @@ Cut-nowhere-else first [] = Unit
 Cut-nowhere-else first (p ∷ ps) = Before first p ps × Cut-nowhere-else first ps
 
 -- the marked places, each once and in order; each piece of good size; no cut but those that are asked for
-pub record Pieces-of (first : ℕ) (marks : List ℕ) (ps : List Piece) : Type 0 where
-  pub holds : held ps ≡ marked-places 0 marks
+pub record Pieces-of (first : ℕ) (flags : List ℕ) (ps : List Piece) : Type 0 where
+  pub holds : held ps ≡ marked-places 0 flags
   pub sized : Every (Sized first) ps
   pub cuts : Cut-nowhere-else first ps
 
 -- `pieces` are such, and nothing else is
 abbrev pub Made-so : Type 0
-Made-so = (first : ℕ) (marks : List ℕ) → Pieces-of first marks (pieces first 0 none marks)
+Made-so = (first : ℕ) (flags : List ℕ) → Pieces-of first flags (pieces first 0 none flags)
 
 abbrev pub Only-so : Type 0
-Only-so = (first : ℕ) (marks : List ℕ) (ps qs : List Piece) → Pieces-of first marks ps → Pieces-of first marks qs → ps ≡ qs
+Only-so = (first : ℕ) (flags : List ℕ) (ps qs : List Piece) → Pieces-of first flags ps → Pieces-of first flags qs → ps ≡ qs
 
 -- ---- all records
 
@@ -88,13 +88,13 @@ pub data Follows (first : ℕ) : Ahead → List Record → Type 0 where
       → Follows first (data-under u) rs → Follows first (data-under u) (Data offset at len ∷ rs)
 
 -- a file's records: the data records are the pieces of the marked places, and each record stands where it may
-pub record Records-of (first : ℕ) (marks : List ℕ) (rs : List Record) : Type 0 where
-  pub data-are : Pieces-of first marks (data-in rs)
+pub record Records-of (first : ℕ) (flags : List ℕ) (rs : List Record) : Type 0 where
+  pub data-are : Pieces-of first flags (data-in rs)
   pub laid-out : Follows first nothing rs
 
 -- `page-records` are such, and nothing else is
 abbrev pub Records-made-so : Type 0
-Records-made-so = (first : ℕ) (marks : List ℕ) → Records-of first marks (page-records first marks)
+Records-made-so = (first : ℕ) (flags : List ℕ) → Records-of first flags (page-records first flags)
 
 abbrev pub Records-only-so : Type 0
-Records-only-so = (first : ℕ) (marks : List ℕ) (rs : List Record) → Records-of first marks rs → rs ≡ page-records first marks
+Records-only-so = (first : ℕ) (flags : List ℕ) (rs : List Record) → Records-of first flags rs → rs ≡ page-records first flags

@@ -4,12 +4,13 @@ use writer::Survey;
 use writer::Written;
 ghost use mathlib.Core.Path.{_≡_};
 ghost use mathlib.Core.Bool.{false};
-ghost use Prim.Native.Nat.{_+_, _^_, _≤_, _<_};
+ghost use Prim.Native.Nat.{_+_, _^_, _≤_, _<_, min};
 ghost use lib.ListN.{length};
+ghost use Rattle.marks.specs.Marks.{flags};
 ghost use Rattle.writer.specs.Claims.{Surveys, Steps};
-ghost use Rattle.page.specs.File.{page-records, good-marks};
+ghost use Rattle.page.specs.File.{page-records};
 ghost use Rattle.page.specs.Told.{PageFileLength, WritePage};
-ghost use Rattle.page.specs.Helpers.{NextMarked, Least, Farthest, PieceEnd, Under-way, Stepped, Surveyed-as, May-be-full, As-written};
+ghost use Rattle.page.specs.Helpers.{reach, PieceEnd, Under-way, Stepped, Surveyed-as, May-be-full, As-written};
 
 // The largest number of a `usize`.
 const MOST: usize = 18446744073709551615;
@@ -52,38 +53,9 @@ enum Surveyed {
     Refused(PageError),
 }
 
-// How many marks stand ahead of the first that is neither 0 nor 1.
-fn good_marks(marks: &[u8]) -> usize
-    ensures { λ r. ⌜ r ≡ good-marks (now (marks .entry)) ⌝ }
-{
-    let mut i = 0;
-    while i < marks.len() {
-        if marks[i] > 1 {
-            return i;
-        }
-        i += 1;
-    }
-    i
-}
-
-// The first marked place from a place on, or the end.
-fn next_marked(marks: &[u8], from: usize) -> usize
-    requires { ⌜ from ≤ length (now marks) ⌝ }
-    ensures { λ r. ⌜ NextMarked (now (marks .entry)) from r ⌝ }
-{
-    let mut i = from;
-    while i < marks.len() {
-        if marks[i] == 1 {
-            return i;
-        }
-        i += 1;
-    }
-    i
-}
-
 // The lesser of two.
 fn least(a: usize, b: usize) -> usize
-    ensures { λ r. ⌜ Least a b r ⌝ }
+    ensures { λ r. ⌜ r ≡ min a b ⌝ }
 {
     if a < b {
         return a;
@@ -94,35 +66,28 @@ fn least(a: usize, b: usize) -> usize
 // How far a piece from a place on may reach: 16 places, the next multiple of 65,536 or the end, whichever is nearest.
 fn farthest(address: u32, place: usize, end: usize) -> usize
     requires { ⌜ place < end ⌝ }
-    ensures { λ r. ⌜ Farthest address place end r ⌝ }
+    ensures { λ r. ⌜ r ≡ reach address place end ⌝ }
 {
     let room = 65536 - (address % 65536) as usize;
     place + least(least(16, room), end - place)
 }
 
-// The place behind the piece that starts at a marked place.
-fn piece_end(marks: &[u8], first: u32, start: usize) -> usize
-    requires { ⌜ (start < length (now marks)) × (first + length (now marks) ≤ 2 ^ 32) ⌝ }
-    ensures { λ r. ⌜ PieceEnd (now (marks .entry)) first start r ⌝ }
+// The place after the piece that starts at a marked place.
+fn piece_end(first: u32, places: usize, marks: &[u8], start: usize) -> usize
+    requires { ⌜ (start < places) × (first + places ≤ 2 ^ 32) ⌝ }
+    ensures { λ r. ⌜ PieceEnd (flags places (now (marks .entry))) first start r ⌝ }
 {
-    let end = farthest(first + (start as u32), start, marks.len());
-    let mut i = start + 1;
-    while i < end {
-        if marks[i] != 1 {
-            return i;
-        }
-        i += 1;
-    }
-    i
+    let end = farthest(first + (start as u32), start, places);
+    marks::next_unmarked(marks, end, start + 1)
 }
 
 // The next record of the file.
-fn next_record(w: Walk, first: u32, marks: &[u8]) -> Step
-    requires { ⌜ Under-way first (now marks) w ⌝ }
-    ensures { λ r. ⌜ Stepped first (now (marks .entry)) w r ⌝ }
+fn next_record(w: Walk, first: u32, places: usize, marks: &[u8]) -> Step
+    requires { ⌜ Under-way first (flags places (now marks)) w ⌝ }
+    ensures { λ r. ⌜ Stepped first (flags places (now (marks .entry))) w r ⌝ }
 {
-    let start = next_marked(marks, w.place);
-    if start == marks.len() {
+    let start = marks::next_marked(marks, places, w.place);
+    if start == places {
         return Step {
             given: Record::EndOfFile,
             walk: Walk {
@@ -144,7 +109,7 @@ fn next_record(w: Walk, first: u32, marks: &[u8]) -> Step
             },
         };
     }
-    let end = piece_end(marks, first, start);
+    let end = piece_end(first, places, marks, start);
     Step {
         given: Record::Data {
             offset: (address % 65536) as u16,
@@ -172,14 +137,14 @@ fn begin() -> Walk
 
 // The survey of all records of the file.
 fn survey(first: u32, page: &[u8], marks: &[u8]) -> Survey
-    requires { ⌜ first + length (now marks) ≤ 2 ^ 32 ⌝ }
-    ensures { λ r. ⌜ Surveys (now (page .entry)) (page-records first (now (marks .entry))) r ⌝ }
+    requires { ⌜ first + length (now page) ≤ 2 ^ 32 ⌝ }
+    ensures { λ r. ⌜ Surveys (now (page .entry)) (page-records first (flags (length (now (page .entry))) (now (marks .entry)))) r ⌝ }
 {
     let mut s = Survey::new();
     let mut w = begin();
     let mut finished = false;
     while !finished {
-        let step = next_record(w, first, marks);
+        let step = next_record(w, first, page.len(), marks);
         let given = step.given;
         s = s.add(given, page);
         w = step.walk;
@@ -190,14 +155,14 @@ fn survey(first: u32, page: &[u8], marks: &[u8]) -> Survey
 
 // Each record of the file, from a start on.
 fn write_records(first: u32, page: &[u8], marks: &[u8], out: &mut [u8], start: Written) -> Written
-    requires { ⌜ first + length (now marks) ≤ 2 ^ 32 ⌝ }
-    ensures { λ r. ⌜ Steps (now (page .entry)) (now (out .entry)) start (page-records first (now (marks .entry))) r (now (out .exit)) ⌝ }
+    requires { ⌜ first + length (now page) ≤ 2 ^ 32 ⌝ }
+    ensures { λ r. ⌜ Steps (now (page .entry)) (now (out .entry)) start (page-records first (flags (length (now (page .entry))) (now (marks .entry)))) r (now (out .exit)) ⌝ }
 {
     let mut done = start;
     let mut w = begin();
     let mut finished = false;
     while !finished {
-        let step = next_record(w, first, marks);
+        let step = next_record(w, first, page.len(), marks);
         let given = step.given;
         done = writer::write_next(done, given, page, out);
         w = step.walk;
@@ -213,9 +178,9 @@ fn survey_page(first: u32, page: &[u8], marks: &[u8]) -> Surveyed
     if window::is_unfit(first, page.len(), marks.len()) {
         return Surveyed::Refused(PageError::BadWindow);
     }
-    let good = good_marks(marks);
-    if good < marks.len() {
-        return Surveyed::Refused(PageError::BadMark(good));
+    let bad = marks::first_bad(marks);
+    if bad < marks.len() {
+        return Surveyed::Refused(PageError::BadMark(bad));
     }
     Surveyed::Of(survey(first, page, marks))
 }

@@ -1,7 +1,7 @@
 -- `marks::next_marked` meets its contract: no place before is marked.
 -- Assumes nothing.
 use denote.Ref.{now}
-use Prim.Native.Nat.{ℕ, _-_, _≤_, _<_, min}
+use Prim.Native.Nat.{ℕ, _-_, _≤_, _<_, min, max}
 use mathlib.Core.Path.{_≡_}
 use mathlib.Core.Logic.{_≢_}
 use native.Mathlib.Omega.{arith}
@@ -12,7 +12,7 @@ use Rattle.marks.proofs.next_marked.Statement.{statement}
 use Rattle.marks.proofs.next_marked.Tie as tie
 
 abbrev Inv-loop : tie.InvT-loop
-Inv-loop marks places from end i₀ i = (end ≡ min places (length marks)) × (from ≤ i) × ((j : ℕ) → from ≤ j → j < i → getD marks j 0 ≢ 1)
+Inv-loop marks places from end i₀ i = (end ≡ min places (length marks)) × (from ≤ i) × (i ≤ max from end) × ((j : ℕ) → from ≤ j → j < i → getD marks j 0 ≢ 1)
 
 abbrev μ-loop : tie.MeasureT-loop
 μ-loop marks places from end i₀ i = end - i
@@ -21,7 +21,7 @@ least-requires : tie.Need-least-requires Inv-loop μ-loop
 least-requires c κs = search needs
 
 loop-holds : tie.Need-loop-holds Inv-loop μ-loop
-loop-holds c = (c .least .ensures, omega arith, λ j l h. absurd (omega arith))
+loop-holds c = (c .least .ensures, omega arith, omega arith, λ j l h. absurd (omega arith))
 
 shared-slice-read-if1 : tie.Need-shared-slice-read-if1 Inv-loop μ-loop
 shared-slice-read-if1 c = search needs
@@ -30,7 +30,7 @@ returns : tie.Need-returns Inv-loop μ-loop
 returns c =
     let s = c .before .before .before .before .before .before .args in
     let l = c .before .before .before .loop in
-    found-marked (now (s .marks)) (s .places) (s .from) _ (l .i) (l .inv .0) (c .before .before .loop-test .taken) (l .inv .1) (l .inv .2) (c .if1 .taken)
+    found-marked (now (s .marks)) (s .places) (s .from) _ (l .i) (l .inv .0) (l .inv .1) (c .before .before .loop-test .taken) (l .inv .3) (c .if1 .taken)
 
 add-i : tie.Need-add-i Inv-loop μ-loop
 add-i c = search needs
@@ -42,13 +42,16 @@ loop-again : tie.Need-loop-again Inv-loop μ-loop
 loop-again c =
     let s = c .before .before .before .before .before .before .args in
     let l = c .before .before .before .loop in
-    (l .inv .0, omega (arith, l .inv .1), one-more (λ j. getD (now (s .marks)) j 0 ≢ 1) (s .from) (l .i) (l .inv .2) (c .if1 .left))
+    (l .inv .0, omega (arith, l .inv .1), omega (arith, c .before .before .loop-test .taken), one-more (λ j. getD (now (s .marks)) j 0 ≢ 1) (s .from) (l .i) (l .inv .3) (c .if1 .left))
+
+most-requires : tie.Need-most-requires Inv-loop μ-loop
+most-requires c κs = search needs
 
 returns-2 : tie.Need-returns-2 Inv-loop μ-loop
 returns-2 c =
-    let s = c .before .before .before .before .args in
-    let l = c .before .loop in
-    none-marked (now (s .marks)) (s .places) (s .from) _ (l .i) (l .inv .0) (c .loop-test .left) (l .inv .2)
+    let s = c .before .before .before .before .before .args in
+    let l = c .before .before .loop in
+    rw (c .most .ensures) (none-marked (now (s .marks)) (s .places) (s .from) _ (l .i) (l .inv .0) (l .inv .1) (c .before .loop-test .left) (l .inv .3) (l .inv .2))
 
 pub next-marked-spec : {M : Type 1} → statement M
-next-marked-spec = tie.close (tie.spec Inv-loop μ-loop least-requires loop-holds shared-slice-read-if1 returns add-i loop-less loop-again returns-2)
+next-marked-spec = tie.close (tie.spec Inv-loop μ-loop least-requires loop-holds shared-slice-read-if1 returns add-i loop-less loop-again most-requires returns-2)

@@ -1,7 +1,7 @@
 -- `marks::next_unmarked` meets its contract: every place before is marked.
 -- Assumes nothing.
 use denote.Ref.{now}
-use Prim.Native.Nat.{ℕ, _-_, _≤_, _<_, min}
+use Prim.Native.Nat.{ℕ, _-_, _≤_, _<_, min, max}
 use mathlib.Core.Path.{_≡_}
 use native.Mathlib.Omega.{arith}
 use lib.ListN.{length, getD}
@@ -11,7 +11,7 @@ use Rattle.marks.proofs.next_unmarked.Statement.{statement}
 use Rattle.marks.proofs.next_unmarked.Tie as tie
 
 abbrev Inv-loop : tie.InvT-loop
-Inv-loop marks places from end i₀ i = (end ≡ min places (length marks)) × (from ≤ i) × ((j : ℕ) → from ≤ j → j < i → getD marks j 0 ≡ 1)
+Inv-loop marks places from end i₀ i = (end ≡ min places (length marks)) × (from ≤ i) × (i ≤ max from end) × ((j : ℕ) → from ≤ j → j < i → getD marks j 0 ≡ 1)
 
 abbrev μ-loop : tie.MeasureT-loop
 μ-loop marks places from end i₀ i = end - i
@@ -20,7 +20,7 @@ least-requires : tie.Need-least-requires Inv-loop μ-loop
 least-requires c κs = search needs
 
 loop-holds : tie.Need-loop-holds Inv-loop μ-loop
-loop-holds c = (c .least .ensures, omega arith, λ j l h. absurd (omega arith))
+loop-holds c = (c .least .ensures, omega arith, omega arith, λ j l h. absurd (omega arith))
 
 shared-slice-read-if1 : tie.Need-shared-slice-read-if1 Inv-loop μ-loop
 shared-slice-read-if1 c = search needs
@@ -29,7 +29,7 @@ returns : tie.Need-returns Inv-loop μ-loop
 returns c =
     let s = c .before .before .before .before .before .before .args in
     let l = c .before .before .before .loop in
-    found-unmarked (now (s .marks)) (s .places) (s .from) _ (l .i) (l .inv .0) (c .before .before .loop-test .taken) (l .inv .1) (l .inv .2) (c .if1 .taken)
+    found-unmarked (now (s .marks)) (s .places) (s .from) _ (l .i) (l .inv .0) (l .inv .1) (c .before .before .loop-test .taken) (l .inv .3) (λ e. omega (arith, c .if1 .taken, e))
 
 add-i : tie.Need-add-i Inv-loop μ-loop
 add-i c = search needs
@@ -41,29 +41,13 @@ loop-again : tie.Need-loop-again Inv-loop μ-loop
 loop-again c =
     let s = c .before .before .before .before .before .before .args in
     let l = c .before .before .before .loop in
-    (l .inv .0, omega (arith, l .inv .1), one-more (λ j. getD (now (s .marks)) j 0 ≡ 1) (s .from) (l .i) (l .inv .2) (c .if1 .left))
-
-least-requires-2 : tie.Need-least-requires-2 Inv-loop μ-loop
-least-requires-2 c κs = search needs
+    (l .inv .0, omega (arith, l .inv .1), omega (arith, c .before .before .loop-test .taken), one-more (λ j. getD (now (s .marks)) j 0 ≡ 1) (s .from) (l .i) (l .inv .3) (omega (arith, c .if1 .left)))
 
 returns-2 : tie.Need-returns-2 Inv-loop μ-loop
 returns-2 c =
-    let s = c .before .before .before .before .before .args in
-    let l = c .before .before .loop in
-    rw (c .least2 .ensures) (all-marked (now (s .marks)) (s .places) (s .from) _ (l .i) (l .inv .0) (c .before .loop-test .left) (l .inv .1) (l .inv .2))
+    let s = c .before .before .before .before .args in
+    let l = c .before .loop in
+    all-marked (now (s .marks)) (s .places) (s .from) _ (l .i) (l .inv .0) (l .inv .1) (c .loop-test .left) (l .inv .3) (l .inv .2)
 
 pub next-unmarked-spec : {M : Type 1} → statement M
-next-unmarked-spec =
-    tie.close
-    (tie.spec
-    Inv-loop
-    μ-loop
-    least-requires
-    loop-holds
-    shared-slice-read-if1
-    returns
-    add-i
-    loop-less
-    loop-again
-    least-requires-2
-    returns-2)
+next-unmarked-spec = tie.close (tie.spec Inv-loop μ-loop least-requires loop-holds shared-slice-read-if1 returns add-i loop-less loop-again returns-2)

@@ -1,8 +1,9 @@
 -- `page::farthest` meets its contract: the least of the three.
 -- Assumes nothing.
+use Prim.Native.Nat.{ℕ, _+_, _-_, min}
+use mathlib.Core.Path.{ap}
 use native.Mathlib.Omega.{arith}
 use borrow.Author.Needs.{needs}
-use Rattle.page.proofs.Marks.{reaches}
 use Rattle.page.proofs.farthest.Statement.{statement}
 use Rattle.page.proofs.farthest.Tie as tie
 
@@ -22,10 +23,12 @@ least-requires-2 : tie.Need-least-requires-2
 least-requires-2 c κs = search needs
 
 add-result : tie.Need-add-result
-add-result c = omega (arith, c .before .before .pre, c .least2 .ensures .under-b, c .before .before .good .1 .1 .0)
+add-result c = omega (arith, c .before .before .pre, c .least2 .ensures, c .before .before .good .1 .1 .0)
 
 returns : tie.Need-returns
-returns c = let s = c .before .before in reaches (s .args .address) (s .args .place) (s .args .end) (c .before .least .result) (c .least2 .result) (s .pre) (c .before .least .ensures) (c .least2 .ensures)
+returns c =
+    let a = c .before .before .args in
+    rw (c .least2 .ensures, c .before .least .ensures) (ap (λ (room : ℕ). a .place + min (min 16 room) (a .end - a .place)) (omega arith))
 
 pub farthest-spec : {M : Type 1} → statement M
 farthest-spec = tie.close (tie.spec cast-room sub-room least-requires sub-least least-requires-2 add-result returns)

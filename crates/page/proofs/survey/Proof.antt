@@ -2,10 +2,13 @@
 -- Assumes nothing.
 use mathlib.Core.Path.{refl, subst}
 use mathlib.Core.List.{List, [], _∷_, _++_}
+use native.Mathlib.Omega.{arith}
 use lib.ListN.{length}
 use denote.Ref.{now}
 use borrow.Author.Needs.{needs}
 use borrow.Author.Tests.{not-true, not-false}
+use Rattle.marks.specs.Marks.{flags}
+use Rattle.marks.proofs.Flags.{flags-length}
 use Rattle.record.specs.declared.Record.{Record}
 use Rattle.writer.specs.Claims.{Surveys, at-first as no-records, then-add}
 use Rattle.page.specs.Helpers.{to-come}
@@ -14,10 +17,10 @@ use Rattle.page.proofs.survey.Statement.{statement}
 use Rattle.page.proofs.survey.Tie as tie
 
 abbrev Inv-loop : tie.InvT-loop
-Inv-loop first page marks s₀ w₀ finished₀ s w finished = Surveying first page marks s w finished
+Inv-loop first page marks s₀ w₀ finished₀ s w finished = Surveying first page (flags (length page) marks) s w finished
 
 abbrev μ-loop : tie.MeasureT-loop
-μ-loop first page marks s₀ w₀ finished₀ s w finished = length (to-come first marks w)
+μ-loop first page marks s₀ w₀ finished₀ s w finished = length (to-come first (flags (length page) marks) w)
 
 new-requires : tie.Need-new-requires Inv-loop μ-loop
 new-requires c κs = search needs
@@ -28,13 +31,13 @@ begin-requires c κs = search needs
 loop-holds : tie.Need-loop-holds Inv-loop μ-loop
 loop-holds c =
     let a = c .before .before .before .before .args in
-    record { rs = []; passed = at-first (a .first) (now (a .marks)) (c .begin .result) (c .begin .ensures); surveys = no-records (c .before .new .ensures) }
+    record { rs = []; passed = at-first (a .first) (flags (length (now (a .page))) (now (a .marks))) (c .begin .result) (c .begin .ensures); surveys = no-records (c .before .new .ensures) }
 
 next-record-requires : tie.Need-next-record-requires Inv-loop μ-loop
 next-record-requires c κs =
     let s = c .before .before .before .before .before .before in
     let l = c .before .loop in
-    under-way (s .args .first) (now (s .args .marks)) (l .inv .rs) (l .w) (l .finished) (l .inv .passed) (not-true (l .finished) (c .loop-test .taken)) (s .pre)
+    under-way (s .args .first) (flags (length (now (s .args .page))) (now (s .args .marks))) (l .inv .rs) (l .w) (l .finished) (l .inv .passed) (not-true (l .finished) (c .loop-test .taken)) (omega (arith, flags-length (length (now (s .args .page))) (now (s .args .marks)), s .pre))
 
 add-requires : tie.Need-add-requires Inv-loop μ-loop
 add-requires c κs = search needs
@@ -43,7 +46,7 @@ loop-less : tie.Need-loop-less Inv-loop μ-loop
 loop-less c =
     let a = c .before .before .before .before .before .before .before .before .before .args in
     let n = c .before .before .next-record in
-    fewer-left (a .first) (now (a .marks)) (c .before .before .before .before .loop .w) (n .result) (n .ensures)
+    fewer-left (a .first) (flags (length (now (a .page))) (now (a .marks))) (c .before .before .before .before .loop .w) (n .result) (n .ensures)
 
 loop-again : tie.Need-loop-again Inv-loop μ-loop
 loop-again c =
@@ -52,7 +55,7 @@ loop-again c =
     let n = c .before .before .next-record in
     record {
       rs = l .inv .rs ++ (n .result .given ∷ []);
-      passed = passes-one (a .first) (now (a .marks)) (l .inv .rs) (l .w) (l .finished) (n .result) (l .inv .passed) (n .ensures);
+      passed = passes-one (a .first) (flags (length (now (a .page))) (now (a .marks))) (l .inv .rs) (l .w) (l .finished) (n .result) (l .inv .passed) (n .ensures);
       surveys = then-add (l .inv .surveys) (c .before .add .ensures) refl;
     }
 
@@ -60,7 +63,7 @@ returns : tie.Need-returns Inv-loop μ-loop
 returns c =
     let a = c .before .before .before .before .before .before .args in
     let l = c .before .loop in
-    subst (λ (rs : List Record). Surveys (now (a .page)) rs (l .s)) (passed-all (a .first) (now (a .marks)) (l .inv .rs) (l .w) (l .finished) (l .inv .passed) (not-false (l .finished) (c .loop-test .left))) (l .inv .surveys)
+    subst (λ (rs : List Record). Surveys (now (a .page)) rs (l .s)) (passed-all (a .first) (flags (length (now (a .page))) (now (a .marks))) (l .inv .rs) (l .w) (l .finished) (l .inv .passed) (not-false (l .finished) (c .loop-test .left))) (l .inv .surveys)
 
 pub survey-spec : {M : Type 1} → statement M
 survey-spec = tie.close (tie.spec Inv-loop μ-loop new-requires begin-requires loop-holds next-record-requires add-requires loop-less loop-again returns)

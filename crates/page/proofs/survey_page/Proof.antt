@@ -27,13 +27,13 @@ returns c =
     let a = c .before .before .before .before .args in
     text-unfit (a .first) (now (a .page)) (now (a .marks)) (sym (c .before .is-unfit .ensures .answer) ∙ c .if1 .taken)
 
-good-marks-requires : tie.Need-good-marks-requires
-good-marks-requires c κs = search needs
+first-bad-requires : tie.Need-first-bad-requires
+first-bad-requires c κs = search needs
 
 returns-2 : tie.Need-returns-2
 returns-2 c =
     let a = c .before .before .before .before .before .before .args in
-    let g = c .before .good-marks in
+    let g = c .before .first-bad in
     text-bad (a .first) (now (a .page)) (now (a .marks)) (fit (c .before .before)) (omega (arith, c .if2 .taken, g .ensures))
     ∙ ap (λ (n : ℕ). refused (bad-mark n)) (sym (g .ensures))
 
@@ -41,7 +41,7 @@ survey-requires : tie.Need-survey-requires
 survey-requires c κs =
     let a = c .before .before .before .before .before .before .args in
     let w = good-window (a .first) (now (a .page)) (now (a .marks)) (fit (c .before .before)) in
-    omega (arith, w .even, w .below)
+    w .below
 
 returns-3 : tie.Need-returns-3
 returns-3 c =
@@ -49,9 +49,9 @@ returns-3 c =
     let f = fit (c .before .before .before) in
     record {
       window = good-window (a .first) (now (a .page)) (now (a .marks)) f;
-      text-is = text-good (a .first) (now (a .page)) (now (a .marks)) f (omega (arith, c .before .if2 .left, c .before .before .good-marks .ensures));
+      text-is = text-good (a .first) (now (a .page)) (now (a .marks)) f (omega (arith, c .before .if2 .left, c .before .before .first-bad .ensures));
       surveys = c .survey .ensures;
     }
 
 pub survey-page-spec : {M : Type 1} → statement M
-survey-page-spec = tie.close (tie.spec is-unfit-requires returns good-marks-requires returns-2 survey-requires returns-3)
+survey-page-spec = tie.close (tie.spec is-unfit-requires returns first-bad-requires returns-2 survey-requires returns-3)

@@ -2,10 +2,13 @@
 -- Assumes nothing.
 use mathlib.Core.Path.{refl, _∙_, subst}
 use mathlib.Core.List.{List, [], _∷_, _++_}
+use native.Mathlib.Omega.{arith}
 use lib.ListN.{length}
 use denote.Ref.{now}
 use borrow.Author.Needs.{needs}
 use borrow.Author.Tests.{not-true, not-false}
+use Rattle.marks.specs.Marks.{flags}
+use Rattle.marks.proofs.Flags.{flags-length}
 use Rattle.record.specs.declared.Record.{Record}
 use Rattle.writer.specs.Claims.{Steps, no-step, then-step}
 use Rattle.page.specs.Helpers.{to-come}
@@ -14,10 +17,10 @@ use Rattle.page.proofs.write_records.Statement.{statement}
 use Rattle.page.proofs.write_records.Tie as tie
 
 abbrev Inv-loop : tie.InvT-loop
-Inv-loop first page marks out₀ done₀ w₀ finished₀ out done w finished = Stepping first page marks out₀ done₀ out done w finished
+Inv-loop first page marks out₀ done₀ w₀ finished₀ out done w finished = Stepping first page (flags (length page) marks) out₀ done₀ out done w finished
 
 abbrev μ-loop : tie.MeasureT-loop
-μ-loop first page marks out₀ done₀ w₀ finished₀ out done w finished = length (to-come first marks w)
+μ-loop first page marks out₀ done₀ w₀ finished₀ out done w finished = length (to-come first (flags (length page) marks) w)
 
 begin-requires : tie.Need-begin-requires Inv-loop μ-loop
 begin-requires c κs = search needs
@@ -25,13 +28,13 @@ begin-requires c κs = search needs
 loop-holds : tie.Need-loop-holds Inv-loop μ-loop
 loop-holds c =
     let a = c .before .before .before .before .args in
-    record { rs = []; passed = at-first (a .first) (now (a .marks)) (c .begin .result) (c .begin .ensures); steps = no-step; same-size = refl }
+    record { rs = []; passed = at-first (a .first) (flags (length (now (a .page))) (now (a .marks))) (c .begin .result) (c .begin .ensures); steps = no-step; same-size = refl }
 
 next-record-requires : tie.Need-next-record-requires Inv-loop μ-loop
 next-record-requires c κs =
     let s = c .before .before .before .before .before .before in
     let l = c .before .loop in
-    under-way (s .args .first) (now (s .args .marks)) (l .inv .rs) (l .w) (l .finished) (l .inv .passed) (not-true (l .finished) (c .loop-test .taken)) (s .pre)
+    under-way (s .args .first) (flags (length (now (s .args .page))) (now (s .args .marks))) (l .inv .rs) (l .w) (l .finished) (l .inv .passed) (not-true (l .finished) (c .loop-test .taken)) (omega (arith, flags-length (length (now (s .args .page))) (now (s .args .marks)), s .pre))
 
 write-next-requires : tie.Need-write-next-requires Inv-loop μ-loop
 write-next-requires c κs = search needs
@@ -40,7 +43,7 @@ loop-less : tie.Need-loop-less Inv-loop μ-loop
 loop-less c =
     let a = c .before .before .before .before .before .before .before .before .before .before .before .before .args in
     let n = c .before .before .before .before .before .next-record in
-    fewer-left (a .first) (now (a .marks)) (c .before .before .before .before .before .before .before .loop .w) (n .result) (n .ensures)
+    fewer-left (a .first) (flags (length (now (a .page))) (now (a .marks))) (c .before .before .before .before .before .before .before .loop .w) (n .result) (n .ensures)
 
 loop-again : tie.Need-loop-again Inv-loop μ-loop
 loop-again c =
@@ -50,7 +53,7 @@ loop-again c =
     let w = c .before .before .before .write-next in
     record {
       rs = l .inv .rs ++ (n .result .given ∷ []);
-      passed = passes-one (a .first) (now (a .marks)) (l .inv .rs) (l .w) (l .finished) (n .result) (l .inv .passed) (n .ensures);
+      passed = passes-one (a .first) (flags (length (now (a .page))) (now (a .marks))) (l .inv .rs) (l .w) (l .finished) (n .result) (l .inv .passed) (n .ensures);
       steps = then-step (n .result .given) (w .last .1 .1 .1 .0) (l .inv .steps) (w .ensures) refl;
       same-size = w .kept .1 .1 .1 .0 ∙ l .inv .same-size;
     }
@@ -63,7 +66,7 @@ returns c =
     let a = c .before .before .before .before .before .before .args in
     let l = c .before .loop in
     subst (λ (rs : List Record). Steps (now (a .page)) (now (a .out)) (a .start) rs (l .done) (l .out))
-    (passed-all (a .first) (now (a .marks)) (l .inv .rs) (l .w) (l .finished) (l .inv .passed) (not-false (l .finished) (c .loop-test .left))) (l .inv .steps)
+    (passed-all (a .first) (flags (length (now (a .page))) (now (a .marks))) (l .inv .rs) (l .w) (l .finished) (l .inv .passed) (not-false (l .finished) (c .loop-test .left))) (l .inv .steps)
 
 pub write-records-spec : {M : Type 1} → statement M
 write-records-spec = tie.close (tie.spec Inv-loop μ-loop begin-requires loop-holds next-record-requires write-next-requires loop-less loop-again same-length returns)
