@@ -31,7 +31,7 @@ returns c =
     let s = n .before .before .before in
     let a = s .before .before .before .before .before .before .before .before .before .args in
     chunk-read (finish-outcome _ (now (a .carry)) (now (a .pool)) (a .at)) []
-    (subst (λ (x : Chunks). Finish x (now (a .carry)) (now (a .pool)) (a .at) (n .finish .result) (n .finish .last .1 .0) (n .finish .last .1 .1 .0)) (s .chunks-from .ensures) (n .finish .ensures))
+    (subst (λ (x : Chunks). Finish x (now (a .carry)) (now (a .pool)) (a .at) (n .finish .result) (n .finish .last .1 .0) (n .finish .last .1 .1 .0)) (s .chunks-from .ensures .answer) (n .finish .ensures))
     (c .tell-step .ensures)
 
 pub ihex-finish-spec : {M : Type 1} → statement M

@@ -1,8 +1,8 @@
 -- `ihex::ihex_load` meets its contract: the loader's answer, in numbers.
 -- Assumes nothing.
 use mathlib.Core.Path.{_∙_, ap}
-use Rattle.ihex.specs.Codes.{loading, line-at}
-use Rattle.ihex.proofs.Codes.{coded}
+use Rattle.codes.specs.Codes.{loading, line-at}
+use Rattle.codes.proofs.Codes.{coded}
 use borrow.Author.Needs.{needs}
 use Rattle.ihex.proofs.ihex_load.Statement.{statement}
 use Rattle.ihex.proofs.ihex_load.Tie as tie
@@ -28,7 +28,7 @@ returns c =
     let k = coded (ap loading (l .answer)) (c .before .code-loading .ensures) in
     record {
       code-is = k .code-is;
-      line-is = c .line-at .ensures ∙ ap line-at (l .answer);
+      line-is = c .line-at .ensures .answer ∙ ap line-at (l .answer);
       a-is = k .a-is;
       b-is = k .b-is;
       page-is = l .page;

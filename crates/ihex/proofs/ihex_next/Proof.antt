@@ -4,8 +4,8 @@ use mathlib.Core.Path.{_∙_, ap, subst}
 use denote.Ref.{now}
 use Rattle.reader.specs.declared.State.{State}
 use Rattle.reader.specs.Text.{Next}
-use Rattle.ihex.specs.Codes.{flags-of}
-use Rattle.ihex.proofs.Codes.{numbers}
+use Rattle.codes.specs.States.{flags-of}
+use Rattle.codes.proofs.Codes.{numbers}
 use borrow.Author.Needs.{needs}
 use Rattle.ihex.proofs.ihex_next.Statement.{statement}
 use Rattle.ihex.proofs.ihex_next.Tie as tie
@@ -30,12 +30,12 @@ returns c =
     let a = c .before .before .before .before .before .before .before .before .before .before .before .before .before .args in
     let n = c .before .before .before .before .before .next in
     let s = c .before .before .before .before .before .before .before .state-from in
-    let e = subst (λ (x : State). Next x (now (a .text)) (now (a .pool)) (a .at) (n .result) (n .last .1 .1 .0)) (s .ensures) (n .ensures) in
+    let e = subst (λ (x : State). Next x (now (a .text)) (now (a .pool)) (a .at) (n .result) (n .last .1 .1 .0)) (s .ensures .answer) (n .ensures) in
     record {
       answer = numbers (e .answer) (c .code-reply .ensures);
       position-is = ap (λ (x : State). x .position) (e .state);
       line-is = ap (λ (x : State). x .line) (e .state);
-      flags-is = c .before .flags-from .ensures ∙ ap flags-of (e .state);
+      flags-is = c .before .flags-from .ensures .answer ∙ ap flags-of (e .state);
       left = e .left;
     }
 

@@ -30,7 +30,7 @@ returns c =
     let s = n .before .before .before in
     let a = s .before .before .before .before .before .before .before .before .before .before .args in
     chunk-read (next-outcome _ (now (a .chunk)) (now (a .carry)) (now (a .pool)) (a .at)) (now (a .chunk))
-    (subst (λ (x : Chunks). NextChunk x (now (a .chunk)) (now (a .carry)) (now (a .pool)) (a .at) (n .next .result) (n .next .last .1 .1 .0) (n .next .last .1 .1 .1 .0)) (s .chunks-from .ensures) (n .next .ensures))
+    (subst (λ (x : Chunks). NextChunk x (now (a .chunk)) (now (a .carry)) (now (a .pool)) (a .at) (n .next .result) (n .next .last .1 .1 .0) (n .next .last .1 .1 .1 .0)) (s .chunks-from .ensures .answer) (n .next .ensures))
     (c .tell-step .ensures)
 
 pub ihex-next-chunk-spec : {M : Type 1} → statement M

@@ -1,6 +1,6 @@
 -- `ihex::ihex_read_record` meets its contract: the record reader's answer, in numbers.
 -- Assumes nothing.
-use Rattle.ihex.proofs.Codes.{numbers}
+use Rattle.codes.proofs.Codes.{numbers}
 use borrow.Author.Needs.{needs}
 use Rattle.ihex.proofs.ihex_read_record.Statement.{statement}
 use Rattle.ihex.proofs.ihex_read_record.Tie as tie

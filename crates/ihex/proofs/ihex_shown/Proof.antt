@@ -23,7 +23,7 @@ returns : tie.Need-returns
 returns c =
     let a = c .before .before .before .before .before .args in
     let p = c .before .before .place-from in
-    subst (λ (x : Place). IhexShown x (now (a .chunk)) (now (a .carry)) (c .before .start-at .result) (length (now (c .shown .result)))) (p .ensures)
+    subst (λ (x : Place). IhexShown x (now (a .chunk)) (now (a .carry)) (c .before .start-at .result) (length (now (c .shown .result)))) (p .ensures .answer)
     (shown-as (p .result) (a .chunk) (a .carry) (c .shown .result) (c .before .start-at .ensures) (c .shown .ensures))
 
 pub ihex-shown-spec : {M : Type 1} → statement M

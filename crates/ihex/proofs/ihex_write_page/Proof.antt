@@ -3,8 +3,8 @@
 use mathlib.Core.Path.{ap}
 use mathlib.Core.Option.{some}
 use Rattle.writer.specs.Told.{Told}
-use Rattle.ihex.specs.Codes.{writing}
-use Rattle.ihex.proofs.Codes.{coded}
+use Rattle.codes.specs.Codes.{writing}
+use Rattle.codes.proofs.Codes.{coded}
 use borrow.Author.Needs.{needs}
 use Rattle.ihex.proofs.ihex_write_page.Statement.{statement}
 use Rattle.ihex.proofs.ihex_write_page.Tie as tie

@@ -1,0 +1,4 @@
+pub mod Codes
+pub mod States
+pub mod Says
+pub mod Claims
