@@ -12,11 +12,14 @@ use reader::ReaderError;
 use reader::ReaderOptions;
 use reader::Reply;
 use reader::State;
+use reader::Values;
 use record::Record;
+use record::refusals;
 use writer::WriterError;
 use writer::Written;
 ghost use mathlib.Core.Path.{_≡_};
 ghost use mathlib.Core.Option.{some};
+ghost use Prim.Native.Nat.{_+_};
 ghost use Rattle.reader.specs.Told.{told, refusal-of};
 ghost use Rattle.reader.specs.Text.{told-reply};
 ghost use Rattle.writer.specs.Told.{told as told-written, refusal-of as writer-refusal};
@@ -52,6 +55,13 @@ fn four(code: u32, a: u64, b: u64, c: u64) -> Coded
     Coded { code, a, b, c }
 }
 
+// A refusal by its number, and two values.
+fn refused(number: u8, a: u64, b: u64) -> Coded
+    ensures { λ r. ⌜ r ≡ record { code = 256 + number; a = a; b = b; c = 0 } ⌝ }
+{
+    four(REFUSED + (number as u32), a, b, 0)
+}
+
 fn code_record(given: Record) -> Coded
     ensures { λ r. ⌜ Coded-as (reading (told (Answer.Read given))) r ⌝ }
 {
@@ -68,19 +78,14 @@ fn code_record(given: Record) -> Coded
 fn code_error(e: ReaderError) -> Coded
     ensures { λ r. ⌜ Coded-as (refused-with (refusal-of e)) r ⌝ }
 {
-    match e {
-        ReaderError::MissingStartCode => four(257, 0, 0, 0),
-        ReaderError::ContainsInvalidCharacters(place) => four(258, place as u64, 0, 0),
-        ReaderError::RecordTooShort => four(259, 0, 0, 0),
-        ReaderError::RecordTooLong => four(260, 0, 0, 0),
-        ReaderError::RecordNotEvenLength => four(261, 0, 0, 0),
-        ReaderError::ChecksumMismatch(computed, stated) => {
-            four(262, computed as u64, stated as u64, 0)
-        }
-        ReaderError::PayloadLengthMismatch => four(263, 0, 0, 0),
-        ReaderError::UnsupportedRecordType(kind) => four(264, kind as u64, 0, 0),
-        ReaderError::InvalidLengthForType => four(265, 0, 0, 0),
-        ReaderError::PoolFull => four(266, 0, 0, 0),
+    let figures = e.figures();
+    let number = figures.number;
+    let values = figures.values;
+    match values {
+        Values::Nothing => refused(number, 0, 0),
+        Values::Place(place) => refused(number, place as u64, 0),
+        Values::Byte(byte) => refused(number, byte as u64, 0),
+        Values::Bytes(first, second) => refused(number, first as u64, second as u64),
     }
 }
 
@@ -111,7 +116,7 @@ pub fn code_chunk_reply(reply: ChunkReply) -> Coded
         ChunkReply::Refused(e) => code_error(e),
         ChunkReply::UsedUp => four(USED_UP, 0, 0, 0),
         ChunkReply::Done => four(DONE, 0, 0, 0),
-        ChunkReply::CarryTooSmall => four(274, 0, 0, 0),
+        ChunkReply::CarryTooSmall => refused(refusals::CARRY_TOO_SMALL, 0, 0),
     }
 }
 
@@ -119,11 +124,19 @@ fn code_writer_error(e: WriterError) -> Coded
     ensures { λ r. ⌜ Coded-as (refused-with (writer-refusal e)) r ⌝ }
 {
     match e {
-        WriterError::PayloadOutsidePool => four(267, 0, 0, 0),
-        WriterError::DataExceedsMaximumLength(n) => four(268, n as u64, 0, 0),
-        WriterError::MissingEndOfFileRecord => four(269, 0, 0, 0),
-        WriterError::MultipleEndOfFileRecords(n) => four(270, n as u64, 0, 0),
-        WriterError::OutputFull => four(271, 0, 0, 0),
+        WriterError::PayloadOutsidePool => refused(refusals::PAYLOAD_OUTSIDE_POOL, 0, 0),
+        WriterError::DataExceedsMaximumLength(n) => refused(
+            refusals::DATA_EXCEEDS_MAXIMUM_LENGTH,
+            n as u64,
+            0,
+        ),
+        WriterError::MissingEndOfFileRecord => refused(refusals::MISSING_END_OF_FILE_RECORD, 0, 0),
+        WriterError::MultipleEndOfFileRecords(n) => refused(
+            refusals::MULTIPLE_END_OF_FILE_RECORDS,
+            n as u64,
+            0,
+        ),
+        WriterError::OutputFull => refused(refusals::OUTPUT_FULL, 0, 0),
     }
 }
 
@@ -151,9 +164,9 @@ fn code_loader_error(e: LoaderError) -> Coded
 {
     match e {
         LoaderError::Line(why) => code_error(why),
-        LoaderError::MissingEndOfFileRecord => four(269, 0, 0, 0),
-        LoaderError::BadWindow => four(272, 0, 0, 0),
-        LoaderError::OutsideWindow(address) => four(273, address as u64, 0, 0),
+        LoaderError::MissingEndOfFileRecord => refused(refusals::MISSING_END_OF_FILE_RECORD, 0, 0),
+        LoaderError::BadWindow => refused(refusals::BAD_WINDOW, 0, 0),
+        LoaderError::OutsideWindow(address) => refused(refusals::OUTSIDE_WINDOW, address as u64, 0),
     }
 }
 
@@ -180,9 +193,9 @@ fn code_page_error(e: PageError) -> Coded
     ensures { λ r. ⌜ Coded-as (refused-with (page-refusal e)) r ⌝ }
 {
     match e {
-        PageError::BadWindow => four(272, 0, 0, 0),
-        PageError::BadMark(place) => four(275, place as u64, 0, 0),
-        PageError::OutputFull => four(271, 0, 0, 0),
+        PageError::BadWindow => refused(refusals::BAD_WINDOW, 0, 0),
+        PageError::BadMark(place) => refused(refusals::BAD_MARK, place as u64, 0),
+        PageError::OutputFull => refused(refusals::OUTPUT_FULL, 0, 0),
     }
 }
 

@@ -7,9 +7,6 @@ use Rattle.codes.specs.States.{bit}
 use Rattle.codes.proofs.chunks_from.Statement.{statement}
 use Rattle.codes.proofs.chunks_from.Tie as tie
 
-state-from-requires : tie.Need-state-from-requires
-state-from-requires c κs = search needs
-
 returns : tie.Need-returns
 returns c =
     let a = c .before .before .args in
@@ -20,4 +17,4 @@ returns c =
     }
 
 pub chunks-from-spec : {M : Type 1} → statement M
-chunks-from-spec = tie.close (tie.spec state-from-requires returns)
+chunks-from-spec = tie.close (tie.spec (λ c κs. search needs) returns)

@@ -5,18 +5,6 @@ use borrow.Author.Needs.{needs}
 use Rattle.codes.proofs.code_loading.Statement.{statement}
 use Rattle.codes.proofs.code_loading.Tie as tie
 
-enum-known-answer : tie.Need-enum-known-answer
-enum-known-answer c = search needs
-
-four-requires : tie.Need-four-requires
-four-requires c κs = search needs
-
-enum-known-answer-2 : tie.Need-enum-known-answer-2
-enum-known-answer-2 c = search needs
-
-code-loader-error-requires : tie.Need-code-loader-error-requires
-code-loader-error-requires c κs = search needs
-
 returns : tie.Need-returns
 returns c = rw (c .before .before .answer .given .1, c .four .ensures) (record { code-is = refl; a-is = refl; b-is = refl; c-is = refl })
 
@@ -27,9 +15,9 @@ pub code-loading-spec : {M : Type 1} → statement M
 code-loading-spec =
     tie.close
     (tie.spec
-    enum-known-answer
-    four-requires
-    enum-known-answer-2
-    code-loader-error-requires
+    (λ c. search needs)
+    (λ c κs. search needs)
+    (λ c. search needs)
+    (λ c κs. search needs)
     returns
     returns-2)

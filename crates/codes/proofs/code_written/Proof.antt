@@ -5,31 +5,16 @@ use borrow.Author.Needs.{needs}
 use Rattle.codes.proofs.code_written.Statement.{statement}
 use Rattle.codes.proofs.code_written.Tie as tie
 
-enum-known-answer : tie.Need-enum-known-answer
-enum-known-answer c = search needs
-
-four-requires : tie.Need-four-requires
-four-requires c κs = search needs
-
-enum-known-answer-2 : tie.Need-enum-known-answer-2
-enum-known-answer-2 c = search needs
-
-code-writer-error-requires : tie.Need-code-writer-error-requires
-code-writer-error-requires c κs = search needs
-
 returns : tie.Need-returns
 returns c = rw (c .before .before .answer .given .1, c .four .ensures) (record { code-is = refl; a-is = refl; b-is = refl; c-is = refl })
-
-returns-2 : tie.Need-returns-2
-returns-2 c = search needs
 
 pub code-written-spec : {M : Type 1} → statement M
 code-written-spec =
     tie.close
     (tie.spec
-    enum-known-answer
-    four-requires
-    enum-known-answer-2
-    code-writer-error-requires
+    (λ c. search needs)
+    (λ c κs. search needs)
+    (λ c. search needs)
+    (λ c κs. search needs)
     returns
-    returns-2)
+    (λ c. search needs))

@@ -35,9 +35,6 @@ returns-3 c =
     let k = c .before .before .before .args .kind in
     simp (ne-eqb _ _ (c .before .before .if1 .left), ne-eqb _ _ (c .before .if2 .left), lt-leb _ _ (c .if3 .taken)) (none-anyway (eqb k 0) (eqb k 2) (eqb k 3) (eqb k 4))
 
-cast-n : tie.Need-cast-n
-cast-n c = search needs
-
 returns-4 : tie.Need-returns-4
 unfolding record-of
 returns-4 c = rw (c .if4 .taken, le-leb _ _ (c .before .if3 .left))
@@ -61,4 +58,4 @@ returns-8 c = simp (ne-eqb _ _ (c .before .before .before .before .before .befor
 pub record-from-spec : {M : Type 1} → statement M
 record-from-spec =
     tie.close
-    (tie.spec returns returns-2 returns-3 cast-n returns-4 returns-5 returns-6 returns-7 returns-8)
+    (tie.spec returns returns-2 returns-3 (λ c. search needs) returns-4 returns-5 returns-6 returns-7 returns-8)

@@ -7,15 +7,6 @@ use borrow.Author.Needs.{needs}
 use Rattle.entries.proofs.record_in.Statement.{statement}
 use Rattle.entries.proofs.record_in.Tie as tie
 
-entry-at-requires : tie.Need-entry-at-requires
-entry-at-requires c κs = search needs
-
-enum-known-entry : tie.Need-enum-known-entry
-enum-known-entry c = search needs
-
-enum-told : tie.Need-enum-told
-enum-told c = search needs
-
 returns : tie.Need-returns
 returns c = sym (c .before .before .before .entry-at .ensures) ∙ ap entry-of (c .before .entry .given .1)
 
@@ -24,4 +15,4 @@ returns-2 c = some-none (c .before .before .before .before .pre .read) (sym (c .
 
 pub record-in-spec : {M : Type 1} → statement M
 record-in-spec =
-    tie.close (tie.spec entry-at-requires enum-known-entry enum-told returns returns-2)
+    tie.close (tie.spec (λ c κs. search needs) (λ c. search needs) (λ c. search needs) returns returns-2)

@@ -22,29 +22,17 @@ abbrev μ-loop : tie.MeasureT-loop
 returns : tie.Need-returns Inv-loop μ-loop
 returns c = uneven (now (c .before .before .before .args .list)) (c .if1 .taken)
 
-new-requires : tie.Need-new-requires Inv-loop μ-loop
-new-requires c κs = search needs
-
 loop-holds : tie.Need-loop-holds Inv-loop μ-loop
 loop-holds c = record { rs = []; passed = passed-none (now (c .before .before .before .before .args .list)) (c .before .if1 .left); surveys = at-first (c .new .ensures) }
 
 entry-at-requires : tie.Need-entry-at-requires Inv-loop μ-loop
 entry-at-requires c κs = passed-room (c .before .loop .inv .passed) (c .loop-test .taken)
 
-enum-known-x : tie.Need-enum-known-x Inv-loop μ-loop
-enum-known-x c = search needs
-
-enum-told : tie.Need-enum-told Inv-loop μ-loop
-enum-told c = search needs
-
 returns-2 : tie.Need-returns-2 Inv-loop μ-loop
 returns-2 c =
     let l = c .before .before .before .before .loop in
     passed-bad (now (c .before .before .before .before .before .before .before .before .before .args .list)) (l .p) (l .inv .rs) (l .inv .passed) (c .before .before .before .loop-test .taken)
     (sym (c .before .before .entry-at .ensures) ∙ ap entry-of (c .enum-told .given .1))
-
-add-requires : tie.Need-add-requires Inv-loop μ-loop
-add-requires c κs = search needs
 
 add-p : tie.Need-add-p Inv-loop μ-loop
 add-p c = omega (arith, passed-room (c .before .before .before .before .before .before .loop .inv .passed) (c .before .before .before .before .before .loop-test .taken), c .before .before .before .before .before .before .before .before .before .before .before .good .0)
@@ -79,13 +67,13 @@ survey-list-spec =
     Inv-loop
     μ-loop
     returns
-    new-requires
+    (λ c κs. search needs)
     loop-holds
     entry-at-requires
-    enum-known-x
-    enum-told
+    (λ c. search needs)
+    (λ c. search needs)
     returns-2
-    add-requires
+    (λ c κs. search needs)
     add-p
     loop-less
     loop-again

@@ -29,9 +29,6 @@ record-in-requires c κs =
     let l = c .before .loop in
     passed-good (now (s .args .list)) (l .p) (l .inv .rs) (s .pre .records) (l .inv .passed) (c .loop-test .taken) (s .pre .read)
 
-write-next-requires : tie.Need-write-next-requires Inv-loop μ-loop
-write-next-requires c κs = search needs
-
 add-p : tie.Need-add-p Inv-loop μ-loop
 add-p c = omega (arith, passed-room (c .before .before .before .before .before .before .loop .inv .passed) (c .before .before .before .before .before .loop-test .taken), c .before .before .before .before .before .before .before .before .before .before .good .0)
 
@@ -67,7 +64,7 @@ write-each-spec =
     μ-loop
     loop-holds
     record-in-requires
-    write-next-requires
+    (λ c κs. search needs)
     add-p
     loop-less
     loop-again

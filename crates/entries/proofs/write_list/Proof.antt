@@ -16,18 +16,6 @@ use borrow.Author.Needs.{needs}
 use Rattle.entries.proofs.write_list.Statement.{statement}
 use Rattle.entries.proofs.write_list.Tie as tie
 
-survey-list-requires : tie.Need-survey-list-requires
-survey-list-requires c κs = search needs
-
-enum-told : tie.Need-enum-told
-enum-told c = search needs
-
-enum-known-surveyed : tie.Need-enum-known-surveyed
-enum-known-surveyed c = search needs
-
-begin-requires : tie.Need-begin-requires
-begin-requires c κs = search needs
-
 write-each-requires : tie.Need-write-each-requires
 write-each-requires c κs =
     let s = c .before .before .before .before .before .before .before .before .before .args in
@@ -38,9 +26,6 @@ returns c =
     let s = c .before .before .before .before .before .before .args in
     not-given (λ (rs : List Record). object rs (now (s .pool))) (records-of (now (s .list))) (now (s .out))
     (subst (λ (x : Surveyed). Surveyed-as (now (s .list)) (now (s .pool)) x) (c .enum-told .given .1) (c .before .before .survey-list .ensures))
-
-same-length : tie.Need-same-length
-same-length c = search needs
 
 returns-2 : tie.Need-returns-2
 returns-2 c =
@@ -61,11 +46,11 @@ pub write-list-spec : {M : Type 1} → statement M
 write-list-spec =
     tie.close
     (tie.spec
-    survey-list-requires
-    enum-told
-    enum-known-surveyed
-    begin-requires
+    (λ c κs. search needs)
+    (λ c. search needs)
+    (λ c. search needs)
+    (λ c κs. search needs)
     write-each-requires
     returns
-    same-length
+    (λ c. search needs)
     returns-2)

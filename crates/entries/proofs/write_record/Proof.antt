@@ -10,26 +10,11 @@ use borrow.Author.Needs.{needs}
 use Rattle.entries.proofs.write_record.Statement.{statement}
 use Rattle.entries.proofs.write_record.Tie as tie
 
-record-from-requires : tie.Need-record-from-requires
-record-from-requires c κs = search needs
-
-enum-told : tie.Need-enum-told
-enum-told c = search needs
-
-enum-known-entry : tie.Need-enum-known-entry
-enum-known-entry c = search needs
-
-to-record-string-requires : tie.Need-to-record-string-requires
-to-record-string-requires c κs = search needs
-
 returns : tie.Need-returns
 returns c =
     let s = c .before .before .before .before .before .args in
     not-given (λ (x : Record). line-text x (now (s .pool))) (record-of (s .kind) (s .number) (s .second) (s .at) (s .len)) (now (s .out))
     (sym (c .before .before .record-from .ensures) ∙ ap entry-of (c .enum-told .given .1))
-
-same-length : tie.Need-same-length
-same-length c = search needs
 
 returns-2 : tie.Need-returns-2
 returns-2 c =
@@ -41,4 +26,4 @@ returns-2 c =
 
 pub write-record-spec : {M : Type 1} → statement M
 write-record-spec =
-    tie.close (tie.spec record-from-requires enum-told enum-known-entry to-record-string-requires returns same-length returns-2)
+    tie.close (tie.spec (λ c κs. search needs) (λ c. search needs) (λ c. search needs) (λ c κs. search needs) returns (λ c. search needs) returns-2)

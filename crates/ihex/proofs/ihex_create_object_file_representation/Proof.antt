@@ -7,15 +7,6 @@ use borrow.Author.Needs.{needs}
 use Rattle.ihex.proofs.ihex_create_object_file_representation.Statement.{statement}
 use Rattle.ihex.proofs.ihex_create_object_file_representation.Tie as tie
 
-write-list-requires : tie.Need-write-list-requires
-write-list-requires c κs = search needs
-
-code-attempt-requires : tie.Need-code-attempt-requires
-code-attempt-requires c κs = search needs
-
-same-length : tie.Need-same-length
-same-length c = search needs
-
 returns : tie.Need-returns
 returns c =
     let w = c .before .before .before .write-list .ensures in
@@ -23,4 +14,4 @@ returns c =
     record { code-is = k .code-is; value-is = k .a-is; left = w .left }
 
 pub ihex-create-object-file-representation-spec : {M : Type 1} → statement M
-ihex-create-object-file-representation-spec = tie.close (tie.spec write-list-requires code-attempt-requires same-length returns)
+ihex-create-object-file-representation-spec = tie.close (tie.spec (λ c κs. search needs) (λ c κs. search needs) (λ c. search needs) returns)

@@ -10,21 +10,6 @@ use borrow.Author.Needs.{needs}
 use Rattle.ihex.proofs.ihex_finish.Statement.{statement}
 use Rattle.ihex.proofs.ihex_finish.Tie as tie
 
-chunks-from-requires : tie.Need-chunks-from-requires
-chunks-from-requires c κs = search needs
-
-finish-requires : tie.Need-finish-requires
-finish-requires c κs = search needs
-
-tell-step-requires : tie.Need-tell-step-requires
-tell-step-requires c κs = search needs
-
-same-length : tie.Need-same-length
-same-length c = search needs
-
-same-length-2 : tie.Need-same-length-2
-same-length-2 c = search needs
-
 returns : tie.Need-returns
 returns c =
     let n = c .before .before .before .before .before .before .before .before .before .before .before .before .before .before .before .before .before in
@@ -38,9 +23,9 @@ pub ihex-finish-spec : {M : Type 1} → statement M
 ihex-finish-spec =
     tie.close
     (tie.spec
-    chunks-from-requires
-    finish-requires
-    tell-step-requires
-    same-length
-    same-length-2
+    (λ c κs. search needs)
+    (λ c κs. search needs)
+    (λ c κs. search needs)
+    (λ c. search needs)
+    (λ c. search needs)
     returns)

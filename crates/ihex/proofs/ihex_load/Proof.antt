@@ -7,21 +7,6 @@ use borrow.Author.Needs.{needs}
 use Rattle.ihex.proofs.ihex_load.Statement.{statement}
 use Rattle.ihex.proofs.ihex_load.Tie as tie
 
-load-requires : tie.Need-load-requires
-load-requires c κs = search needs
-
-code-loading-requires : tie.Need-code-loading-requires
-code-loading-requires c κs = search needs
-
-line-at-requires : tie.Need-line-at-requires
-line-at-requires c κs = search needs
-
-same-length : tie.Need-same-length
-same-length c = search needs
-
-same-length-2 : tie.Need-same-length-2
-same-length-2 c = search needs
-
 returns : tie.Need-returns
 returns c =
     let l = c .before .before .before .before .before .before .load .ensures in
@@ -39,9 +24,9 @@ pub ihex-load-spec : {M : Type 1} → statement M
 ihex-load-spec =
     tie.close
     (tie.spec
-    load-requires
-    code-loading-requires
-    line-at-requires
-    same-length
-    same-length-2
+    (λ c κs. search needs)
+    (λ c κs. search needs)
+    (λ c κs. search needs)
+    (λ c. search needs)
+    (λ c. search needs)
     returns)

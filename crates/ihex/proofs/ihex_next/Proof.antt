@@ -10,21 +10,6 @@ use borrow.Author.Needs.{needs}
 use Rattle.ihex.proofs.ihex_next.Statement.{statement}
 use Rattle.ihex.proofs.ihex_next.Tie as tie
 
-state-from-requires : tie.Need-state-from-requires
-state-from-requires c κs = search needs
-
-next-requires : tie.Need-next-requires
-next-requires c κs = search needs
-
-flags-from-requires : tie.Need-flags-from-requires
-flags-from-requires c κs = search needs
-
-code-reply-requires : tie.Need-code-reply-requires
-code-reply-requires c κs = search needs
-
-same-length : tie.Need-same-length
-same-length c = search needs
-
 returns : tie.Need-returns
 returns c =
     let a = c .before .before .before .before .before .before .before .before .before .before .before .before .before .args in
@@ -43,9 +28,9 @@ pub ihex-next-spec : {M : Type 1} → statement M
 ihex-next-spec =
     tie.close
     (tie.spec
-    state-from-requires
-    next-requires
-    flags-from-requires
-    code-reply-requires
-    same-length
+    (λ c κs. search needs)
+    (λ c κs. search needs)
+    (λ c κs. search needs)
+    (λ c κs. search needs)
+    (λ c. search needs)
     returns)

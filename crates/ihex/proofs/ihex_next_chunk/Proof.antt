@@ -9,21 +9,6 @@ use borrow.Author.Needs.{needs}
 use Rattle.ihex.proofs.ihex_next_chunk.Statement.{statement}
 use Rattle.ihex.proofs.ihex_next_chunk.Tie as tie
 
-chunks-from-requires : tie.Need-chunks-from-requires
-chunks-from-requires c κs = search needs
-
-next-requires : tie.Need-next-requires
-next-requires c κs = search needs
-
-tell-step-requires : tie.Need-tell-step-requires
-tell-step-requires c κs = search needs
-
-same-length : tie.Need-same-length
-same-length c = search needs
-
-same-length-2 : tie.Need-same-length-2
-same-length-2 c = search needs
-
 returns : tie.Need-returns
 returns c =
     let n = c .before .before .before .before .before .before .before .before .before .before .before .before .before .before .before .before .before in
@@ -37,9 +22,9 @@ pub ihex-next-chunk-spec : {M : Type 1} → statement M
 ihex-next-chunk-spec =
     tie.close
     (tie.spec
-    chunks-from-requires
-    next-requires
-    tell-step-requires
-    same-length
-    same-length-2
+    (λ c κs. search needs)
+    (λ c κs. search needs)
+    (λ c κs. search needs)
+    (λ c. search needs)
+    (λ c. search needs)
     returns)

@@ -9,16 +9,10 @@ use borrow.Author.Needs.{needs}
 use Rattle.ihex.proofs.ihex_page_file_length.Statement.{statement}
 use Rattle.ihex.proofs.ihex_page_file_length.Tie as tie
 
-page-file-length-requires : tie.Need-page-file-length-requires
-page-file-length-requires c κs = search needs
-
-code-paged-requires : tie.Need-code-paged-requires
-code-paged-requires c κs = search needs
-
 returns : tie.Need-returns
 returns c =
     let k = coded (ap (λ (t : Told). writing (some t)) (c .before .page-file-length .ensures .answer)) (c .code-paged .ensures) in
     record { code-is = k .code-is; value-is = k .a-is }
 
 pub ihex-page-file-length-spec : {M : Type 1} → statement M
-ihex-page-file-length-spec = tie.close (tie.spec page-file-length-requires code-paged-requires returns)
+ihex-page-file-length-spec = tie.close (tie.spec (λ c κs. search needs) (λ c κs. search needs) returns)

@@ -7,15 +7,6 @@ use borrow.Author.Needs.{needs}
 use Rattle.ihex.proofs.ihex_to_record_string.Statement.{statement}
 use Rattle.ihex.proofs.ihex_to_record_string.Tie as tie
 
-write-record-requires : tie.Need-write-record-requires
-write-record-requires c κs = search needs
-
-code-attempt-requires : tie.Need-code-attempt-requires
-code-attempt-requires c κs = search needs
-
-same-length : tie.Need-same-length
-same-length c = search needs
-
 returns : tie.Need-returns
 returns c =
     let w = c .before .before .before .write-record .ensures in
@@ -23,4 +14,4 @@ returns c =
     record { code-is = k .code-is; value-is = k .a-is; left = w .left }
 
 pub ihex-to-record-string-spec : {M : Type 1} → statement M
-ihex-to-record-string-spec = tie.close (tie.spec write-record-requires code-attempt-requires same-length returns)
+ihex-to-record-string-spec = tie.close (tie.spec (λ c κs. search needs) (λ c κs. search needs) (λ c. search needs) returns)
