@@ -404,20 +404,10 @@ fn place_in_line(place: u16, skipped: u16) -> u16
 fn refusal_in_line(e: ReaderError, skipped: u16) -> ReaderError
     ensures { λ r. ⌜ refusal-of r ≡ refusal-in-line skipped (refusal-of e) ⌝ }
 {
-    match e {
-        ReaderError::ContainsInvalidCharacters(place) => {
-            ReaderError::ContainsInvalidCharacters(place_in_line(place, skipped))
-        }
-        ReaderError::MissingStartCode => e,
-        ReaderError::RecordTooShort => e,
-        ReaderError::RecordTooLong => e,
-        ReaderError::RecordNotEvenLength => e,
-        ReaderError::ChecksumMismatch(_, _) => e,
-        ReaderError::PayloadLengthMismatch => e,
-        ReaderError::UnsupportedRecordType(_) => e,
-        ReaderError::InvalidLengthForType => e,
-        ReaderError::PoolFull => e,
+    if let ReaderError::ContainsInvalidCharacters(place) = e {
+        return ReaderError::ContainsInvalidCharacters(place_in_line(place, skipped));
     }
+    e
 }
 
 // The answer to what a carry holds, as the answer to its line.

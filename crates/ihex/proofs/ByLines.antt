@@ -2,26 +2,23 @@
 -- Assumes nothing.
 use Prim.Native.Nat.{ℕ}
 use mathlib.Core.Path.{_≡_, refl, _∙_, ap, subst}
-use mathlib.Core.Logic.{_≢_}
-use mathlib.Core.Bool.{false}
 use mathlib.Core.List.{List, []}
 use native.Mathlib.Omega.{arith}
 use lib.Dec.{ltb}
 use lib.ListN.{length}
-use borrow.Author.Tests.{ltb-true, ltb-false, ne-eqb}
-use Rattle.record.specs.Refusals.{refusal}
-use Rattle.reader.specs.Told.{Told, gives, refuses, done}
-use Rattle.reader.specs.Text.{is-full}
+use borrow.Author.Tests.{ltb-true, ltb-false}
+use Rattle.reader.specs.Told.{Told, done}
 use Rattle.chunks.specs.declared.Place.{Place}
 use Rattle.chunks.specs.Next.{Word, tells, used-up, is-record, Outcome, at-place, next-outcome, finish-outcome}
 use Rattle.chunks.specs.First.{First-line, Last-line, Shows, gave-record, gave-none, used-up-shows}
 use Rattle.chunks.proofs.Calls.{next-told, finish-told}
 use Rattle.chunks.proofs.First.{next-by-lines, next-shows, finish-by-last-line, finish-shows}
-use Rattle.ihex.specs.Codes.{POOL-FULL, Numbers, reading, reading-chunk}
+use Rattle.codes.specs.Codes.{Numbers, reading, reading-chunk}
 use Rattle.ihex.specs.Rows.{Back, Read-back, place-back}
 use Rattle.ihex.specs.ByLines.{Ihex-next-by-lines, Ihex-finish-by-last-line, Ihex-shows, gave-record as shows-record, gave-none as shows-none, Ihex-next-shows, Ihex-finish-shows}
-use Rattle.ihex.proofs.Chunks.{place-returns}
-use Rattle.ihex.proofs.Rows.{word-at, clear-line, next-clear, finish-clear, word-back}
+use Rattle.codes.proofs.States.{place-returns}
+use Rattle.codes.proofs.Says.{not-full, word-at, clear-line}
+use Rattle.ihex.proofs.Rows.{next-clear, finish-clear, word-back}
 
 -- ---- which line
 
@@ -32,13 +29,6 @@ module _ (o : Outcome) (chunk : List ℕ) (x : Back) (carry′ pool′ : List �
 
   code-of : (w : Word) → o .word ≡ w → x .code ≡ reading-chunk w .code
   code-of w e = m .answer .code-is ∙ ap (λ (v : Word). reading-chunk v .code) e
-
--- only a full pool has that code
-not-full : (t : Told) → reading t .code ≢ POOL-FULL → is-full t ≡ false
-unfolding is-full
-not-full (gives kind numbers) h = refl
-not-full (refuses (refusal number values)) h = ne-eqb number 10 (λ e. h (omega arith))
-not-full done h = refl
 
 pub ihex-next-by-lines : Ihex-next-by-lines
 unfolding word-at

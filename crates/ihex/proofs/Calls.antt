@@ -1,10 +1,8 @@
 -- A call of `ihex_next` is a call of the text reader in numbers: the state comes back from its numbers, and every outcome is some reply's.
 -- Assumes nothing.
 use Prim.Native.Nat.{ℕ, _+_}
-use mathlib.Core.Path.{_≡_, refl, sym, _∙_, ap, ap₂, subst}
-use mathlib.Core.Bool.{false}
+use mathlib.Core.Path.{_≡_, refl, sym, ap, ap₂, subst}
 use mathlib.Core.List.{List, [], _∷_}
-use native.Mathlib.Omega.{arith}
 use lib.Dec.{leb}
 use lib.ListN.{length}
 use Rattle.record.specs.Common.{if_then_else_}
@@ -27,24 +25,11 @@ use Rattle.reader.specs.Text.{told-reply, is-full, Outcome, of-found, outcome}
 use Rattle.reader.specs.Calls.{Call, Given, Calls}
 use Rattle.reader.specs.Calls as reader
 use Rattle.reader.proofs.Stays.{step, ways}
-use Rattle.chunks.specs.declared.Chunks.{Chunks}
-use Rattle.ihex.specs.Codes.{Numbers, value, reading, state-of, flags-of, chunk-flags-of}
+use Rattle.codes.specs.Codes.{Numbers, value, reading}
+use Rattle.codes.specs.States.{state-of, flags-of}
 use Rattle.ihex.specs.Entries.{IhexNext}
-use Rattle.ihex.specs.Calls.{Returned, in-numbers, all-in-numbers, Ihex-calls, no-more, one-more, Text-state-returns, Ihex-calls-as-calls}
-use Rattle.ihex.proofs.Chunks.{state-returns}
-
--- ---- the state
-
--- as a reader of chunks that has begun nothing
-abbrev with-nothing : State → Chunks
-with-nothing s =
-    record { position = s .position; line = s .line; empties = 0; used = 0; skipped = 0; cr = false; finished = s .finished; options = s .options }
-
-pub text-state-returns : Text-state-returns
-text-state-returns s =
-    let same : flags-of s ≡ chunk-flags-of (with-nothing s) = omega arith in
-    ap (state-of (s .position) (s .line)) same
-    ∙ ap (λ (x : Chunks). record { position = x .position; line = x .line; finished = x .finished; options = x .options }) (state-returns (with-nothing s))
+use Rattle.ihex.specs.Calls.{Returned, in-numbers, all-in-numbers, Ihex-calls, no-more, one-more, Ihex-calls-as-calls}
+use Rattle.codes.proofs.States.{text-state-returns}
 
 -- ---- a reply for every outcome
 

@@ -1,4 +1,4 @@
--- A text in chunks, in numbers: the state and the place come back from their numbers, and a step told in numbers is the outcome it meets.
+-- A text in chunks, in numbers: a step told in numbers is the outcome it meets, and the line at a place is a part of its buffer.
 -- Assumes nothing.
 use Prim.Native.Nat.{ℕ, zero, suc, _+_, _≤_}
 use mathlib.Core.Path.{_≡_, refl, ap, subst, _∙_}
@@ -16,17 +16,11 @@ use Rattle.chunks.specs.declared.Place.{Place}
 use Rattle.chunks.specs.declared.Place.the-variants.{Nowhere, InChunk, InCarry}
 use Rattle.chunks.specs.declared.ChunkStep.{ChunkStep}
 use Rattle.chunks.specs.Next.{Word, Outcome, at-place, Meets, Shown}
-use Rattle.ihex.specs.Codes.{Numbers, reading-chunk, chunks-of, chunk-flags-of, Spotted, place-of, buffer-of, start-of}
-use Rattle.ihex.specs.Entries.{Stands, Chunk-read, IhexShown}
-use Rattle.ihex.specs.Helpers.{TellStep}
-use Rattle.ihex.specs.Claims.{State-returns, Place-returns}
+use Rattle.codes.specs.Codes.{Numbers, reading-chunk}
+use Rattle.ihex.specs.Entries.{Stands, Chunk-read, TellStep, buffer-of, start-of, IhexShown}
+use Rattle.codes.proofs.States.{place-is}
 
 -- ---- a step
-
-pub place-is : (p : Place) {lies from len : ℕ} → Spotted p lies from len → place-of lies from len ≡ p
-place-is Nowhere x = rw (x .lies-is)
-place-is (InChunk from len) x = rw (x .lies-is, x .from-is, x .len-is)
-place-is (InCarry len) x = rw (x .lies-is, x .len-is)
 
 module _ {step : ChunkStep} {r position line empties used skipped flags lies from len a b c : ℕ} where
   pub chunk-read : (o : Outcome) (chunk : List ℕ) {carry′ pool′ : List ℕ}
@@ -42,48 +36,6 @@ module _ {step : ChunkStep} {r position line empties used skipped flags lies fro
         carry = m .carry;
         left = m .left;
       }
-
--- ---- nothing is lost in numbers
-
-module _ (position line empties used skipped : ℕ) where
-  abbrev state-with : (first eof finished cr : Bool) → Chunks
-  state-with first eof finished cr =
-      record {
-        position = position;
-        line = line;
-        empties = empties;
-        used = used;
-        skipped = skipped;
-        cr = cr;
-        finished = finished;
-        options = record { «stop_after_first_error» = first; «stop_after_eof» = eof };
-      }
-
-  flags-return : (first eof finished cr : Bool)
-      → chunks-of position line empties used skipped (chunk-flags-of (state-with first eof finished cr)) ≡ state-with first eof finished cr
-  flags-return true true true true = refl
-  flags-return true true true false = refl
-  flags-return true true false true = refl
-  flags-return true true false false = refl
-  flags-return true false true true = refl
-  flags-return true false true false = refl
-  flags-return true false false true = refl
-  flags-return true false false false = refl
-  flags-return false true true true = refl
-  flags-return false true true false = refl
-  flags-return false true false true = refl
-  flags-return false true false false = refl
-  flags-return false false true true = refl
-  flags-return false false true false = refl
-  flags-return false false false true = refl
-  flags-return false false false false = refl
-
-pub state-returns : State-returns
-state-returns s =
-    flags-return (s .position) (s .line) (s .empties) (s .used) (s .skipped) (s .options .«stop_after_first_error») (s .options .«stop_after_eof») (s .finished) (s .cr)
-
-pub place-returns : Place-returns
-place-returns p = place-is p (record { lies-is = refl; from-is = refl; len-is = refl })
 
 -- ---- a part of a buffer, as much of it as there is
 

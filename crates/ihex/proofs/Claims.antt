@@ -1,16 +1,15 @@
--- No second answer meets the contract of an entry point: it says by an equation what each number and each buffer is. The examples compute.
+-- No second answer meets the contract of an entry point: it says by an equation what each number and each buffer is.
 -- Assumes nothing.
 use Prim.Native.Nat.{ℕ}
-use mathlib.Core.Path.{_≡_, refl, sym, _∙_}
+use mathlib.Core.Path.{_≡_, sym, _∙_}
 use mathlib.Core.Option.{Option}
 use mathlib.Core.List.{List, []}
 use Rattle.checksum.proofs.Claims.{checksum-unique}
 use Rattle.writer.specs.Text.{Text}
 use Rattle.chunks.specs.Next.{Outcome, next-outcome, finish-outcome}
-use Rattle.ihex.specs.Codes.{Message, Numbers}
-use Rattle.ihex.specs.Entry.{records-of}
+use Rattle.codes.specs.Codes.{Message, Numbers}
 use Rattle.ihex.specs.Entries.{Wrote-text}
-use Rattle.ihex.specs.Claims.{Ihex-checksum-unique, Ihex-read-record-unique, Ihex-next-unique, One-chunk-read, Ihex-next-chunk-unique, Ihex-finish-unique, Ihex-shown-unique, Ihex-to-record-string-unique, Ihex-create-object-file-representation-unique, Ihex-load-unique, Ihex-page-file-length-unique, Ihex-write-page-unique, List-examples}
+use Rattle.ihex.specs.Claims.{Ihex-checksum-unique, Ihex-read-record-unique, Ihex-next-unique, One-chunk-read, Ihex-next-chunk-unique, Ihex-finish-unique, Ihex-shown-unique, Ihex-to-record-string-unique, Ihex-create-object-file-representation-unique, Ihex-load-unique, Ihex-page-file-length-unique, Ihex-write-page-unique}
 
 pub ihex-checksum-unique : Ihex-checksum-unique
 ihex-checksum-unique = checksum-unique
@@ -70,16 +69,3 @@ ihex-page-file-length-unique first page marks r v r′ v′ x y = (x .code-is �
 
 pub ihex-write-page-unique : Ihex-write-page-unique
 ihex-write-page-unique first page marks out r v o r′ v′ o′ x y = same-text x y
-
-pub list-examples : List-examples
-unfolding records-of
-list-examples =
-    record {
-      empty = refl;
-      data-then-end = refl;
-      start-segment = refl;
-      start-linear = refl;
-      over = refl;
-      unknown = refl;
-      cut = refl;
-    }

@@ -1,7 +1,4 @@
-pub mod Codes
 pub mod Chunks
-pub mod Texts
-pub mod Listing
 pub mod Claims
 pub mod Calls
 pub mod Readings

@@ -1,27 +1,17 @@
 -- The claims of `specs/Loads.antt`: the loader's own, in numbers. The code says whether a load was accepted.
 -- Assumes nothing.
 use Prim.Native.Nat.{ℕ}
-use mathlib.Core.Path.{_≡_, refl, sym, _∙_, ap}
-use mathlib.Core.Logic.{_≢_}
+use mathlib.Core.Path.{sym, _∙_, ap}
 use mathlib.Core.List.{List}
-use native.Mathlib.Omega.{arith}
 use lib.ListN.{getD}
-use Rattle.record.specs.Refusals.{Refusal, refusal}
-use Rattle.loader.specs.Load.{Tally, Verdict, accepted, refused, load}
+use Rattle.loader.specs.Load.{Verdict, load}
 use Rattle.loader.specs.Claims.{Alike}
 use Rattle.loader.proofs.Demand3.{non-interference, what-is-stored, refusal-changes-nothing}
 use Rattle.loader.proofs.Claims.{reasons}
 use Rattle.loader.proofs.OneReason.{one-reason}
-use Rattle.ihex.specs.Codes.{OK, value, loading, line-at}
+use Rattle.codes.specs.Codes.{value, loading, line-at}
+use Rattle.codes.proofs.Says.{was-accepted, was-refused}
 use Rattle.ihex.specs.Loads.{Ihex-non-interference, Ihex-what-is-stored, Ihex-load-keeps, Ihex-load-reasons}
-
-pub was-accepted : (v : Verdict) → loading v .code ≡ OK → (tally : Tally) × (v ≡ accepted tally)
-was-accepted (accepted tally) e = (tally, refl)
-was-accepted (refused (refusal n vs) line) e = absurd (omega arith)
-
-was-refused : (v : Verdict) → loading v .code ≢ OK → (r : Refusal) × (line : ℕ) × (v ≡ refused r line)
-was-refused (accepted tally) h = absurd (h refl)
-was-refused (refused r line) h = (r, line, refl)
 
 pub ihex-non-interference : Ihex-non-interference
 ihex-non-interference text₁ text₂ first page₁ marks₁ page₂ marks₂ lp lm line v e head t₁ t₂ r₁ l₁ a₁ b₁ p₁ m₁ r₂ l₂ a₂ b₂ p₂ m₂ x y =

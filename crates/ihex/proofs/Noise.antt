@@ -15,10 +15,10 @@ use Rattle.reader.specs.Answer.{answered, poured}
 use Rattle.loader.specs.Load.{Verdict, load}
 use Rattle.loader.specs.Noise.{Refused-or-same, is-refused, is-the-same}
 use Rattle.loader.proofs.Noise.{load-noticed}
-use Rattle.ihex.specs.Codes.{OK, POOL-FULL, value, reading, loading, line-at}
+use Rattle.codes.specs.Codes.{OK, POOL-FULL, value, reading, loading, line-at}
 use Rattle.ihex.specs.Entries.{IhexReadRecord}
 use Rattle.ihex.specs.Noise.{Returned-record, returned, refuse, Ihex-one-wrong-character, Ihex-damage-is-noticed}
-use Rattle.ihex.proofs.Loads.{was-accepted}
+use Rattle.codes.proofs.Says.{was-accepted}
 
 -- a record, or a full pool, is returned only for a line that says a record
 given-is-said : (line pool : List ℕ) (at r a b c : ℕ) (p : List ℕ) → IhexReadRecord line pool at r a b c p → (r < 6) ⊎ (r ≡ POOL-FULL) → Says-a-record line

@@ -26,11 +26,11 @@ use Rattle.page.specs.Claims.{Why}
 use Rattle.page.proofs.Calls.{restores-so, loaded-back, equal-answers, length-of-lengths}
 use Rattle.page.proofs.Claims.{text-cases, reasons, one-reason}
 use Rattle.page.proofs.Room.{room}
-use Rattle.ihex.specs.Codes.{OK, value, writing, loading}
+use Rattle.codes.specs.Codes.{OK, value, writing, loading}
 use Rattle.ihex.specs.Entries.{IhexWritePage}
 use Rattle.ihex.specs.Claims.{Page-loads-back}
 use Rattle.ihex.specs.Pages.{OUTPUT-FULL, Ihex-write-page-reasons, Ihex-length-as-written, Ihex-page-room, Ihex-length-of-lengths, Ihex-unmarked-bytes}
-use Rattle.ihex.proofs.Writes.{wrote-it}
+use Rattle.codes.proofs.Says.{wrote-it}
 
 was-written : (first : ℕ) (page marks out : List ℕ) (n : ℕ) (out′ : List ℕ) → IhexWritePage first page marks out 0 n out′ → WritePage first page marks out (Wrote n) out′
 was-written first page marks out n out′ w =

@@ -1,30 +1,22 @@
 -- The claims of `specs/Readings.antt`: the text reader's own, carried over by the row of calls, and what the code of an answer says of it.
 -- Assumes nothing.
-use Prim.Native.Nat.{ℕ, _+_, _*_, _/_, _%_, _≤_}
+use Prim.Native.Nat.{ℕ, _+_}
 use mathlib.Core.Path.{_≡_, refl, sym, _∙_, ap, subst}
 use mathlib.Core.Logic.{_≢_}
 use mathlib.Core.Bool.{Bool, true, false}
 use mathlib.Core.List.{List, [], _∷_}
 use native.Mathlib.Omega.{arith}
-use native.Mathlib.Nat.{mul-add-mod-self-left}
 use lib.Dec.{leb}
 use lib.ListN.{length}
-use borrow.Author.Tests.{ne-eqb, eqb-false}
 use Rattle.record.specs.Common.{if_then_else_, pasted}
-use Rattle.record.specs.Refusals.{Refusal, refusal, number-of, pool-full}
+use Rattle.record.specs.Refusals.{pool-full}
 use Rattle.record.specs.Line.{Said, says, wrong, judge}
 use Rattle.record.specs.Meaning.{Meaning, data-at, end-of-file, extended-segment, start-segment, extended-linear, start-linear, meaning}
-use Rattle.record.specs.declared.Record.{Record}
-use Rattle.record.specs.declared.Record.the-variants.{Data, EndOfFile, ExtendedSegmentAddress, StartSegmentAddress, ExtendedLinearAddress, StartLinearAddress}
-use Rattle.record.specs.Record.{type-of}
 use Rattle.record.proofs.Tests.{branch}
-use Rattle.reader.specs.declared.ReaderError.{ReaderError}
-use Rattle.reader.specs.declared.ReaderError.the-variants.{MissingStartCode, RecordTooShort, RecordTooLong, RecordNotEvenLength, ContainsInvalidCharacters, ChecksumMismatch, PayloadLengthMismatch, UnsupportedRecordType, InvalidLengthForType, PoolFull}
 use Rattle.reader.specs.declared.ReaderOptions.{ReaderOptions}
 use Rattle.reader.specs.declared.State.{State}
 use Rattle.reader.specs.declared.Reply.{Reply}
-use Rattle.reader.specs.declared.Reply.the-variants.{Read, Refused, Done}
-use Rattle.reader.specs.Told.{Told, gives, refuses, done, refusal-of}
+use Rattle.reader.specs.Told.{Told, gives, refuses, done}
 use Rattle.reader.specs.Answer.{given, kept, answered, poured}
 use Rattle.reader.specs.Lines.{lines, a-line}
 use Rattle.reader.specs.Row.{Numbered, on, sayings, stops, through-stop, row}
@@ -34,52 +26,13 @@ use Rattle.reader.proofs.Reading.{full-keeps, outcome-found}
 use Rattle.reader.proofs.Room.{ends-stops}
 use Rattle.reader.proofs.Stays.{ways, done-stays, room-is-enough, nothing-behind}
 use Rattle.reader.proofs.Texts.{rows, in-order}
-use Rattle.ihex.specs.Codes.{DONE, POOL-FULL, Numbers, reading, state-of, flags-of}
+use Rattle.codes.specs.Codes.{POOL-FULL, Numbers, reading}
+use Rattle.codes.specs.States.{state-of, flags-of}
 use Rattle.ihex.specs.Calls.{Returned, all-in-numbers}
 use Rattle.ihex.specs.Readings.{From-the-beginning, None-full, Ihex-rows, Ihex-in-order, Ihex-room-is-enough, Ihex-nothing-after, Ihex-next-as-read-record, Ihex-done-stays, Ihex-full-keeps, Flags-of-three, Ihex-read-record-keeps, Ihex-next-keeps}
-use Rattle.ihex.proofs.Calls.{text-state-returns, reply-for, ihex-calls-as-calls}
-
--- ---- what a code says
-
-few-types : (r : Record) → type-of r ≤ 5
-few-types (Data offset at len) = omega arith
-few-types EndOfFile = omega arith
-few-types (ExtendedSegmentAddress n) = omega arith
-few-types (StartSegmentAddress cs ip) = omega arith
-few-types (ExtendedLinearAddress n) = omega arith
-few-types (StartLinearAddress n) = omega arith
-
-few-numbers : (e : ReaderError) → number-of (refusal-of e) ≤ 10
-few-numbers MissingStartCode = omega arith
-few-numbers (ContainsInvalidCharacters place) = omega arith
-few-numbers RecordTooShort = omega arith
-few-numbers RecordTooLong = omega arith
-few-numbers RecordNotEvenLength = omega arith
-few-numbers (ChecksumMismatch computed stated) = omega arith
-few-numbers PayloadLengthMismatch = omega arith
-few-numbers (UnsupportedRecordType kind) = omega arith
-few-numbers InvalidLengthForType = omega arith
-few-numbers PoolFull = omega arith
-
-refusal-code : (r : Refusal) → reading (refuses r) .code ≡ 256 + number-of r
-refusal-code (refusal n vs) = refl
-
-not-full : (t : Told) → reading t .code ≢ POOL-FULL → is-full t ≡ false
-unfolding is-full
-not-full (gives kind ns) h = refl
-not-full (refuses (refusal n vs)) h = ne-eqb n 10 (λ e. h (ap (λ (k : ℕ). 256 + k) e))
-not-full done h = refl
-
-no-full-code : (r : Reply) → is-full (told-reply r) ≡ false → reading (told-reply r) .code ≢ POOL-FULL
-unfolding is-full
-no-full-code (Read r) f e = omega (arith, few-types r)
-no-full-code (Refused w) f e = eqb-false (number-of (refusal-of w)) 10 f (omega (arith, refusal-code (refusal-of w)))
-no-full-code Done f e = omega arith
-
-done-code : (r : Reply) → reading (told-reply r) .code ≡ DONE → told-reply r ≡ done
-done-code (Read r) e = absurd (omega (arith, few-types r))
-done-code (Refused w) e = absurd (omega (arith, few-numbers w, refusal-code (refusal-of w)))
-done-code Done e = refl
+use Rattle.codes.proofs.States.{text-state-returns, share, three-flags-read}
+use Rattle.codes.proofs.Says.{not-full, no-full-code, done-code}
+use Rattle.ihex.proofs.Calls.{reply-for, ihex-calls-as-calls}
 
 -- ---- calls from the beginning of a text
 
@@ -218,21 +171,10 @@ ihex-done-stays s text pool at i l f a b c pool′ x text₂ pool₂ at₂ r₂ 
 
 -- ---- the flags
 
-pub share : (b : Bool) (n : ℕ) → (if b then n else 0) ≤ n
-share true n = omega arith
-share false n = omega arith
-
 pub flags-of-three : Flags-of-three
 flags-of-three =
     record {
-      others-not-read = λ position line flags.
-          let eight = flags / 8 in
-          let first : flags % 2 ≡ flags % 8 % 2 = omega arith in
-          let twos : flags / 2 ≡ 2 * (2 * eight) + flags % 8 / 2 = omega arith in
-          let second : flags / 2 % 2 ≡ flags % 8 / 2 % 2 = ap (λ (n : ℕ). n % 2) twos ∙ mul-add-mod-self-left 2 (2 * eight) (flags % 8 / 2) in
-          let fours : flags / 4 ≡ 2 * eight + flags % 8 / 4 = omega arith in
-          let third : flags / 4 % 2 ≡ flags % 8 / 4 % 2 = ap (λ (n : ℕ). n % 2) fours ∙ mul-add-mod-self-left 2 eight (flags % 8 / 4) in
-          rw (first, second, third);
+      others-not-read = three-flags-read;
       others-zero = λ s text pool at r i l f a b c pool′ x.
           let o = outcome s text pool at .state in
           omega (arith, x .flags-is, share (o .options .«stop_after_first_error») 1, share (o .options .«stop_after_eof») 2, share (o .finished) 4);

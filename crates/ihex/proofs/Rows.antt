@@ -1,26 +1,24 @@
 -- The entry points for a text in chunks: their contract comes to the outcome, and a code says which word was told, so that what is proved
 -- of outcomes holds of their calls.
 -- Assumes nothing.
-use Prim.Native.Nat.{ℕ, _+_, _*_, _/_, _%_, _<_}
+use Prim.Native.Nat.{ℕ, _<_}
 use mathlib.Core.Path.{_≡_, refl, sym, _∙_, ap, subst}
 use mathlib.Core.Logic.{_≢_, inl, inr}
 use mathlib.Core.Bool.{Bool, true, false}
 use mathlib.Core.Option.{none, some, Option·map}
 use mathlib.Core.List.{List, [], _∷_, map}
 use native.Mathlib.Omega.{arith}
-use native.Mathlib.Nat.{mul-add-mod-self-left}
 use lib.Dec.{eqb, ltb}
 use lib.ListN.{length, take, drop-of-length-le}
 use lib.Seq.{take-nil, take-length}
-use borrow.Author.Tests.{lt-leb, le-ltb, eqb-true, ne-eqb}
+use borrow.Author.Tests.{lt-leb, eqb-true, ne-eqb}
 use Rattle.record.specs.Common.{if_then_else_, Every}
-use Rattle.record.specs.Refusals.{refusal, pool-full, carry-too-small}
-use Rattle.record.specs.Line.{Said, says, wrong, judge}
-use Rattle.record.specs.Meaning.{Meaning, data-at, end-of-file, extended-segment, start-segment, extended-linear, start-linear, meaning}
-use Rattle.record.proofs.Tests.{both-ways, split}
-use Rattle.record.proofs.Standing.{Stands, stands, fault-few}
-use Rattle.reader.specs.Told.{Told, gives, refuses, done}
-use Rattle.reader.specs.Answer.{room, given, answered, poured}
+use Rattle.record.specs.Refusals.{pool-full, carry-too-small}
+use Rattle.record.specs.Line.{judge}
+use Rattle.record.proofs.Tests.{split}
+use Rattle.record.proofs.Standing.{stands}
+use Rattle.reader.specs.Told.{Told, refuses, done}
+use Rattle.reader.specs.Answer.{given, answered, poured}
 use Rattle.reader.specs.Lines.{lines}
 use Rattle.chunks.specs.declared.Chunks.{Chunks}
 use Rattle.chunks.specs.declared.Place.{Place}
@@ -31,44 +29,14 @@ use Rattle.chunks.specs.Claims.{Too-small, Eighteen, Gives-then, Only-done, giv
 use Rattle.chunks.proofs.Kept.{Shown-right, every-told}
 use Rattle.chunks.proofs.Calls.{next-told, finish-told, finish-place, carry-first, Keeps, full-outcome, full-then-room, finish-ends, done-stays}
 use Rattle.chunks.proofs.Claims.{any-cuts-by, row-replies, row-shows, row-alike}
-use Rattle.ihex.specs.Codes.{DONE, USED-UP, POOL-FULL, value, Numbers, reading, reading-chunk, lies-of, place-of, start-of}
+use Rattle.codes.specs.Codes.{USED-UP, POOL-FULL, CARRY-TOO-SMALL, value, Numbers, reading, reading-chunk}
+use Rattle.codes.specs.States.{lies-of, place-of}
+use Rattle.ihex.specs.Entries.{start-of}
 use Rattle.ihex.specs.Calls.{Returned, in-numbers, all-in-numbers}
-use Rattle.ihex.specs.Rows.{Back, Read-back, state-back, Either, Noted, noted, Entered, CARRY-TOO-SMALL, Ihex-any-cuts, Ihex-same-row, Ihex-shows-the-line, without-pool, Ihex-nothing-else, Ihex-finish-answers, Ihex-chunk-keeps, Ihex-eighteen, Ihex-carry-first, Ihex-chunk-full-keeps, Ihex-gives-then, Ihex-chunk-full-then-room, Ihex-chunk-only-done, Ihex-finish-ends, Ihex-chunk-done-stays, Flags-of-four, Ihex-shown-none}
-use Rattle.ihex.proofs.Chunks.{state-returns}
-use Rattle.ihex.proofs.Readings.{ihex-rows, share, poured-none}
-
--- ---- codes
-
--- the word of a code over 265
-unfoldable pub word-at : (code : ℕ) → Word
-word-at code =
-    if eqb code POOL-FULL then tells (refuses pool-full) else
-    if eqb code CARRY-TOO-SMALL then tells (refuses carry-too-small) else
-    if eqb code DONE then tells done else used-up
-
-abbrev pub Clear : Word → Type 0
-Clear w = 265 < reading-chunk w .code → w ≡ word-at (reading-chunk w .code)
-
--- and a code under 6 is a record's
-abbrev pub Clear-told : Told → Type 0
-Clear-told t = Clear (tells t) × (ltb (reading t .code) 6 ≡ is-record t)
-
-pub clear-line : (line : List ℕ) (n at : ℕ) → Clear-told (answered (judge line) n at)
-unfolding answered given is-record word-at
-clear-line line n at = go (judge line) (stands line)
-  where
-    meant : (m : Meaning) → Clear-told (given m n at)
-    meant (data-at offset bytes) =
-        both-ways (λ b. Clear-told (if b then gives 0 (offset ∷ at ∷ length bytes ∷ []) else refuses pool-full)) (room n at bytes) (λ h. absurd (omega arith), refl) (λ h. refl, refl)
-    meant end-of-file = (λ h. absurd (omega arith), refl)
-    meant (extended-segment number) = (λ h. absurd (omega arith), refl)
-    meant (start-segment cs ip) = (λ h. absurd (omega arith), refl)
-    meant (extended-linear number) = (λ h. absurd (omega arith), refl)
-    meant (start-linear number) = (λ h. absurd (omega arith), refl)
-
-    go : (said : Said) → Stands line said → Clear-told (answered said n at)
-    go (says kind address payload) s = meant (meaning kind address payload)
-    go (wrong (refusal number values)) s = let few = fault-few s in (λ h. absurd (omega arith), le-ltb (256 + number) 6 (omega arith))
+use Rattle.ihex.specs.Rows.{Back, Read-back, state-back, Either, Noted, noted, Entered, Ihex-any-cuts, Ihex-same-row, Ihex-shows-the-line, without-pool, Ihex-nothing-else, Ihex-finish-answers, Ihex-chunk-keeps, Ihex-eighteen, Ihex-carry-first, Ihex-chunk-full-keeps, Ihex-gives-then, Ihex-chunk-full-then-room, Ihex-chunk-only-done, Ihex-finish-ends, Ihex-chunk-done-stays, Flags-of-four, Ihex-shown-none}
+use Rattle.codes.proofs.States.{state-returns, share, four-flags-read}
+use Rattle.codes.proofs.Says.{word-at, Clear, Clear-told, clear-line}
+use Rattle.ihex.proofs.Readings.{ihex-rows, poured-none}
 
 pub next-clear : (s : Chunks) (chunk carry pool : List ℕ) (at : ℕ) → Clear (next-outcome s chunk carry pool at .word)
 unfolding word-at
@@ -287,19 +255,10 @@ ihex-chunk-done-stays s chunk carry pool at x carry′ pool′ m e = go m
 
 -- ---- the flags
 
-same-bit : (n k m : ℕ) → n ≡ 2 * k + m → n % 2 ≡ m % 2
-same-bit n k m e = ap (λ (n : ℕ). n % 2) e ∙ mul-add-mod-self-left 2 k m
-
 pub flags-of-four : Flags-of-four
 flags-of-four =
     record {
-      others-not-read = λ position line empties used skipped flags.
-          let low = flags % 16 in
-          let first : flags % 2 ≡ low % 2 = omega arith in
-          let second : flags / 2 % 2 ≡ low / 2 % 2 = same-bit (flags / 2) (4 * (flags / 16)) (low / 2) (omega arith) in
-          let third : flags / 4 % 2 ≡ low / 4 % 2 = same-bit (flags / 4) (2 * (flags / 16)) (low / 4) (omega arith) in
-          let fourth : flags / 8 % 2 ≡ low / 8 % 2 = same-bit (flags / 8) (flags / 16) (low / 8) (omega arith) in
-          rw (first, second, third, fourth);
+      others-not-read = four-flags-read;
       others-zero = λ s chunk carry pool at x carry′ pool′ m. go s chunk carry pool at x carry′ pool′ m;
     }
   where

@@ -9,7 +9,7 @@ use native.Mathlib.Omega.{arith}
 use lib.Dec.{leb}
 use lib.ListN.{length}
 use Rattle.record.specs.Common.{if_then_else_, pasted}
-use Rattle.record.specs.Refusals.{refusal, output-full}
+use Rattle.record.specs.Refusals.{output-full}
 use Rattle.record.specs.declared.Record.{Record}
 use Rattle.writer.specs.declared.Written.the-variants.{Wrote}
 use Rattle.writer.specs.Told.{Told, wrote, refuses}
@@ -19,14 +19,10 @@ use Rattle.writer.specs.Object.{object}
 use Rattle.writer.specs.Reasons.{Why-line, Why-object}
 use Rattle.writer.proofs.Answers.{stands-there, rest-untouched}
 use Rattle.writer.proofs.Reasons.{line-reason, object-reason, one-reason}
-use Rattle.ihex.specs.Codes.{OK, value, writing}
+use Rattle.codes.specs.Codes.{OK, writing}
+use Rattle.codes.proofs.Says.{wrote-it}
 use Rattle.ihex.specs.Entries.{Wrote-text}
 use Rattle.ihex.specs.Writes.{Nothing-after-the-length, Refusal-keeps-output, Write-reasoned, Ihex-to-record-string-reasons, Ihex-create-object-reasons}
-
--- a code of 0 is no refusal's
-pub wrote-it : (t : Told) (n : ℕ) → OK ≡ writing (some t) .code → n ≡ value (writing (some t)) 0 → wrote n ≡ t
-wrote-it (wrote m) n e v = ap wrote v
-wrote-it (refuses (refusal k vs)) n e v = absurd (omega arith)
 
 -- so a text that is there was written
 pub as-written : (t : Text) (out : List ℕ) (n : ℕ) (out′ : List ℕ) → Wrote-text (some t) out OK n out′ → Writes t out 0 (Wrote n) out′

@@ -13,7 +13,7 @@ use Rattle.chunks.specs.declared.Place.{Place}
 use Rattle.chunks.specs.declared.Place.the-variants.{Nowhere}
 use Rattle.chunks.specs.Next.{at-place, next-outcome, finish-outcome}
 use Rattle.chunks.specs.First.{No-line, First-line, Last-line, Asking}
-use Rattle.ihex.specs.Codes.{DONE, USED-UP, POOL-FULL, Numbers, reading}
+use Rattle.codes.specs.Codes.{DONE, USED-UP, POOL-FULL, Numbers, reading}
 use Rattle.ihex.specs.Rows.{Back, Read-back, place-back}
 
 -- what came back is the answer to a line, with a pool of `size` bytes and a position in it

@@ -4,9 +4,9 @@ use Prim.Native.Nat.{ℕ}
 use mathlib.Core.Path.{_≡_}
 use mathlib.Core.Logic.{_↔_}
 use mathlib.Core.List.{List, [], _∷_}
-use Rattle.reader.specs.declared.State.{State}
 use Rattle.reader.specs.Calls.{Call, Given, Calls}
-use Rattle.ihex.specs.Codes.{value, reading, state-of, flags-of}
+use Rattle.codes.specs.Codes.{value, reading}
+use Rattle.codes.specs.States.{state-of}
 use Rattle.ihex.specs.Entries.{IhexNext}
 
 -- what a call of a reader returns and leaves: its code and values, the number of the line that was answered last, and what the pool holds
@@ -35,10 +35,6 @@ pub data Ihex-calls (text : List ℕ) : (position line flags : ℕ) → List Cal
       → IhexNext (state-of position line flags) text (call .pool) (call .at) r position′ line′ flags′ a b c pool′
       → Ihex-calls text position′ line′ flags′ calls returns
       → Ihex-calls text position line flags (call ∷ calls) (record { code = r; a = a; b = b; c = c; line = line′; pool = pool′ } ∷ returns)
-
--- a state is what its three numbers say: nothing is lost from one call to the next
-abbrev pub Text-state-returns : Type 0
-Text-state-returns = (s : State) → state-of (s .position) (s .line) (flags-of s) ≡ s
 
 -- calls of `ihex_next` return, in numbers, what the text reader's calls are given from the state in those numbers, and nothing else
 abbrev pub Ihex-calls-as-calls : Type 0

@@ -1,14 +1,13 @@
--- What is claimed of the entry points beyond their contracts, and proved in `proofs/Claims.antt`, `proofs/Chunks.antt` and `proofs/Pages.antt`.
+-- What is claimed of the entry points beyond their contracts, and proved in `proofs/Claims.antt` and `proofs/Pages.antt`.
 -- Assumes nothing.
 use Prim.Native.Nat.{ℕ}
 use mathlib.Core.Path.{_≡_}
-use mathlib.Core.Option.{none, some}
-use mathlib.Core.List.{List, [], _∷_, _++_}
+use mathlib.Core.Option.{none}
+use mathlib.Core.List.{List, []}
 use lib.ListN.{length, take}
 use Rattle.checksum.specs.Claims.{Checksum-unique}
 use Rattle.marks.specs.Marks.{flags}
 use Rattle.record.specs.Common.{Every, Byte}
-use Rattle.record.specs.declared.Record.the-variants.{Data, EndOfFile, StartSegmentAddress, StartLinearAddress}
 use Rattle.reader.specs.declared.State.{State}
 use Rattle.chunks.specs.declared.Chunks.{Chunks}
 use Rattle.chunks.specs.declared.Place.{Place}
@@ -16,8 +15,6 @@ use Rattle.chunks.specs.Next.{Outcome, next-outcome, finish-outcome}
 use Rattle.loader.specs.Load.{accepted}
 use Rattle.page.specs.Pieces.{pieces}
 use Rattle.page.specs.Claims.{Restores}
-use Rattle.ihex.specs.Codes.{chunks-of, chunk-flags-of, lies-of, from-of, len-of, place-of}
-use Rattle.ihex.specs.Entry.{records-of}
 use Rattle.ihex.specs.Entries.{IhexReadRecord, IhexNext, Chunk-read, IhexShown, IhexToRecordString, IhexCreateObjectFileRepresentation, IhexLoad, IhexPageFileLength, IhexWritePage}
 
 -- ---- no second answer meets a contract
@@ -84,15 +81,6 @@ Ihex-write-page-unique =
     → IhexWritePage first page marks out r v o → IhexWritePage first page marks out r′ v′ o′
     → (r ≡ r′) × (v ≡ v′) × (o ≡ o′)
 
--- ---- a text in chunks
-
--- a state and a place are what their numbers say: nothing is lost from one call to the next
-abbrev pub State-returns : Type 0
-State-returns = (s : Chunks) → chunks-of (s .position) (s .line) (s .empties) (s .used) (s .skipped) (chunk-flags-of s) ≡ s
-
-abbrev pub Place-returns : Type 0
-Place-returns = (p : Place) → place-of (lies-of p) (from-of p) (len-of p) ≡ p
-
 -- ---- a page
 
 -- what `ihex_write_page` wrote, loaded by `ihex_load` into the same window, whatever that held: accepted with all its data records, with the
@@ -104,25 +92,3 @@ Page-loads-back =
     → IhexWritePage first page marks out 0 n out′ → IhexLoad (take n out′) first old-page old-marks r l a b page′ marks′
     → let k = length (pieces first 0 none (flags (length page) marks)) in
     (r ≡ 0) × (a ≡ k) × Restores page marks old-page (record { answer = accepted (record { records = k }); page = page′; marks = marks′ })
-
--- ---- examples of a list in bytes
-
-abbrev pub none-of-8 : List ℕ
-none-of-8 = 0 ∷ 0 ∷ 0 ∷ 0 ∷ 0 ∷ 0 ∷ 0 ∷ 0 ∷ []
-
-pub record List-examples : Type 0 where
-  pub empty : records-of [] ≡ some []
-  -- offset 0120, position 0807060504030201, length 11 (hexadecimal); the byte behind the type is not read
-  pub data-then-end :
-      records-of ((0 ∷ 0xEE ∷ 0 ∷ 0 ∷ 0x20 ∷ 0x01 ∷ 0 ∷ 0 ∷ 1 ∷ 2 ∷ 3 ∷ 4 ∷ 5 ∷ 6 ∷ 7 ∷ 8 ∷ 0x11 ∷ 0 ∷ 0 ∷ 0 ∷ 0 ∷ 0 ∷ 0 ∷ 0 ∷ [])
-      ++ (1 ∷ 0 ∷ 0 ∷ 0 ∷ none-of-8 ++ none-of-8 ++ (0 ∷ 0 ∷ 0 ∷ 0 ∷ [])))
-      ≡ some (Data 0x0120 0x0807060504030201 0x11 ∷ EndOfFile ∷ [])
-  -- CS 3412, IP 7856
-  pub start-segment :
-      records-of ((3 ∷ 0 ∷ 0x56 ∷ 0x78 ∷ 0x12 ∷ 0x34 ∷ 0 ∷ 0 ∷ []) ++ none-of-8 ++ none-of-8) ≡ some (StartSegmentAddress 0x3412 0x7856 ∷ [])
-  pub start-linear :
-      records-of ((5 ∷ 0 ∷ 0 ∷ 0 ∷ 0x12 ∷ 0x34 ∷ 0x56 ∷ 0x78 ∷ []) ++ none-of-8 ++ none-of-8) ≡ some (StartLinearAddress 0x78563412 ∷ [])
-  -- a number over 65,535 where two bytes are written; a type over 05; 16 bytes of 24
-  pub over : records-of ((4 ∷ 0 ∷ 0 ∷ 0 ∷ 0 ∷ 0 ∷ 1 ∷ 0 ∷ []) ++ none-of-8 ++ none-of-8) ≡ none
-  pub unknown : records-of ((6 ∷ 0 ∷ 0 ∷ 0 ∷ 0 ∷ 0 ∷ 0 ∷ 0 ∷ []) ++ none-of-8 ++ none-of-8) ≡ none
-  pub cut : records-of (none-of-8 ++ none-of-8) ≡ none

@@ -2,25 +2,26 @@
 -- Assumes nothing.
 use Prim.Native.Nat.{ℕ, _+_, _≤_}
 use mathlib.Core.Path.{_≡_}
-use mathlib.Core.Option.{Option, none, some, Option·map}
+use mathlib.Core.Option.{Option, some}
 use mathlib.Core.List.{List, []}
+use lib.Dec.{leb}
 use lib.ListN.{length, take, drop}
+use Rattle.record.specs.Common.{if_then_else_}
 use Rattle.record.specs.Line.{judge}
-use Rattle.record.specs.declared.Record.{Record}
 use Rattle.reader.specs.declared.State.{State}
 use Rattle.reader.specs.Answer.{answered, poured}
 use Rattle.reader.specs.Text.{outcome}
-use Rattle.writer.specs.Told.{Told as Told-written}
-use Rattle.writer.specs.Text.{Text, place-behind, if-room, put-at}
-use Rattle.writer.specs.Line.{line-text}
-use Rattle.writer.specs.Object.{object}
+use Rattle.writer.specs.Text.{Text, place-behind}
 use Rattle.chunks.specs.declared.Chunks.{Chunks}
+use Rattle.chunks.specs.declared.ChunkStep.{ChunkStep}
 use Rattle.chunks.specs.declared.Place.{Place}
-use Rattle.chunks.specs.Next.{Outcome, at-place, next-outcome, finish-outcome}
+use Rattle.chunks.specs.declared.Place.the-variants.{Nowhere, InChunk, InCarry}
+use Rattle.chunks.specs.Next.{word-of, Outcome, at-place, next-outcome, finish-outcome}
 use Rattle.loader.specs.Load.{load}
 use Rattle.page.specs.File.{page-text}
-use Rattle.ihex.specs.Codes.{value, Numbers, reading, reading-chunk, writing, loading, line-at, flags-of, chunk-flags-of, Spotted, place-of, buffer-of, start-of}
-use Rattle.ihex.specs.Entry.{record-of, records-of}
+use Rattle.entries.specs.Attempts.{told-of, output-with, record-text, list-text}
+use Rattle.codes.specs.Codes.{value, Numbers, reading, reading-chunk, writing, loading, line-at}
+use Rattle.codes.specs.States.{flags-of, chunk-flags-of, Spotted, place-of}
 
 pub record IhexReadRecord (line pool : List ℕ) (at r a b c : ℕ) (pool′ : List ℕ) : Type 0 where
   pub answer : Numbers (reading (answered (judge line) (length pool) at)) r a b c
@@ -59,22 +60,29 @@ abbrev pub IhexFinish : (s : Chunks) (carry pool : List ℕ) (at r position line
 IhexFinish s carry pool at r position line empties used skipped flags lies from len a b c carry′ pool′ =
     Chunk-read (finish-outcome s carry pool at) [] r position line empties used skipped flags lies from len a b c carry′ pool′
 
+-- a step of a reader of chunks, in numbers
+pub record TellStep (step : ChunkStep) (r position line empties used skipped flags lies from len a b c : ℕ) : Type 0 where
+  pub answer : Numbers (reading-chunk (word-of (step .reply))) r a b c
+  pub stands : Stands (step .state) (step .lies) position line empties used skipped flags lies from len
+
+-- the buffer that a place names
+abbrev pub buffer-of : Place → (chunk carry : List ℕ) → List ℕ
+buffer-of Nowhere chunk carry = []
+buffer-of (InChunk from len) chunk carry = chunk
+buffer-of (InCarry len) chunk carry = carry
+
+-- where a place begins there: at the front where the buffer ends before it
+abbrev pub start-of : Place → (chunk : List ℕ) → ℕ
+start-of Nowhere chunk = 0
+start-of (InChunk from len) chunk = if leb from (length chunk) then from else 0
+start-of (InCarry len) chunk = 0
+
 -- the bytes at a place are its buffer's own, r of them from `start` on
 pub record IhexShown (p : Place) (chunk carry : List ℕ) (start r : ℕ) : Type 0 where
   pub start-is : start ≡ start-of p chunk
   pub len-is : r ≡ length (at-place p chunk carry)
   pub inside : start + r ≤ length (buffer-of p chunk carry)
   pub holds : take r (drop start (buffer-of p chunk carry)) ≡ at-place p chunk carry
-
--- what is answered for a text that is to be written from the output's start on; there is none where what was given is no record
-abbrev pub told-of : Option Text → (room : ℕ) → Option Told-written
-told-of none room = none
-told-of (some t) room = some (if-room (place-behind t 0) room)
-
--- the output with that text, if it has the room
-abbrev pub output-with : Option Text → (out : List ℕ) → List ℕ
-output-with none out = out
-output-with (some t) out = put-at t out 0
 
 -- a text, if there is one, was written: an answer in two numbers, and the output
 pub record Wrote-text (t : Option Text) (out : List ℕ) (r v : ℕ) (out′ : List ℕ) : Type 0 where
@@ -84,11 +92,11 @@ pub record Wrote-text (t : Option Text) (out : List ℕ) (r v : ℕ) (out′ : L
 
 abbrev pub IhexToRecordString : (kind number second at len : ℕ) (pool out : List ℕ) (r v : ℕ) (out′ : List ℕ) → Type 0
 IhexToRecordString kind number second at len pool out r v out′ =
-    Wrote-text (Option·map (λ (x : Record). line-text x pool) (record-of kind number second at len)) out r v out′
+    Wrote-text (record-text kind number second at len pool) out r v out′
 
 abbrev pub IhexCreateObjectFileRepresentation : (list pool out : List ℕ) (r v : ℕ) (out′ : List ℕ) → Type 0
 IhexCreateObjectFileRepresentation list pool out r v out′ =
-    Wrote-text (Option·map (λ (rs : List Record). object rs pool) (records-of list)) out r v out′
+    Wrote-text (list-text list pool) out r v out′
 
 pub record IhexLoad (text : List ℕ) (first : ℕ) (page marks : List ℕ) (r line a b : ℕ) (page′ marks′ : List ℕ) : Type 0 where
   pub code-is : r ≡ loading (load text first page marks .answer) .code

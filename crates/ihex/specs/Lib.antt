@@ -1,6 +1,3 @@
-pub mod Codes
-pub mod Entry
-pub mod Helpers
 pub mod Entries
 pub mod Calls
 pub mod Readings

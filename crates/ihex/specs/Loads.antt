@@ -9,7 +9,7 @@ use lib.ListN.{length, getD}
 use Rattle.reader.specs.Lines.{through}
 use Rattle.loader.specs.Load.{Verdict, by, stopping, placements}
 use Rattle.loader.specs.Claims.{Place, Why}
-use Rattle.ihex.specs.Codes.{OK, value, loading, line-at}
+use Rattle.codes.specs.Codes.{OK, value, loading, line-at}
 use Rattle.ihex.specs.Entries.{IhexLoad}
 
 -- demand 3, first half: of two texts that are the same through the LF of the line at which the first load stops, into windows of the same

@@ -8,7 +8,7 @@ use lib.ListN.{length}
 use Rattle.record.specs.Refusals.{Refusal}
 use Rattle.record.specs.Noise.{Answer-to-wrong}
 use Rattle.loader.specs.Noise.{Damaged}
-use Rattle.ihex.specs.Codes.{OK, POOL-FULL, value, refused-with}
+use Rattle.codes.specs.Codes.{OK, POOL-FULL, value, refused-with}
 use Rattle.ihex.specs.Entries.{IhexReadRecord, IhexLoad}
 
 -- what `ihex_read_record` returns, and what the pool holds then

@@ -8,7 +8,7 @@ use lib.ListN.{length, getD}
 use Rattle.marks.specs.Marks.{Marked}
 use Rattle.record.specs.Refusals.{output-full}
 use Rattle.page.specs.Claims.{Why}
-use Rattle.ihex.specs.Codes.{OK, refused-with}
+use Rattle.codes.specs.Codes.{OK, refused-with}
 use Rattle.ihex.specs.Entries.{IhexPageFileLength, IhexWritePage}
 use Rattle.ihex.specs.Writes.{Write-reasoned}
 

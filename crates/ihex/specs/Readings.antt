@@ -1,6 +1,6 @@
 -- What is claimed of `ihex_next`, call after call, and of the pool that it and `ihex_read_record` are lent.
 -- Assumes nothing.
-use Prim.Native.Nat.{ℕ, _+_, _%_, _^_, _≤_, _<_}
+use Prim.Native.Nat.{ℕ, _+_, _^_, _≤_, _<_}
 use mathlib.Core.Path.{_≡_}
 use mathlib.Core.Logic.{_≢_}
 use mathlib.Core.Bool.{true, false}
@@ -14,7 +14,9 @@ use Rattle.reader.specs.Lines.{lines, through, a-line, next-line}
 use Rattle.reader.specs.Row.{sayings, stopped, row}
 use Rattle.reader.specs.Text.{new-state}
 use Rattle.reader.specs.Calls.{Call, replies, one-by-one}
-use Rattle.ihex.specs.Codes.{DONE, POOL-FULL, state-of, flags-of}
+use Rattle.codes.specs.Codes.{DONE, POOL-FULL}
+use Rattle.codes.specs.States.{state-of, flags-of}
+use Rattle.codes.specs.Claims.{Three-flags-read}
 use Rattle.ihex.specs.Entries.{IhexReadRecord, IhexNext}
 use Rattle.ihex.specs.Calls.{Returned, all-in-numbers, Ihex-calls}
 
@@ -81,7 +83,7 @@ Ihex-full-keeps =
 
 -- of the flags only the first three bits are read, and the others are 0 at exit
 pub record Flags-of-three : Type 0 where
-  pub others-not-read : (position line flags : ℕ) → state-of position line flags ≡ state-of position line (flags % 8)
+  pub others-not-read : Three-flags-read
   pub others-zero : (s : State) (text pool : List ℕ) (at r i l f a b c : ℕ) (pool′ : List ℕ) → IhexNext s text pool at r i l f a b c pool′ → f < 8
 
 -- only a data record changes the pool: no refusal does, and no other record

@@ -17,8 +17,8 @@ use Rattle.writer.specs.declared.Written.the-variants.{Wrote}
 use Rattle.writer.specs.Text.{chars}
 use Rattle.writer.specs.Object.{object, WriteObject}
 use Rattle.writer.specs.Claims.{In-range}
-use Rattle.ihex.specs.Codes.{OK, DONE, Numbers, reading}
-use Rattle.ihex.specs.Entry.{records-of}
+use Rattle.codes.specs.Codes.{OK, DONE, Numbers, reading}
+use Rattle.entries.specs.Entry.{records-of}
 use Rattle.ihex.specs.Entries.{IhexCreateObjectFileRepresentation}
 use Rattle.ihex.specs.Calls.{Returned}
 use Rattle.ihex.specs.Readings.{From-the-beginning}

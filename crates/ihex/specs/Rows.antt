@@ -1,6 +1,6 @@
 -- Calls of `ihex_next_chunk`, `ihex_finish` and `ihex_shown`, chunk after chunk, and what is claimed of them, proved in `proofs/Rows.antt`.
 -- Assumes nothing.
-use Prim.Native.Nat.{ℕ, _+_, _%_, _^_, _≤_, _<_}
+use Prim.Native.Nat.{ℕ, _+_, _^_, _≤_, _<_}
 use mathlib.Core.Path.{_≡_}
 use mathlib.Core.Logic.{_≢_, _⊎_, _↔_}
 use mathlib.Core.Bool.{true}
@@ -9,7 +9,6 @@ use mathlib.Core.List.{List, [], map}
 use lib.Dec.{eqb, ltb}
 use lib.ListN.{length, take, drop}
 use Rattle.record.specs.Common.{if_then_else_, Every, pasted}
-use Rattle.record.specs.Refusals.{carry-too-small}
 use Rattle.reader.specs.declared.ReaderOptions.{ReaderOptions}
 use Rattle.reader.specs.Lines.{lines, through}
 use Rattle.reader.specs.Row.{sayings, stopped}
@@ -19,8 +18,10 @@ use Rattle.chunks.specs.declared.Place.{Place}
 use Rattle.chunks.specs.Next.{new-chunks, Outcome, next-outcome, finish-outcome}
 use Rattle.chunks.specs.Rows.{joined, Seen, Heard, Fed-by, numbered, showing}
 use Rattle.chunks.specs.Claims.{Too-small, Alike, nth-line}
-use Rattle.ihex.specs.Codes.{DONE, USED-UP, POOL-FULL, refused-with, chunks-of, chunk-flags-of, place-of, buffer-of}
-use Rattle.ihex.specs.Entries.{Chunk-read, IhexShown}
+use Rattle.codes.specs.Codes.{DONE, USED-UP, POOL-FULL, CARRY-TOO-SMALL}
+use Rattle.codes.specs.States.{chunks-of, chunk-flags-of, place-of}
+use Rattle.codes.specs.Claims.{Four-flags-read}
+use Rattle.ihex.specs.Entries.{buffer-of, Chunk-read, IhexShown}
 use Rattle.ihex.specs.Calls.{Returned, in-numbers}
 use Rattle.ihex.specs.Readings.{From-the-beginning}
 
@@ -143,10 +144,6 @@ abbrev pub Ihex-chunk-keeps : Type 0
 Ihex-chunk-keeps =
     (s : Chunks) (chunk carry pool : List ℕ) (at : ℕ) (x : Back) (carry′ pool′ : List ℕ) → Either s chunk carry pool at x carry′ pool′ → x .code ≢ 0 → pool′ ≡ pool
 
--- what is returned for refusal 18: IHEX_REFUSED + IHEX_CARRY_TOO_SMALL
-abbrev pub CARRY-TOO-SMALL : ℕ
-CARRY-TOO-SMALL = refused-with carry-too-small .code
-
 -- refusal 18 comes before all else and for nothing else, and changes neither the state nor a byte
 pub record Ihex-eighteen (s : Chunks) (carry pool : List ℕ) (x : Back) (carry′ pool′ : List ℕ) : Type 0 where
   pub exactly : (x .code ≡ CARRY-TOO-SMALL) ↔ Too-small s carry
@@ -198,7 +195,7 @@ Ihex-chunk-done-stays =
 
 -- of the flags only the first four bits are read, and the others are 0 at exit
 pub record Flags-of-four : Type 0 where
-  pub others-not-read : (position line empties used skipped flags : ℕ) → chunks-of position line empties used skipped flags ≡ chunks-of position line empties used skipped (flags % 16)
+  pub others-not-read : Four-flags-read
   pub others-zero : (s : Chunks) (chunk carry pool : List ℕ) (at : ℕ) (x : Back) (carry′ pool′ : List ℕ) → Either s chunk carry pool at x carry′ pool′ → x .flags < 16
 
 -- ---- the line at a place

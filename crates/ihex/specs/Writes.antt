@@ -11,8 +11,8 @@ use Rattle.record.specs.declared.Record.{Record}
 use Rattle.writer.specs.Told.{Told}
 use Rattle.writer.specs.Text.{Text, chars}
 use Rattle.writer.specs.Reasons.{Why-line, Why-object}
-use Rattle.ihex.specs.Codes.{OK, value, writing}
-use Rattle.ihex.specs.Entry.{record-of, records-of}
+use Rattle.codes.specs.Codes.{OK, value, writing}
+use Rattle.entries.specs.Entry.{record-of, records-of}
 use Rattle.ihex.specs.Entries.{Wrote-text, IhexToRecordString, IhexCreateObjectFileRepresentation}
 
 -- the text stands at the front of the output, as long as the value says, and no byte of the output after it changes

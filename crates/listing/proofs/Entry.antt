@@ -16,8 +16,11 @@ use Rattle.record.proofs.Spelling.{spells-length}
 use Rattle.record.proofs.Judging.{size-fits, kinds}
 use Rattle.record.proofs.Standing.{Stands}
 use Rattle.record.proofs.Writing.{spelt-length, spelt-append}
+use Rattle.reader.specs.declared.ReaderError.{ReaderError}
+use Rattle.reader.specs.declared.ReaderError.the-variants.{MissingStartCode, RecordTooShort, RecordTooLong, RecordNotEvenLength, ContainsInvalidCharacters, ChecksumMismatch, PayloadLengthMismatch, UnsupportedRecordType, InvalidLengthForType, PoolFull}
+use Rattle.reader.specs.Told.{refusal-of, values-in}
 use Rattle.listing.specs.Listing.{decimal, payload, record-entry, values-shown, refusal-entry, entry, ended}
-use Rattle.listing.specs.Helpers.{numbered}
+use Rattle.listing.specs.Helpers.{numbered, values-put}
 
 -- ---- parts
 
@@ -68,6 +71,20 @@ refusal-length r = length-append (text "! " ++ decimal (number-of r)) (values-sh
 pub refusal-is : (r : Refusal) → refusal-entry r ≡ text "! " ++ decimal (number-of r) ++ values-shown r
 unfolding refusal-entry
 refusal-is r = refl
+
+-- a refusal's values are those of its figures
+pub values-so : (e : ReaderError) → values-put (values-in (refusal-of e)) ≡ values-shown (refusal-of e)
+unfolding values-put values-shown spelt
+values-so MissingStartCode = refl
+values-so (ContainsInvalidCharacters place) = refl
+values-so RecordTooShort = refl
+values-so RecordTooLong = refl
+values-so RecordNotEvenLength = refl
+values-so (ChecksumMismatch computed stated) = refl
+values-so PayloadLengthMismatch = refl
+values-so (UnsupportedRecordType kind) = refl
+values-so InvalidLengthForType = refl
+values-so PoolFull = refl
 
 -- ---- beside its line
 

@@ -6,12 +6,14 @@ use mathlib.Core.Bool.{Bool, true, false}
 use mathlib.Core.List.{List, [], _∷_, _++_}
 use lib.ListN.{length}
 use Rattle.record.specs.Common.{text, pasted}
-use Rattle.record.specs.Written.{spelt}
+use Rattle.record.specs.Written.{spelt, two-bytes}
 use Rattle.record.specs.Record.{meant, Inside}
 use Rattle.record.specs.declared.Record.{Record}
+use Rattle.reader.specs.declared.Values.{Values}
+use Rattle.reader.specs.declared.Values.the-variants.{Nothing, Place, Byte, Bytes}
 use Rattle.reader.specs.declared.Reply.{Reply}
 use Rattle.reader.specs.declared.Reply.the-variants.{Read, Refused, Done}
-use Rattle.listing.specs.Listing.{record-entry, shown, entries, answers}
+use Rattle.listing.specs.Listing.{spaced, record-entry, shown, entries, answers}
 
 -- these characters stand in the output from a place on, and the place behind them is answered
 pub record Puts (out : List ℕ) (at : ℕ) (characters : List ℕ) (r : ℕ) (out′ : List ℕ) : Type 0 where
@@ -22,6 +24,14 @@ pub record Puts (out : List ℕ) (at : ℕ) (characters : List ℕ) (r : ℕ) (o
 unfoldable pub numbered : (character : ℕ) (bytes : List ℕ) → List ℕ
 unfolding spelt
 numbered character bytes = text "X" ++ (character ∷ []) ++ text " " ++ spelt bytes
+
+-- what is printed of a refusal's values
+unfoldable pub values-put : Values → List ℕ
+unfolding spelt
+values-put Nothing = []
+values-put (Place place) = spaced (two-bytes place)
+values-put (Byte byte) = spaced (byte ∷ [])
+values-put (Bytes first second) = spaced (first ∷ []) ++ spaced (second ∷ [])
 
 pub record Printable (given : Record) (pool out : List ℕ) (at : ℕ) : Type 0 where
   pub lies : Inside given (length pool)

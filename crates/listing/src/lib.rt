@@ -3,6 +3,7 @@ use reader::ReaderError;
 use reader::ReaderOptions;
 use reader::Reply;
 use reader::State;
+use reader::Values;
 use record::Record;
 ghost use mathlib.Core.Path.{_≡_};
 ghost use mathlib.Core.List.{[], _∷_, _++_};
@@ -12,9 +13,9 @@ ghost use Rattle.record.specs.Record.{meant};
 ghost use Rattle.record.specs.Written.{capital-digit, spelt, two-bytes};
 ghost use Rattle.record.specs.Meaning.{data-at};
 ghost use Rattle.reader.specs.Told.{refusal-of};
-ghost use Rattle.listing.specs.Listing.{decimal, spaced, record-entry, values-shown, refusal-entry, shown, heading, count-line, answers};
+ghost use Rattle.listing.specs.Listing.{decimal, spaced, record-entry, refusal-entry, shown, heading, count-line, answers};
 ghost use Rattle.listing.specs.Listed.{text-room, room, record-room, reply-room, Lists, ListsReply, ListsFirst, ListsLast};
-ghost use Rattle.listing.specs.Helpers.{Puts, Printable, Fits-in, is-done, numbered, EntriesPut, HasRoom};
+ghost use Rattle.listing.specs.Helpers.{Puts, Printable, Fits-in, is-done, numbered, values-put, EntriesPut, HasRoom};
 ghost use Rattle.listing.specs.Status.{no-line, verdict-from, ListingOptions, VerdictAfter, ExitStatus, TextStatus};
 
 // What is answered: how many characters were written, or that the output may be too small.
@@ -193,25 +194,19 @@ fn put_place(place: u16, out: &mut [u8], at: usize) -> usize
     put_word(place, out, digits)
 }
 
-// The values of a refusal that has any.
-fn put_values(e: ReaderError, out: &mut [u8], at: usize) -> usize
-    requires { ⌜ at + length (values-shown (refusal-of e)) ≤ length (now out) ⌝ }
-    ensures { λ r. ⌜ Puts (now (out .entry)) at (values-shown (refusal-of e)) r (now (out .exit)) ⌝ }
+// The values of a refusal.
+fn put_values(values: Values, out: &mut [u8], at: usize) -> usize
+    requires { ⌜ at + length (values-put values) ≤ length (now out) ⌝ }
+    ensures { λ r. ⌜ Puts (now (out .entry)) at (values-put values) r (now (out .exit)) ⌝ }
 {
-    match e {
-        ReaderError::ChecksumMismatch(computed, stated) => {
-            let second = put_value(computed, out, at);
-            put_value(stated, out, second)
+    match values {
+        Values::Nothing => at,
+        Values::Place(place) => put_place(place, out, at),
+        Values::Byte(byte) => put_value(byte, out, at),
+        Values::Bytes(first, second) => {
+            let next = put_value(first, out, at);
+            put_value(second, out, next)
         }
-        ReaderError::ContainsInvalidCharacters(place) => put_place(place, out, at),
-        ReaderError::UnsupportedRecordType(kind) => put_value(kind, out, at),
-        ReaderError::MissingStartCode => at,
-        ReaderError::RecordTooShort => at,
-        ReaderError::RecordTooLong => at,
-        ReaderError::RecordNotEvenLength => at,
-        ReaderError::PayloadLengthMismatch => at,
-        ReaderError::InvalidLengthForType => at,
-        ReaderError::PoolFull => at,
     }
 }
 
@@ -220,9 +215,11 @@ fn put_refusal(e: ReaderError, out: &mut [u8], at: usize) -> usize
     requires { ⌜ at + length (refusal-entry (refusal-of e)) ≤ length (now out) ⌝ }
     ensures { λ r. ⌜ Puts (now (out .entry)) at (refusal-entry (refusal-of e)) r (now (out .exit)) ⌝ }
 {
+    let figures = e.figures();
+    let shown = figures.values;
     let number = put_text(b"! ", out, at);
-    let values = put_decimal(e.number() as usize, out, number);
-    put_values(e, out, values)
+    let values = put_decimal(figures.number as usize, out, number);
+    put_values(shown, out, values)
 }
 
 // Whether a reply says that nothing is left.

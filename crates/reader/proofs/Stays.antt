@@ -14,6 +14,8 @@ use Rattle.record.specs.Refusals.{pool-full}
 use Rattle.record.specs.Line.{Said, says, wrong, judge}
 use Rattle.record.specs.Meaning.{Meaning, data-at, end-of-file, extended-segment, start-segment, extended-linear, start-linear, meaning}
 use Rattle.record.proofs.Tests.{both-ways}
+use Rattle.reader.specs.declared.Values.{Values}
+use Rattle.reader.specs.declared.Figures.{Figures}
 use Rattle.reader.specs.declared.ReaderOptions.{ReaderOptions}
 use Rattle.reader.specs.declared.State.{State}
 use Rattle.reader.specs.declared.Step.{Step}
@@ -27,7 +29,7 @@ use Rattle.reader.specs.Lines.{lines, later, Found, a-line, no-line, nex
 use Rattle.reader.specs.Row.{Numbered, on, number, sayings, stops, through-stop, stopped, row}
 use Rattle.reader.specs.Text.{told-reply, is-full, ends-row, behind, at-end, next-number, Outcome, of-found, outcome}
 use Rattle.reader.specs.Calls.{no-more, one-more}
-use Rattle.reader.specs.Claims.{Done-stays, Done-behind, Full-keeps, Room-is-enough, Pool-blind, Same-through, Nothing-behind, Next-unique, Default-unique, Ends-unique, New-unique, Number-unique}
+use Rattle.reader.specs.Claims.{Done-stays, Done-behind, Full-keeps, Room-is-enough, Pool-blind, Same-through, Nothing-behind, Next-unique, Default-unique, Ends-unique, New-unique, Number-unique, Figures-unique}
 use Rattle.reader.proofs.Claims.{untold, untold-told}
 use Rattle.reader.proofs.Cutting.{lines-closed, Head, through-head}
 use Rattle.reader.proofs.Reading.{full-keeps, outcome-finished, outcome-found}
@@ -253,3 +255,9 @@ new-with-options-unique = new-unique
 
 pub number-unique : Number-unique
 number-unique e r r′ x y = x .answer ∙ sym (y .answer)
+
+pub figures-unique : Figures-unique
+figures-unique e r r′ x y = same (x .number-is ∙ sym (y .number-is)) (x .values-are ∙ sym (y .values-are))
+  where
+    same : {n n′ : ℕ} {v v′ : Values} → n ≡ n′ → v ≡ v′ → _≡_ {A = Figures} (record { number = n; values = v }) (record { number = n′; values = v′ })
+    same e f = rw (e, f)

@@ -18,11 +18,12 @@ use Rattle.record.specs.declared.Record.{Record}
 use Rattle.reader.specs.declared.Answer.{Answer}
 use Rattle.reader.specs.declared.Answer.the-variants.{Refused}
 use Rattle.reader.specs.declared.ReaderError.{ReaderError}
+use Rattle.reader.specs.declared.Figures.{Figures}
 use Rattle.reader.specs.declared.ReaderError.the-variants.{ContainsInvalidCharacters}
 use Rattle.reader.specs.declared.ReaderOptions.{ReaderOptions}
 use Rattle.reader.specs.declared.State.{State}
 use Rattle.reader.specs.declared.Step.{Step}
-use Rattle.reader.specs.Told.{Told, gives, refuses, done, told}
+use Rattle.reader.specs.Told.{Told, gives, refuses, done, told, FiguresOf}
 use Rattle.reader.specs.Answer.{ReadRecord, answered}
 use Rattle.reader.specs.Lines.{Joins, lines, through}
 use Rattle.reader.specs.Row.{Numbered, on, number, sayings, stopped, row}
@@ -201,3 +202,6 @@ New-unique = (options : ReaderOptions) (r r′ : State) → New options r → Ne
 
 abbrev pub Number-unique : Type 0
 Number-unique = (e : ReaderError) (r r′ : ℕ) → Number e r → Number e r′ → r ≡ r′
+
+abbrev pub Figures-unique : Type 0
+Figures-unique = (e : ReaderError) (r r′ : Figures) → FiguresOf e r → FiguresOf e r′ → r ≡ r′

@@ -1,11 +1,17 @@
 -- What an answer tells: a record's type and numbers, a refusal, or "done".
 -- Assumes nothing.
 use Prim.Native.Nat.{ℕ}
-use mathlib.Core.List.{List}
+use mathlib.Core.Path.{_≡_}
+use mathlib.Core.List.{List, [], _∷_}
+use lib.Dec.{eqb}
+use Rattle.record.specs.Common.{if_then_else_}
 use Rattle.record.specs.Record.{type-of, numbers-of}
-use Rattle.record.specs.Refusals.{Refusal, missing-start-code, contains-invalid-characters, record-too-short, record-too-long, record-not-even-length, checksum-mismatch, payload-length-mismatch, unsupported-record-type, invalid-length-for-type, pool-full}
+use Rattle.record.specs.Refusals.{Refusal, refusal, number-of, missing-start-code, contains-invalid-characters, record-too-short, record-too-long, record-not-even-length, checksum-mismatch, payload-length-mismatch, unsupported-record-type, invalid-length-for-type, pool-full}
 use Rattle.reader.specs.declared.ReaderError.{ReaderError}
 use Rattle.reader.specs.declared.ReaderError.the-variants.{MissingStartCode, RecordTooShort, RecordTooLong, RecordNotEvenLength, ContainsInvalidCharacters, ChecksumMismatch, PayloadLengthMismatch, UnsupportedRecordType, InvalidLengthForType, PoolFull}
+use Rattle.reader.specs.declared.Values.{Values}
+use Rattle.reader.specs.declared.Values.the-variants.{Nothing, Place, Byte, Bytes}
+use Rattle.reader.specs.declared.Figures.{Figures}
 use Rattle.reader.specs.declared.Answer.{Answer}
 use Rattle.reader.specs.declared.Answer.the-variants.{Read, Refused}
 
@@ -29,3 +35,14 @@ refusal-of PoolFull = pool-full
 abbrev pub told : Answer → Told
 told (Read r) = gives (type-of r) (numbers-of r)
 told (Refused e) = refuses (refusal-of e)
+
+-- the values of a refusal in code: that of refusal 2 is a place, and each other value is a byte
+abbrev pub values-in : Refusal → Values
+values-in (refusal number []) = Nothing
+values-in (refusal number (v ∷ [])) = if eqb number 2 then Place v else Byte v
+values-in (refusal number (v ∷ w ∷ more)) = Bytes v w
+
+-- the contract of `ReaderError::figures`
+pub record FiguresOf (e : ReaderError) (r : Figures) : Type 0 where
+  pub number-is : r .number ≡ number-of (refusal-of e)
+  pub values-are : r .values ≡ values-in (refusal-of e)

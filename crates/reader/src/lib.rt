@@ -1,5 +1,6 @@
 // Intel HEX read: one line to a record, and a text to a row of answers.
 use record::Record;
+use record::refusals;
 use record::types;
 ghost use mathlib.Core.Path.{_≡_};
 ghost use mathlib.Core.Bool.{true, false};
@@ -10,7 +11,8 @@ ghost use lib.Dec.{eqb};
 ghost use Rattle.record.specs.Common.{if_then_else_};
 ghost use Rattle.record.specs.Digits.{all-digits, leading};
 ghost use Rattle.record.specs.Line.{size, judge-bytes, says, named};
-ghost use Rattle.reader.specs.Told.{told};
+ghost use Rattle.reader.specs.declared.Values.the-variants.{Nothing};
+ghost use Rattle.reader.specs.Told.{told, FiguresOf};
 ghost use Rattle.reader.specs.Answer.{ReadRecord, Reads, word};
 ghost use Rattle.reader.specs.Lines.{rest};
 ghost use Rattle.reader.specs.Text.{FirstLine, Default, Ends, New, Next, Number, default-options, at-end};
@@ -32,6 +34,20 @@ pub enum ReaderError {
     InvalidLengthForType,
     // A good data record whose payload does not fit the pool.
     PoolFull,
+}
+
+// What a refusal has beside its number: nothing, a place of the line, a byte, or two bytes.
+pub enum Values {
+    Nothing,
+    Place(u16),
+    Byte(u8),
+    Bytes(u8, u8),
+}
+
+// A refusal in numbers.
+pub struct Figures {
+    pub number: u8,
+    pub values: Values,
 }
 
 // What the record reader answers to a line.
@@ -426,23 +442,49 @@ fn find_line(text: &[u8], position: usize) -> Spot
     Spot::Nothing
 }
 
+// A refusal that has no value.
+fn bare(number: u8) -> Figures
+    ensures { λ r. ⌜ r ≡ record { number = number; values = Nothing } ⌝ }
+{
+    Figures {
+        number,
+        values: Values::Nothing,
+    }
+}
+
 impl ReaderError {
+    // The refusal's number and values.
+    pub fn figures(self) -> Figures
+        ensures { λ r. ⌜ FiguresOf self r ⌝ }
+    {
+        match self {
+            ReaderError::MissingStartCode => bare(refusals::MISSING_START_CODE),
+            ReaderError::ContainsInvalidCharacters(place) => Figures {
+                number: refusals::CONTAINS_INVALID_CHARACTERS,
+                values: Values::Place(place),
+            },
+            ReaderError::RecordTooShort => bare(refusals::RECORD_TOO_SHORT),
+            ReaderError::RecordTooLong => bare(refusals::RECORD_TOO_LONG),
+            ReaderError::RecordNotEvenLength => bare(refusals::RECORD_NOT_EVEN_LENGTH),
+            ReaderError::ChecksumMismatch(computed, stated) => Figures {
+                number: refusals::CHECKSUM_MISMATCH,
+                values: Values::Bytes(computed, stated),
+            },
+            ReaderError::PayloadLengthMismatch => bare(refusals::PAYLOAD_LENGTH_MISMATCH),
+            ReaderError::UnsupportedRecordType(kind) => Figures {
+                number: refusals::UNSUPPORTED_RECORD_TYPE,
+                values: Values::Byte(kind),
+            },
+            ReaderError::InvalidLengthForType => bare(refusals::INVALID_LENGTH_FOR_TYPE),
+            ReaderError::PoolFull => bare(refusals::POOL_FULL),
+        }
+    }
+
     // The refusal's number.
     pub fn number(self) -> u8
         ensures { λ r. ⌜ Number self r ⌝ }
     {
-        match self {
-            ReaderError::MissingStartCode => 1,
-            ReaderError::ContainsInvalidCharacters(_) => 2,
-            ReaderError::RecordTooShort => 3,
-            ReaderError::RecordTooLong => 4,
-            ReaderError::RecordNotEvenLength => 5,
-            ReaderError::ChecksumMismatch(_, _) => 6,
-            ReaderError::PayloadLengthMismatch => 7,
-            ReaderError::UnsupportedRecordType(_) => 8,
-            ReaderError::InvalidLengthForType => 9,
-            ReaderError::PoolFull => 10,
-        }
+        self.figures().number
     }
 }
 

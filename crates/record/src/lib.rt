@@ -1,4 +1,4 @@
-// The six records of Intel's hexadecimal format, their types, and the value of a digit.
+// The six records of Intel's hexadecimal format, their types, the numbers of refusals, and the value of a digit.
 ghost use Rattle.record.specs.Digits.{DigitValue};
 ghost use Rattle.record.specs.Record.{RecordType};
 
@@ -30,6 +30,47 @@ pub mod types {
     pub const EXTENDED_LINEAR_ADDRESS: u8 = 0x04;
 
     pub const START_LINEAR_ADDRESS: u8 = 0x05;
+}
+
+// The number of each refusal.
+pub mod refusals {
+    pub const MISSING_START_CODE: u8 = 1;
+
+    pub const CONTAINS_INVALID_CHARACTERS: u8 = 2;
+
+    pub const RECORD_TOO_SHORT: u8 = 3;
+
+    pub const RECORD_TOO_LONG: u8 = 4;
+
+    pub const RECORD_NOT_EVEN_LENGTH: u8 = 5;
+
+    pub const CHECKSUM_MISMATCH: u8 = 6;
+
+    pub const PAYLOAD_LENGTH_MISMATCH: u8 = 7;
+
+    pub const UNSUPPORTED_RECORD_TYPE: u8 = 8;
+
+    pub const INVALID_LENGTH_FOR_TYPE: u8 = 9;
+
+    pub const POOL_FULL: u8 = 10;
+
+    pub const PAYLOAD_OUTSIDE_POOL: u8 = 11;
+
+    pub const DATA_EXCEEDS_MAXIMUM_LENGTH: u8 = 12;
+
+    pub const MISSING_END_OF_FILE_RECORD: u8 = 13;
+
+    pub const MULTIPLE_END_OF_FILE_RECORDS: u8 = 14;
+
+    pub const OUTPUT_FULL: u8 = 15;
+
+    pub const BAD_WINDOW: u8 = 16;
+
+    pub const OUTSIDE_WINDOW: u8 = 17;
+
+    pub const CARRY_TOO_SMALL: u8 = 18;
+
+    pub const BAD_MARK: u8 = 19;
 }
 
 impl Record {

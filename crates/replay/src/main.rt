@@ -43,7 +43,9 @@ use reader::ReaderError;
 use reader::ReaderOptions;
 use reader::Reply;
 use reader::State;
+use reader::Values;
 use record::Record;
+use record::refusals;
 use writer::WriterError;
 use writer::Written;
 ghost use mathlib.Core.Path.{_≡_};
@@ -164,20 +166,30 @@ fn say_record(r: Record) {
     say_special(kind, x);
 }
 
-// `!`, the refusal's number in decimal, and its values.
-fn say_refusal(e: ReaderError) {
+// `!`, and the number of a refusal in decimal.
+fn say_refused(number: u8) {
     say(b"! ");
-    io::print_decimal(1, wide(e.number()));
-    if let ReaderError::ChecksumMismatch(computed, stated) = e {
-        say_field(wide(computed), 2);
-        say_field(wide(stated), 2);
+    io::print_decimal(1, wide(number));
+}
+
+fn say_values(values: Values) {
+    match values {
+        Values::Nothing => {}
+        Values::Place(place) => say_field(place as u64, 4),
+        Values::Byte(byte) => say_field(wide(byte), 2),
+        Values::Bytes(first, second) => {
+            say_field(wide(first), 2);
+            say_field(wide(second), 2);
+        }
     }
-    if let ReaderError::UnsupportedRecordType(kind) = e {
-        say_field(wide(kind), 2);
-    }
-    if let ReaderError::ContainsInvalidCharacters(place) = e {
-        say_field(place as u64, 4);
-    }
+}
+
+// A refusal of a line: its number, and its values.
+fn say_refusal(e: ReaderError) {
+    let figures = e.figures();
+    let values = figures.values;
+    say_refused(figures.number);
+    say_values(values);
 }
 
 fn say_answer(a: Answer) {
@@ -448,17 +460,17 @@ fn record_at(text: &[u8], from: usize) -> Given {
 
 fn say_writer_error(e: WriterError) {
     match e {
-        WriterError::PayloadOutsidePool => say(b"! 11"),
+        WriterError::PayloadOutsidePool => say_refused(refusals::PAYLOAD_OUTSIDE_POOL),
         WriterError::DataExceedsMaximumLength(n) => {
-            say(b"! 12");
+            say_refused(refusals::DATA_EXCEEDS_MAXIMUM_LENGTH);
             say_field(n as u64, 1);
         }
-        WriterError::MissingEndOfFileRecord => say(b"! 13"),
+        WriterError::MissingEndOfFileRecord => say_refused(refusals::MISSING_END_OF_FILE_RECORD),
         WriterError::MultipleEndOfFileRecords(n) => {
-            say(b"! 14");
+            say_refused(refusals::MULTIPLE_END_OF_FILE_RECORDS);
             say_field(n as u64, 1);
         }
-        WriterError::OutputFull => say(b"! 15"),
+        WriterError::OutputFull => say_refused(refusals::OUTPUT_FULL),
     }
 }
 
@@ -547,10 +559,10 @@ fn object_case(text: &[u8]) {
 fn say_loader_error(e: LoaderError) {
     match e {
         LoaderError::Line(why) => say_refusal(why),
-        LoaderError::MissingEndOfFileRecord => say(b"! 13"),
-        LoaderError::BadWindow => say(b"! 16"),
+        LoaderError::MissingEndOfFileRecord => say_refused(refusals::MISSING_END_OF_FILE_RECORD),
+        LoaderError::BadWindow => say_refused(refusals::BAD_WINDOW),
         LoaderError::OutsideWindow(a) => {
-            say(b"! 17");
+            say_refused(refusals::OUTSIDE_WINDOW);
             say_field(a as u64, 8);
         }
     }

@@ -1,77 +1,17 @@
--- `ihex::ihex_create_object_file_representation` meets its contract: the survey and the steps make an object, in numbers.
+-- `ihex::ihex_create_object_file_representation` meets its contract: the attempt to write the list, in numbers.
 -- Assumes nothing.
-use mathlib.Core.Path.{subst}
-use mathlib.Core.List.{List}
-use native.Mathlib.Omega.{arith}
-use denote.Ref.{now}
-use Rattle.record.specs.declared.Record.{Record}
-use Rattle.writer.specs.Object.{object}
-use Rattle.writer.proofs.Stepping.{object-written}
-use Rattle.ihex.specs.declared.Surveyed.{Surveyed}
-use Rattle.ihex.specs.Entry.{records-of}
-use Rattle.ihex.specs.Helpers.{Surveyed-as}
-use Rattle.ihex.proofs.Listing.{listed-length}
-use Rattle.ihex.proofs.Texts.{not-given, wrote}
+use mathlib.Core.Path.{ap}
+use Rattle.codes.specs.Codes.{writing}
+use Rattle.codes.proofs.Codes.{coded}
 use borrow.Author.Needs.{needs}
 use Rattle.ihex.proofs.ihex_create_object_file_representation.Statement.{statement}
 use Rattle.ihex.proofs.ihex_create_object_file_representation.Tie as tie
 
-survey-list-requires : tie.Need-survey-list-requires
-survey-list-requires c κs = search needs
-
-enum-told : tie.Need-enum-told
-enum-told c = search needs
-
-enum-known-surveyed : tie.Need-enum-known-surveyed
-enum-known-surveyed c = search needs
-
-begin-requires : tie.Need-begin-requires
-begin-requires c κs = search needs
-
-write-list-requires : tie.Need-write-list-requires
-write-list-requires c κs =
-    let s = c .before .before .before .before .before .before .before .before .before .args in
-    subst (λ (x : Surveyed). Surveyed-as (now (s .list)) (now (s .pool)) x) (c .before .before .before .surveyed .given .1) (c .before .before .before .before .before .survey-list .ensures) .listed
-
-code-written-requires : tie.Need-code-written-requires
-code-written-requires c κs = search needs
-
 returns : tie.Need-returns
 returns c =
-    let s = c .before .before .before .before .before .before .args in
-    not-given (λ (rs : List Record). object rs (now (s .pool))) (records-of (now (s .list))) (now (s .out))
-    (subst (λ (x : Surveyed). Surveyed-as (now (s .list)) (now (s .pool)) x) (c .enum-told .given .1) (c .before .before .survey-list .ensures))
-
-same-length : tie.Need-same-length
-same-length c = search needs
-
-returns-2 : tie.Need-returns-2
-returns-2 c =
-    let s = c .before .before .before .before .before .before .before .before .before .before .before .before .before in
-    let list = now (s .args .list) in
-    let pool = now (s .args .pool) in
-    let x = c .before .before .before .before .before .before .before .surveyed .given in
-    let whole = subst (λ (y : Surveyed). Surveyed-as list pool y) (x .1) (c .before .before .before .before .before .before .before .before .before .survey-list .ensures) in
-    let rs = whole .listed .records in
-    let b = c .before .before .before .before .before .begin in
-    let w = c .before .before .before .write-list in
-    wrote (λ (qs : List Record). object qs pool) (records-of list) (now (s .args .out)) rs (w .result) (w .last .1 .1 .0) (c .code-written .result)
-    (whole .listed .read)
-    (object-written rs pool (now (s .args .out)) (x .0 .0) (b .result) (w .result) (w .last .1 .1 .0)
-    (omega (arith, listed-length list rs (whole .listed .read), s .good .0)) (omega (arith, s .good .1 .1 .0))
-    (whole .surveys) (b .ensures) (w .ensures rs (whole .listed .read)))
-    (c .code-written .ensures)
+    let w = c .before .before .before .write-list .ensures in
+    let k = coded (ap writing (w .answer)) (c .code-attempt .ensures) in
+    record { code-is = k .code-is; value-is = k .a-is; left = w .left }
 
 pub ihex-create-object-file-representation-spec : {M : Type 1} → statement M
-ihex-create-object-file-representation-spec =
-    tie.close
-    (tie.spec
-    survey-list-requires
-    enum-told
-    enum-known-surveyed
-    begin-requires
-    write-list-requires
-    code-written-requires
-    returns
-    same-length
-    returns-2)
+ihex-create-object-file-representation-spec = tie.close (tie.spec (λ c κs. search needs) (λ c κs. search needs) (λ c. search needs) returns)

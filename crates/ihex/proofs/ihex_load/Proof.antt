@@ -1,26 +1,11 @@
 -- `ihex::ihex_load` meets its contract: the loader's answer, in numbers.
 -- Assumes nothing.
 use mathlib.Core.Path.{_∙_, ap}
-use Rattle.ihex.specs.Codes.{loading, line-at}
-use Rattle.ihex.proofs.Codes.{coded}
+use Rattle.codes.specs.Codes.{loading, line-at}
+use Rattle.codes.proofs.Codes.{coded}
 use borrow.Author.Needs.{needs}
 use Rattle.ihex.proofs.ihex_load.Statement.{statement}
 use Rattle.ihex.proofs.ihex_load.Tie as tie
-
-load-requires : tie.Need-load-requires
-load-requires c κs = search needs
-
-code-loading-requires : tie.Need-code-loading-requires
-code-loading-requires c κs = search needs
-
-line-at-requires : tie.Need-line-at-requires
-line-at-requires c κs = search needs
-
-same-length : tie.Need-same-length
-same-length c = search needs
-
-same-length-2 : tie.Need-same-length-2
-same-length-2 c = search needs
 
 returns : tie.Need-returns
 returns c =
@@ -28,7 +13,7 @@ returns c =
     let k = coded (ap loading (l .answer)) (c .before .code-loading .ensures) in
     record {
       code-is = k .code-is;
-      line-is = c .line-at .ensures ∙ ap line-at (l .answer);
+      line-is = c .line-at .ensures .answer ∙ ap line-at (l .answer);
       a-is = k .a-is;
       b-is = k .b-is;
       page-is = l .page;
@@ -39,9 +24,9 @@ pub ihex-load-spec : {M : Type 1} → statement M
 ihex-load-spec =
     tie.close
     (tie.spec
-    load-requires
-    code-loading-requires
-    line-at-requires
-    same-length
-    same-length-2
+    (λ c κs. search needs)
+    (λ c κs. search needs)
+    (λ c κs. search needs)
+    (λ c. search needs)
+    (λ c. search needs)
     returns)

@@ -9,37 +9,22 @@ use borrow.Author.Needs.{needs}
 use Rattle.ihex.proofs.ihex_next_chunk.Statement.{statement}
 use Rattle.ihex.proofs.ihex_next_chunk.Tie as tie
 
-chunks-from-requires : tie.Need-chunks-from-requires
-chunks-from-requires c κs = search needs
-
-next-requires : tie.Need-next-requires
-next-requires c κs = search needs
-
-tell-step-requires : tie.Need-tell-step-requires
-tell-step-requires c κs = search needs
-
-same-length : tie.Need-same-length
-same-length c = search needs
-
-same-length-2 : tie.Need-same-length-2
-same-length-2 c = search needs
-
 returns : tie.Need-returns
 returns c =
     let n = c .before .before .before .before .before .before .before .before .before .before .before .before .before .before .before .before .before in
     let s = n .before .before .before in
     let a = s .before .before .before .before .before .before .before .before .before .before .args in
     chunk-read (next-outcome _ (now (a .chunk)) (now (a .carry)) (now (a .pool)) (a .at)) (now (a .chunk))
-    (subst (λ (x : Chunks). NextChunk x (now (a .chunk)) (now (a .carry)) (now (a .pool)) (a .at) (n .next .result) (n .next .last .1 .1 .0) (n .next .last .1 .1 .1 .0)) (s .chunks-from .ensures) (n .next .ensures))
+    (subst (λ (x : Chunks). NextChunk x (now (a .chunk)) (now (a .carry)) (now (a .pool)) (a .at) (n .next .result) (n .next .last .1 .1 .0) (n .next .last .1 .1 .1 .0)) (s .chunks-from .ensures .answer) (n .next .ensures))
     (c .tell-step .ensures)
 
 pub ihex-next-chunk-spec : {M : Type 1} → statement M
 ihex-next-chunk-spec =
     tie.close
     (tie.spec
-    chunks-from-requires
-    next-requires
-    tell-step-requires
-    same-length
-    same-length-2
+    (λ c κs. search needs)
+    (λ c κs. search needs)
+    (λ c κs. search needs)
+    (λ c. search needs)
+    (λ c. search needs)
     returns)

@@ -1,18 +1,9 @@
 -- `ihex::ihex_read_record` meets its contract: the record reader's answer, in numbers.
 -- Assumes nothing.
-use Rattle.ihex.proofs.Codes.{numbers}
+use Rattle.codes.proofs.Codes.{numbers}
 use borrow.Author.Needs.{needs}
 use Rattle.ihex.proofs.ihex_read_record.Statement.{statement}
 use Rattle.ihex.proofs.ihex_read_record.Tie as tie
-
-read-record-requires : tie.Need-read-record-requires
-read-record-requires c κs = search needs
-
-code-answer-requires : tie.Need-code-answer-requires
-code-answer-requires c κs = search needs
-
-same-length : tie.Need-same-length
-same-length c = search needs
 
 returns : tie.Need-returns
 returns c =
@@ -21,4 +12,4 @@ returns c =
 
 pub ihex-read-record-spec : {M : Type 1} → statement M
 ihex-read-record-spec =
-    tie.close (tie.spec read-record-requires code-answer-requires same-length returns)
+    tie.close (tie.spec (λ c κs. search needs) (λ c κs. search needs) (λ c. search needs) returns)

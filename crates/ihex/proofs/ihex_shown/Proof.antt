@@ -10,21 +10,12 @@ use borrow.Author.Needs.{needs}
 use Rattle.ihex.proofs.ihex_shown.Statement.{statement}
 use Rattle.ihex.proofs.ihex_shown.Tie as tie
 
-place-from-requires : tie.Need-place-from-requires
-place-from-requires c κs = search needs
-
-start-at-requires : tie.Need-start-at-requires
-start-at-requires c κs = search needs
-
-shown-requires : tie.Need-shown-requires
-shown-requires c κs = search needs
-
 returns : tie.Need-returns
 returns c =
     let a = c .before .before .before .before .before .args in
     let p = c .before .before .place-from in
-    subst (λ (x : Place). IhexShown x (now (a .chunk)) (now (a .carry)) (c .before .start-at .result) (length (now (c .shown .result)))) (p .ensures)
+    subst (λ (x : Place). IhexShown x (now (a .chunk)) (now (a .carry)) (c .before .start-at .result) (length (now (c .shown .result)))) (p .ensures .answer)
     (shown-as (p .result) (a .chunk) (a .carry) (c .shown .result) (c .before .start-at .ensures) (c .shown .ensures))
 
 pub ihex-shown-spec : {M : Type 1} → statement M
-ihex-shown-spec = tie.close (tie.spec place-from-requires start-at-requires shown-requires returns)
+ihex-shown-spec = tie.close (tie.spec (λ c κs. search needs) (λ c κs. search needs) (λ c κs. search needs) returns)

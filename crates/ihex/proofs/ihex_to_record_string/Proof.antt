@@ -1,56 +1,17 @@
--- `ihex::ihex_to_record_string` meets its contract: the record writer's answer, in numbers.
+-- `ihex::ihex_to_record_string` meets its contract: the attempt to write the record, in numbers.
 -- Assumes nothing.
-use mathlib.Core.Path.{sym, _∙_, ap}
-use denote.Ref.{now}
-use Rattle.record.specs.declared.Record.{Record}
-use Rattle.writer.specs.Line.{line-text}
-use Rattle.ihex.specs.Entry.{record-of, entry-of}
-use Rattle.ihex.proofs.Texts.{not-given, wrote}
+use mathlib.Core.Path.{ap}
+use Rattle.codes.specs.Codes.{writing}
+use Rattle.codes.proofs.Codes.{coded}
 use borrow.Author.Needs.{needs}
 use Rattle.ihex.proofs.ihex_to_record_string.Statement.{statement}
 use Rattle.ihex.proofs.ihex_to_record_string.Tie as tie
 
-record-from-requires : tie.Need-record-from-requires
-record-from-requires c κs = search needs
-
-enum-told : tie.Need-enum-told
-enum-told c = search needs
-
-enum-known-entry : tie.Need-enum-known-entry
-enum-known-entry c = search needs
-
-to-record-string-requires : tie.Need-to-record-string-requires
-to-record-string-requires c κs = search needs
-
-code-written-requires : tie.Need-code-written-requires
-code-written-requires c κs = search needs
-
 returns : tie.Need-returns
 returns c =
-    let s = c .before .before .before .before .before .args in
-    not-given (λ (x : Record). line-text x (now (s .pool))) (record-of (s .kind) (s .number) (s .second) (s .at) (s .len)) (now (s .out))
-    (sym (c .before .before .record-from .ensures) ∙ ap entry-of (c .enum-told .given .1))
-
-same-length : tie.Need-same-length
-same-length c = search needs
-
-returns-2 : tie.Need-returns-2
-returns-2 c =
-    let s = c .before .before .before .before .before .before .before .before .before .before .before .args in
-    let x = c .before .before .before .before .before .before .entry .given in
-    let w = c .before .before .before .to-record-string in
-    wrote (λ (x : Record). line-text x (now (s .pool))) (record-of (s .kind) (s .number) (s .second) (s .at) (s .len)) (now (s .out))
-    (x .0 .0) (w .result) (w .last .1 .1 .0) (c .code-written .result) (sym (c .before .before .before .before .before .before .before .before .record-from .ensures) ∙ ap entry-of (x .1)) (w .ensures) (c .code-written .ensures)
+    let w = c .before .before .before .write-record .ensures in
+    let k = coded (ap writing (w .answer)) (c .code-attempt .ensures) in
+    record { code-is = k .code-is; value-is = k .a-is; left = w .left }
 
 pub ihex-to-record-string-spec : {M : Type 1} → statement M
-ihex-to-record-string-spec =
-    tie.close
-    (tie.spec
-    record-from-requires
-    enum-told
-    enum-known-entry
-    to-record-string-requires
-    code-written-requires
-    returns
-    same-length
-    returns-2)
+ihex-to-record-string-spec = tie.close (tie.spec (λ c κs. search needs) (λ c κs. search needs) (λ c. search needs) returns)

@@ -3,20 +3,11 @@
 use mathlib.Core.Path.{ap}
 use mathlib.Core.Option.{some}
 use Rattle.writer.specs.Told.{Told}
-use Rattle.ihex.specs.Codes.{writing}
-use Rattle.ihex.proofs.Codes.{coded}
+use Rattle.codes.specs.Codes.{writing}
+use Rattle.codes.proofs.Codes.{coded}
 use borrow.Author.Needs.{needs}
 use Rattle.ihex.proofs.ihex_write_page.Statement.{statement}
 use Rattle.ihex.proofs.ihex_write_page.Tie as tie
-
-write-page-requires : tie.Need-write-page-requires
-write-page-requires c κs = search needs
-
-code-paged-requires : tie.Need-code-paged-requires
-code-paged-requires c κs = search needs
-
-same-length : tie.Need-same-length
-same-length c = search needs
 
 returns : tie.Need-returns
 returns c =
@@ -25,4 +16,4 @@ returns c =
     record { code-is = k .code-is; value-is = k .a-is; left = w .left }
 
 pub ihex-write-page-spec : {M : Type 1} → statement M
-ihex-write-page-spec = tie.close (tie.spec write-page-requires code-paged-requires same-length returns)
+ihex-write-page-spec = tie.close (tie.spec (λ c κs. search needs) (λ c κs. search needs) (λ c. search needs) returns)

@@ -1,0 +1,62 @@
+-- No second answer meets a contract: it says by equations what each number is.
+-- Assumes nothing.
+use Prim.Native.Nat.{ℕ}
+use mathlib.Core.Path.{_≡_, sym, _∙_}
+use Rattle.codes.specs.declared.Coded.{Coded}
+use Rattle.codes.specs.declared.Spot.{Spot}
+use Rattle.codes.specs.Codes.{Message, Coded-as}
+use Rattle.codes.specs.Claims.{Code-answer-unique, Code-reply-unique, Code-chunk-reply-unique, Code-attempt-unique, Code-loading-unique, Code-paged-unique, Line-at-unique, State-from-unique, Flags-from-unique, Chunks-from-unique, Chunk-flags-from-unique, Spot-of-unique, Place-from-unique}
+
+one-coding : {m : Message} {r r′ : Coded} → Coded-as m r → Coded-as m r′ → r ≡ r′
+one-coding {r = r} {r′ = r′} x y =
+    let code : r .code ≡ r′ .code = x .code-is ∙ sym (y .code-is) in
+    let a : r .a ≡ r′ .a = x .a-is ∙ sym (y .a-is) in
+    let b : r .b ≡ r′ .b = x .b-is ∙ sym (y .b-is) in
+    let c : r .c ≡ r′ .c = x .c-is ∙ sym (y .c-is) in
+    same code a b c
+  where
+    same : {n n′ i i′ j j′ k k′ : ℕ} → n ≡ n′ → i ≡ i′ → j ≡ j′ → k ≡ k′
+        → _≡_ {A = Coded} (record { code = n; a = i; b = j; c = k }) (record { code = n′; a = i′; b = j′; c = k′ })
+    same e f g h = rw (e, f, g, h)
+
+pub code-answer-unique : Code-answer-unique
+code-answer-unique answer r r′ x y = one-coding x y
+
+pub code-reply-unique : Code-reply-unique
+code-reply-unique reply r r′ x y = one-coding x y
+
+pub code-chunk-reply-unique : Code-chunk-reply-unique
+code-chunk-reply-unique reply r r′ x y = one-coding x y
+
+pub code-attempt-unique : Code-attempt-unique
+code-attempt-unique attempt r r′ x y = one-coding x y
+
+pub code-loading-unique : Code-loading-unique
+code-loading-unique answer r r′ x y = one-coding x y
+
+pub code-paged-unique : Code-paged-unique
+code-paged-unique answer r r′ x y = one-coding x y
+
+pub line-at-unique : Line-at-unique
+line-at-unique answer r r′ x y = x .answer ∙ sym (y .answer)
+
+pub state-from-unique : State-from-unique
+state-from-unique position line flags r r′ x y = x .answer ∙ sym (y .answer)
+
+pub flags-from-unique : Flags-from-unique
+flags-from-unique s r r′ x y = x .answer ∙ sym (y .answer)
+
+pub chunks-from-unique : Chunks-from-unique
+chunks-from-unique position line empties used skipped flags r r′ x y = x .answer ∙ sym (y .answer)
+
+pub chunk-flags-from-unique : Chunk-flags-from-unique
+chunk-flags-from-unique s r r′ x y = x .answer ∙ sym (y .answer)
+
+pub spot-of-unique : Spot-of-unique
+spot-of-unique p r r′ x y = same (x .lies-is ∙ sym (y .lies-is)) (x .from-is ∙ sym (y .from-is)) (x .len-is ∙ sym (y .len-is))
+  where
+    same : {l l′ f f′ n n′ : ℕ} → l ≡ l′ → f ≡ f′ → n ≡ n′ → _≡_ {A = Spot} (record { lies = l; from = f; len = n }) (record { lies = l′; from = f′; len = n′ })
+    same e f g = rw (e, f, g)
+
+pub place-from-unique : Place-from-unique
+place-from-unique lies from len r r′ x y = x .answer ∙ sym (y .answer)

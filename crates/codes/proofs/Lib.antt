@@ -1,0 +1,5 @@
+pub mod Codes
+pub mod Errors
+pub mod States
+pub mod Says
+pub mod Claims

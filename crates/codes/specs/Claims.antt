@@ -1,0 +1,90 @@
+-- What is claimed of answers, states and places in numbers, and proved in `proofs/`.
+-- Assumes nothing.
+use Prim.Native.Nat.{ℕ, _%_}
+use mathlib.Core.Path.{_≡_}
+use mathlib.Core.Option.{some}
+use Rattle.reader.specs.declared.Answer.{Answer}
+use Rattle.reader.specs.declared.Reply.{Reply}
+use Rattle.reader.specs.declared.State.{State}
+use Rattle.reader.specs.Told.{told}
+use Rattle.reader.specs.Text.{told-reply}
+use Rattle.entries.specs.declared.Attempt.{Attempt}
+use Rattle.entries.specs.Attempts.{told-attempt}
+use Rattle.chunks.specs.declared.ChunkReply.{ChunkReply}
+use Rattle.chunks.specs.declared.Chunks.{Chunks}
+use Rattle.chunks.specs.declared.Place.{Place}
+use Rattle.chunks.specs.Next.{word-of}
+use Rattle.loader.specs.declared.Loading.{Loading}
+use Rattle.loader.specs.Told.{told as told-loading}
+use Rattle.page.specs.declared.Paged.{Paged}
+use Rattle.page.specs.Told.{told as told-page}
+use Rattle.codes.specs.declared.Coded.{Coded}
+use Rattle.codes.specs.declared.Spot.{Spot}
+use Rattle.codes.specs.Codes.{Message, Coded-as, reading, reading-chunk, writing, loading, LineAt}
+use Rattle.codes.specs.States.{state-of, flags-of, chunks-of, chunk-flags-of, lies-of, from-of, len-of, place-of, StateFrom, FlagsFrom, ChunksFrom, ChunkFlagsFrom, Spot-as, PlaceFrom}
+
+-- ---- no second answer meets a contract
+
+-- an answer of this type has one coding
+abbrev pub One-coding : (A : Type 0) → (A → Message) → Type 0
+One-coding A message-of = (x : A) (r r′ : Coded) → Coded-as (message-of x) r → Coded-as (message-of x) r′ → r ≡ r′
+
+abbrev pub Code-answer-unique : Type 0
+Code-answer-unique = One-coding Answer (λ x. reading (told x))
+
+abbrev pub Code-reply-unique : Type 0
+Code-reply-unique = One-coding Reply (λ x. reading (told-reply x))
+
+abbrev pub Code-chunk-reply-unique : Type 0
+Code-chunk-reply-unique = One-coding ChunkReply (λ x. reading-chunk (word-of x))
+
+abbrev pub Code-attempt-unique : Type 0
+Code-attempt-unique = One-coding Attempt (λ x. writing (told-attempt x))
+
+abbrev pub Code-loading-unique : Type 0
+Code-loading-unique = One-coding Loading (λ x. loading (told-loading x))
+
+abbrev pub Code-paged-unique : Type 0
+Code-paged-unique = One-coding Paged (λ x. writing (some (told-page x)))
+
+abbrev pub Line-at-unique : Type 0
+Line-at-unique = (x : Loading) (r r′ : ℕ) → LineAt (told-loading x) r → LineAt (told-loading x) r′ → r ≡ r′
+
+abbrev pub State-from-unique : Type 0
+State-from-unique = (position line flags : ℕ) (r r′ : State) → StateFrom position line flags r → StateFrom position line flags r′ → r ≡ r′
+
+abbrev pub Flags-from-unique : Type 0
+Flags-from-unique = (s : State) (r r′ : ℕ) → FlagsFrom s r → FlagsFrom s r′ → r ≡ r′
+
+abbrev pub Chunks-from-unique : Type 0
+Chunks-from-unique =
+    (position line empties used skipped flags : ℕ) (r r′ : Chunks)
+    → ChunksFrom position line empties used skipped flags r → ChunksFrom position line empties used skipped flags r′ → r ≡ r′
+
+abbrev pub Chunk-flags-from-unique : Type 0
+Chunk-flags-from-unique = (s : Chunks) (r r′ : ℕ) → ChunkFlagsFrom s r → ChunkFlagsFrom s r′ → r ≡ r′
+
+abbrev pub Spot-of-unique : Type 0
+Spot-of-unique = (p : Place) (r r′ : Spot) → Spot-as p r → Spot-as p r′ → r ≡ r′
+
+abbrev pub Place-from-unique : Type 0
+Place-from-unique = (lies from len : ℕ) (r r′ : Place) → PlaceFrom lies from len r → PlaceFrom lies from len r′ → r ≡ r′
+
+-- ---- a state and a place are what their numbers say: nothing is lost from one call to the next
+
+abbrev pub Text-state-returns : Type 0
+Text-state-returns = (s : State) → state-of (s .position) (s .line) (flags-of s) ≡ s
+
+abbrev pub State-returns : Type 0
+State-returns = (s : Chunks) → chunks-of (s .position) (s .line) (s .empties) (s .used) (s .skipped) (chunk-flags-of s) ≡ s
+
+abbrev pub Place-returns : Type 0
+Place-returns = (p : Place) → place-of (lies-of p) (from-of p) (len-of p) ≡ p
+
+-- of the flags only the first three bits are read, and of those of a reader of chunks the first four
+abbrev pub Three-flags-read : Type 0
+Three-flags-read = (position line flags : ℕ) → state-of position line flags ≡ state-of position line (flags % 8)
+
+abbrev pub Four-flags-read : Type 0
+Four-flags-read =
+    (position line empties used skipped flags : ℕ) → chunks-of position line empties used skipped flags ≡ chunks-of position line empties used skipped (flags % 16)

@@ -1,0 +1,92 @@
+-- Answers in numbers, as C has them.
+-- Assumes nothing.
+use Prim.Native.Nat.{ℕ, _+_}
+use mathlib.Core.Path.{_≡_}
+use mathlib.Core.Option.{Option, none, some}
+use mathlib.Core.List.{List, [], _∷_}
+use lib.ListN.{getD}
+use Rattle.record.specs.Refusals.{Refusal, refusal, pool-full, carry-too-small}
+use Rattle.reader.specs.Told.{Told, gives, refuses, done}
+use Rattle.writer.specs.Told.{Told as Told-written, wrote, refuses as refuses-to-write}
+use Rattle.chunks.specs.Next.{Word, tells, used-up}
+use Rattle.loader.specs.Load.{Verdict, accepted, refused}
+use Rattle.codes.specs.declared.Coded.{Coded}
+
+-- a code, and values
+pub record Message : Type 0 where
+  pub code : ℕ
+  pub values : List ℕ
+
+abbrev pub message : (code : ℕ) (values : List ℕ) → Message
+message code values = record { code = code; values = values }
+
+-- the codes that are not a record's type: IHEX_OK, IHEX_REFUSED, to which the refusal's number is added, and so on
+abbrev pub OK : ℕ
+OK = 0
+
+abbrev pub REFUSED : ℕ
+REFUSED = 256
+
+abbrev pub DONE : ℕ
+DONE = 512
+
+abbrev pub USED-UP : ℕ
+USED-UP = 513
+
+abbrev pub BAD-RECORD : ℕ
+BAD-RECORD = 1024
+
+-- a value from the first on, 0 where there is none
+abbrev pub value : Message → (i : ℕ) → ℕ
+value m i = getD (m .values) i 0
+
+abbrev pub refused-with : Refusal → Message
+refused-with (refusal number values) = message (REFUSED + number) values
+
+-- what is returned for a full pool: IHEX_REFUSED + IHEX_POOL_FULL
+abbrev pub POOL-FULL : ℕ
+POOL-FULL = refused-with pool-full .code
+
+-- and for refusal 18: IHEX_REFUSED + IHEX_CARRY_TOO_SMALL
+abbrev pub CARRY-TOO-SMALL : ℕ
+CARRY-TOO-SMALL = refused-with carry-too-small .code
+
+-- a record's type as it is, and DONE for "done"
+abbrev pub reading : Told → Message
+reading (gives kind numbers) = message kind numbers
+reading (refuses r) = refused-with r
+reading done = message DONE []
+
+-- the same of a text in chunks, and USED-UP for "used up"
+abbrev pub reading-chunk : Word → Message
+reading-chunk (tells t) = reading t
+reading-chunk used-up = message USED-UP []
+
+-- OK and the length, and BAD-RECORD where what is to be written is not a record
+abbrev pub writing : Option Told-written → Message
+writing none = message BAD-RECORD []
+writing (some (wrote place)) = message OK (place ∷ [])
+writing (some (refuses-to-write r)) = refused-with r
+
+-- OK and the number of data records
+abbrev pub loading : Verdict → Message
+loading (accepted tally) = message OK (tally .records ∷ [])
+loading (refused r line) = refused-with r
+
+-- the number of the line that a refusal names, and 0 where it names none
+abbrev pub line-at : Verdict → ℕ
+line-at (accepted tally) = 0
+line-at (refused r line) = line
+
+pub record LineAt (v : Verdict) (r : ℕ) : Type 0 where
+  pub answer : r ≡ line-at v
+
+-- an answer in four numbers
+pub record Numbers (m : Message) (r a b c : ℕ) : Type 0 where
+  pub code-is : r ≡ m .code
+  pub a-is : a ≡ value m 0
+  pub b-is : b ≡ value m 1
+  pub c-is : c ≡ value m 2
+
+abbrev pub Coded-as : Message → Coded → Type 0
+Coded-as m r = Numbers m (r .code) (r .a) (r .b) (r .c)

@@ -1,0 +1,311 @@
+// Answers, states and places in numbers, as C has them.
+use chunks::ChunkReply;
+use chunks::Chunks;
+use chunks::Place;
+use entries::Attempt;
+use loader::LoaderError;
+use loader::Loading;
+use page::PageError;
+use page::Paged;
+use reader::Answer;
+use reader::ReaderError;
+use reader::ReaderOptions;
+use reader::Reply;
+use reader::State;
+use reader::Values;
+use record::Record;
+use record::refusals;
+use writer::WriterError;
+use writer::Written;
+ghost use mathlib.Core.Path.{_≡_};
+ghost use mathlib.Core.Option.{some};
+ghost use Prim.Native.Nat.{_+_};
+ghost use Rattle.reader.specs.Told.{told, refusal-of};
+ghost use Rattle.reader.specs.Text.{told-reply};
+ghost use Rattle.writer.specs.Told.{told as told-written, refusal-of as writer-refusal};
+ghost use Rattle.entries.specs.Attempts.{told-attempt};
+ghost use Rattle.chunks.specs.Next.{word-of};
+ghost use Rattle.loader.specs.Told.{told as told-loading, refusal-by};
+ghost use Rattle.page.specs.Told.{told as told-page, refusal-of as page-refusal};
+ghost use Rattle.codes.specs.Codes.{Coded-as, refused-with, reading, reading-chunk, writing, loading, LineAt};
+ghost use Rattle.codes.specs.States.{Flag, StateFrom, FlagsFrom, ChunksFrom, ChunkFlagsFrom, Spot-as, PlaceFrom};
+
+// The codes that are not the type of a record. A refusal's number is added to REFUSED.
+const OK: u32 = 0;
+
+const REFUSED: u32 = 256;
+
+const DONE: u32 = 512;
+
+const USED_UP: u32 = 513;
+
+const BAD_RECORD: u32 = 1024;
+
+// An answer in numbers: its code, and up to three values, 0 where there is none.
+pub struct Coded {
+    pub code: u32,
+    pub a: u64,
+    pub b: u64,
+    pub c: u64,
+}
+
+fn four(code: u32, a: u64, b: u64, c: u64) -> Coded
+    ensures { λ r. ⌜ r ≡ record { code = code; a = a; b = b; c = c } ⌝ }
+{
+    Coded { code, a, b, c }
+}
+
+// A refusal by its number, and two values.
+fn refused(number: u8, a: u64, b: u64) -> Coded
+    ensures { λ r. ⌜ r ≡ record { code = 256 + number; a = a; b = b; c = 0 } ⌝ }
+{
+    four(REFUSED + (number as u32), a, b, 0)
+}
+
+fn code_record(given: Record) -> Coded
+    ensures { λ r. ⌜ Coded-as (reading (told (Answer.Read given))) r ⌝ }
+{
+    match given {
+        Record::Data { offset, at, len } => four(0, offset as u64, at as u64, len as u64),
+        Record::EndOfFile => four(1, 0, 0, 0),
+        Record::ExtendedSegmentAddress(n) => four(2, n as u64, 0, 0),
+        Record::StartSegmentAddress { cs, ip } => four(3, cs as u64, ip as u64, 0),
+        Record::ExtendedLinearAddress(n) => four(4, n as u64, 0, 0),
+        Record::StartLinearAddress(n) => four(5, n as u64, 0, 0),
+    }
+}
+
+fn code_error(e: ReaderError) -> Coded
+    ensures { λ r. ⌜ Coded-as (refused-with (refusal-of e)) r ⌝ }
+{
+    let figures = e.figures();
+    let number = figures.number;
+    let values = figures.values;
+    match values {
+        Values::Nothing => refused(number, 0, 0),
+        Values::Place(place) => refused(number, place as u64, 0),
+        Values::Byte(byte) => refused(number, byte as u64, 0),
+        Values::Bytes(first, second) => refused(number, first as u64, second as u64),
+    }
+}
+
+pub fn code_answer(answer: Answer) -> Coded
+    ensures { λ r. ⌜ Coded-as (reading (told answer)) r ⌝ }
+{
+    match answer {
+        Answer::Read(r) => code_record(r),
+        Answer::Refused(e) => code_error(e),
+    }
+}
+
+pub fn code_reply(reply: Reply) -> Coded
+    ensures { λ r. ⌜ Coded-as (reading (told-reply reply)) r ⌝ }
+{
+    match reply {
+        Reply::Read(r) => code_record(r),
+        Reply::Refused(e) => code_error(e),
+        Reply::Done => four(DONE, 0, 0, 0),
+    }
+}
+
+pub fn code_chunk_reply(reply: ChunkReply) -> Coded
+    ensures { λ r. ⌜ Coded-as (reading-chunk (word-of reply)) r ⌝ }
+{
+    match reply {
+        ChunkReply::Read(r) => code_record(r),
+        ChunkReply::Refused(e) => code_error(e),
+        ChunkReply::UsedUp => four(USED_UP, 0, 0, 0),
+        ChunkReply::Done => four(DONE, 0, 0, 0),
+        ChunkReply::CarryTooSmall => refused(refusals::CARRY_TOO_SMALL, 0, 0),
+    }
+}
+
+fn code_writer_error(e: WriterError) -> Coded
+    ensures { λ r. ⌜ Coded-as (refused-with (writer-refusal e)) r ⌝ }
+{
+    match e {
+        WriterError::PayloadOutsidePool => refused(refusals::PAYLOAD_OUTSIDE_POOL, 0, 0),
+        WriterError::DataExceedsMaximumLength(n) => refused(
+            refusals::DATA_EXCEEDS_MAXIMUM_LENGTH,
+            n as u64,
+            0,
+        ),
+        WriterError::MissingEndOfFileRecord => refused(refusals::MISSING_END_OF_FILE_RECORD, 0, 0),
+        WriterError::MultipleEndOfFileRecords(n) => refused(
+            refusals::MULTIPLE_END_OF_FILE_RECORDS,
+            n as u64,
+            0,
+        ),
+        WriterError::OutputFull => refused(refusals::OUTPUT_FULL, 0, 0),
+    }
+}
+
+fn code_written(answer: Written) -> Coded
+    ensures { λ r. ⌜ Coded-as (writing (some (told-written answer))) r ⌝ }
+{
+    match answer {
+        Written::Wrote(n) => four(OK, n as u64, 0, 0),
+        Written::Refused(e) => code_writer_error(e),
+    }
+}
+
+// What comes of an attempt to write, in numbers.
+pub fn code_attempt(attempt: Attempt) -> Coded
+    ensures { λ r. ⌜ Coded-as (writing (told-attempt attempt)) r ⌝ }
+{
+    match attempt {
+        Attempt::Made(answer) => code_written(answer),
+        Attempt::BadRecord => four(BAD_RECORD, 0, 0, 0),
+    }
+}
+
+fn code_loader_error(e: LoaderError) -> Coded
+    ensures { λ r. ⌜ Coded-as (refused-with (refusal-by e)) r ⌝ }
+{
+    match e {
+        LoaderError::Line(why) => code_error(why),
+        LoaderError::MissingEndOfFileRecord => refused(refusals::MISSING_END_OF_FILE_RECORD, 0, 0),
+        LoaderError::BadWindow => refused(refusals::BAD_WINDOW, 0, 0),
+        LoaderError::OutsideWindow(address) => refused(refusals::OUTSIDE_WINDOW, address as u64, 0),
+    }
+}
+
+pub fn code_loading(answer: Loading) -> Coded
+    ensures { λ r. ⌜ Coded-as (loading (told-loading answer)) r ⌝ }
+{
+    match answer {
+        Loading::Accepted(records) => four(OK, records as u64, 0, 0),
+        Loading::Refused(e, _) => code_loader_error(e),
+    }
+}
+
+// The number of the line that a refusal names.
+pub fn line_at(answer: Loading) -> usize
+    ensures { λ r. ⌜ LineAt (told-loading answer) r ⌝ }
+{
+    match answer {
+        Loading::Accepted(_) => 0,
+        Loading::Refused(_, line) => line,
+    }
+}
+
+fn code_page_error(e: PageError) -> Coded
+    ensures { λ r. ⌜ Coded-as (refused-with (page-refusal e)) r ⌝ }
+{
+    match e {
+        PageError::BadWindow => refused(refusals::BAD_WINDOW, 0, 0),
+        PageError::BadMark(place) => refused(refusals::BAD_MARK, place as u64, 0),
+        PageError::OutputFull => refused(refusals::OUTPUT_FULL, 0, 0),
+    }
+}
+
+pub fn code_paged(answer: Paged) -> Coded
+    ensures { λ r. ⌜ Coded-as (writing (some (told-page answer))) r ⌝ }
+{
+    match answer {
+        Paged::Wrote(n) => four(OK, n as u64, 0, 0),
+        Paged::Refused(e) => code_page_error(e),
+    }
+}
+
+// The state that stands in numbers: bit 0 of the flags is stop_after_first_error, bit 1 stop_after_eof, bit 2 finished.
+pub fn state_from(position: usize, line: usize, flags: u8) -> State
+    ensures { λ r. ⌜ StateFrom position line flags r ⌝ }
+{
+    State {
+        position,
+        line,
+        finished: flags / 4 % 2 == 1,
+        options: ReaderOptions {
+            stop_after_first_error: flags % 2 == 1,
+            stop_after_eof: flags / 2 % 2 == 1,
+        },
+    }
+}
+
+fn flag(set: bool, value: u8) -> u8
+    ensures { λ r. ⌜ Flag set value r ⌝ }
+{
+    if set {
+        return value;
+    }
+    0
+}
+
+pub fn flags_from(s: State) -> u8
+    ensures { λ r. ⌜ FlagsFrom s r ⌝ }
+{
+    let options = s.options;
+    flag(options.stop_after_first_error, 1)
+        + (flag(options.stop_after_eof, 2) + flag(s.finished, 4))
+}
+
+// The state of a reader of chunks that stands in numbers: bit 3 of the flags is cr.
+pub fn chunks_from(
+    position: usize,
+    line: usize,
+    empties: usize,
+    used: usize,
+    skipped: u16,
+    flags: u8,
+) -> Chunks
+    ensures { λ r. ⌜ ChunksFrom position line empties used skipped flags r ⌝ }
+{
+    let state = state_from(position, line, flags);
+    let options = state.options;
+    Chunks {
+        position,
+        line,
+        empties,
+        used,
+        skipped,
+        cr: flags / 8 % 2 == 1,
+        finished: state.finished,
+        options,
+    }
+}
+
+pub fn chunk_flags_from(s: Chunks) -> u8
+    ensures { λ r. ⌜ ChunkFlagsFrom s r ⌝ }
+{
+    let options = s.options;
+    flag(options.stop_after_first_error, 1)
+        + (flag(options.stop_after_eof, 2) + (flag(s.finished, 4) + flag(s.cr, 8)))
+}
+
+// A place in numbers: 0 for nowhere, 1 for the chunk, 2 for the carry; where it begins there, and how long it is.
+pub struct Spot {
+    pub lies: u8,
+    pub from: usize,
+    pub len: usize,
+}
+
+pub fn spot_of(place: Place) -> Spot
+    ensures { λ r. ⌜ Spot-as place r ⌝ }
+{
+    match place {
+        Place::Nowhere => Spot {
+            lies: 0,
+            from: 0,
+            len: 0,
+        },
+        Place::InChunk { from, len } => Spot { lies: 1, from, len },
+        Place::InCarry { len } => Spot {
+            lies: 2,
+            from: 0,
+            len,
+        },
+    }
+}
+
+pub fn place_from(lies: u8, from: usize, len: usize) -> Place
+    ensures { λ r. ⌜ PlaceFrom lies from len r ⌝ }
+{
+    if lies == 1 {
+        return Place::InChunk { from, len };
+    }
+    if lies == 2 {
+        return Place::InCarry { len };
+    }
+    Place::Nowhere
+}

@@ -1,0 +1,4 @@
+pub mod Listing
+pub mod Ranges
+pub mod Attempts
+pub mod Claims

@@ -1,0 +1,4 @@
+pub mod Entry
+pub mod Helpers
+pub mod Attempts
+pub mod Claims
