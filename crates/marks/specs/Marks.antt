@@ -48,7 +48,7 @@ marked-run marks from (suc len) = marked-run (set marks from 1) (suc from) len
 
 -- ---- the contracts of the searches
 
--- from a place on others are passed, up to the first that is found, or to the number of places; none, if it lies beyond that
+-- from a place on others are passed, up to the first that is found or to the number of places; from beyond that none is passed
 pub record Next (Passed Found : ℕ → Type 0) (places from r : ℕ) : Type 0 where
   pub low : from ≤ r
   pub high : r ≤ max from places
