@@ -28,7 +28,7 @@ use Rattle.reader.specs.Answer.{room, given, answered}
 use Rattle.reader.specs.Text.{told-reply, is-full}
 use Rattle.writer.specs.Told.{Told as Told-written, wrote, refuses as refuses-to-write}
 use Rattle.chunks.specs.Next.{Word, tells, used-up, is-record}
-use Rattle.loader.specs.Load.{Tally, Verdict, accepted, refused}
+use Rattle.steps.specs.Steps.{Tally, Verdict, accepted, refused}
 use Rattle.codes.specs.Codes.{OK, DONE, POOL-FULL, CARRY-TOO-SMALL, value, reading, reading-chunk, writing, loading}
 
 -- ---- of a reader

@@ -9,7 +9,7 @@ use Rattle.record.specs.Refusals.{Refusal, refusal, pool-full, carry-too-small}
 use Rattle.reader.specs.Told.{Told, gives, refuses, done}
 use Rattle.writer.specs.Told.{Told as Told-written, wrote, refuses as refuses-to-write}
 use Rattle.chunks.specs.Next.{Word, tells, used-up}
-use Rattle.loader.specs.Load.{Verdict, accepted, refused}
+use Rattle.steps.specs.Steps.{Verdict, accepted, refused}
 use Rattle.codes.specs.declared.Coded.{Coded}
 
 -- a code, and values

@@ -174,7 +174,7 @@ pub fn code_loading(answer: Loading) -> Coded
     ensures { λ r. ⌜ Coded-as (loading (told-loading answer)) r ⌝ }
 {
     match answer {
-        Loading::Accepted(records) => four(OK, records as u64, 0, 0),
+        Loading::Accepted(tally) => four(OK, tally.records as u64, 0, 0),
         Loading::Refused(e, _) => code_loader_error(e),
     }
 }

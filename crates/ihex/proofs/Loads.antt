@@ -4,7 +4,8 @@ use Prim.Native.Nat.{ℕ}
 use mathlib.Core.Path.{sym, _∙_, ap}
 use mathlib.Core.List.{List}
 use lib.ListN.{getD}
-use Rattle.loader.specs.Load.{Verdict, load}
+use Rattle.steps.specs.Steps.{Verdict}
+use Rattle.loader.specs.Load.{load}
 use Rattle.loader.specs.Claims.{Alike}
 use Rattle.loader.proofs.Demand3.{non-interference, what-is-stored, refusal-changes-nothing}
 use Rattle.loader.proofs.Claims.{reasons}

@@ -12,7 +12,8 @@ use Rattle.record.specs.Noise.{Says-a-record, Answer-to-wrong}
 use Rattle.record.proofs.Noise.{one-wrong-character, answer-by}
 use Rattle.record.proofs.Standing.{Stands, stands, fault-few}
 use Rattle.reader.specs.Answer.{answered, poured}
-use Rattle.loader.specs.Load.{Verdict, load}
+use Rattle.steps.specs.Steps.{Verdict}
+use Rattle.loader.specs.Load.{load}
 use Rattle.loader.specs.Noise.{Refused-or-same, is-refused, is-the-same}
 use Rattle.loader.proofs.Noise.{load-noticed}
 use Rattle.codes.specs.Codes.{OK, POOL-FULL, value, reading, loading, line-at}

@@ -16,7 +16,8 @@ use Rattle.record.specs.Refusals.{output-full}
 use Rattle.record.proofs.Tests.{branch}
 use Rattle.writer.specs.Told.{Told, wrote, refuses}
 use Rattle.writer.specs.Text.{Text, chars, refused, place-behind, if-room}
-use Rattle.loader.specs.Load.{Verdict, load}
+use Rattle.steps.specs.Steps.{Verdict}
+use Rattle.loader.specs.Load.{load}
 use Rattle.page.specs.declared.PageError.the-variants.{BadWindow, BadMark, OutputFull}
 use Rattle.page.specs.declared.Paged.{Paged}
 use Rattle.page.specs.declared.Paged.the-variants.{Wrote, Refused}

@@ -12,7 +12,7 @@ use Rattle.reader.specs.declared.State.{State}
 use Rattle.chunks.specs.declared.Chunks.{Chunks}
 use Rattle.chunks.specs.declared.Place.{Place}
 use Rattle.chunks.specs.Next.{Outcome, next-outcome, finish-outcome}
-use Rattle.loader.specs.Load.{accepted}
+use Rattle.steps.specs.Steps.{accepted}
 use Rattle.page.specs.Pieces.{pieces}
 use Rattle.page.specs.Claims.{Restores}
 use Rattle.ihex.specs.Entries.{IhexReadRecord, IhexNext, Chunk-read, IhexShown, IhexToRecordString, IhexCreateObjectFileRepresentation, IhexLoad, IhexPageFileLength, IhexWritePage}

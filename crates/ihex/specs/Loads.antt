@@ -7,8 +7,10 @@ use mathlib.Core.Option.{some}
 use mathlib.Core.List.{List}
 use lib.ListN.{length, getD}
 use Rattle.reader.specs.Lines.{through}
-use Rattle.loader.specs.Load.{Verdict, by, stopping, placements}
-use Rattle.loader.specs.Claims.{Place, Why}
+use Rattle.steps.specs.Steps.{Verdict, by}
+use Rattle.loader.specs.Load.{stopping, placements}
+use Rattle.steps.specs.Sites.{Place}
+use Rattle.loader.specs.Claims.{Why}
 use Rattle.codes.specs.Codes.{OK, value, loading, line-at}
 use Rattle.ihex.specs.Entries.{IhexLoad}
 

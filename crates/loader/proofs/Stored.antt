@@ -16,7 +16,7 @@ use Rattle.record.specs.Meaning.{Meaning, data-at, end-of-file, extended-segmen
 use Rattle.record.proofs.Standing.{Stands, stands, fault-few}
 use Rattle.reader.specs.Lines.{lines}
 use Rattle.steps.specs.Steps.{Placement, Tally, Verdict, accepted, refused, verdict}
-use Rattle.steps.specs.Sites.{last-at, mark, byte-at, mark-at}
+use Rattle.steps.specs.Sites.{last-at, mark, byte-shown, mark-shown}
 use Rattle.steps.proofs.Places.{painted-at, marked-at}
 use Rattle.window.specs.Window.{within, window}
 use Rattle.window.proofs.Storing.{shows}
@@ -67,7 +67,7 @@ end-stops inside ahead l n v k (no-record r b e) q = cc
 end-stops inside ahead l n v k (first-outside before after p e i o) q = cc
 
 pub stored-by-intel : Stored-by-Intel
-unfolding byte-at mark-at
+unfolding byte-shown mark-shown
 stored-by-intel text first page marks k e = go (load text first page marks .answer) (reasons text first page marks) e
   where
     v : verdict (stopping text first page marks) ≡ accepted k

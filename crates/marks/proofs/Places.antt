@@ -8,7 +8,7 @@ use native.Mathlib.Omega.{arith}
 use native.Mathlib.Decide.{decLe}
 use lib.ListN.{length, getD, List·getD-eq-default}
 use borrow.Author.Tests.{le-leb, lt-leb}
-use Rattle.marks.specs.Marks.{mark-at, Unmarked, first-bad, NextMarked, NextUnmarked}
+use Rattle.marks.specs.Marks.{mark-at, Marked, Unmarked, first-bad, NextMarked, NextUnmarked}
 
 -- one order or the other
 pub split {ℓ} : {X : Type ℓ} (a b : ℕ) → (a ≤ b → X) → (b < a → X) → X
@@ -22,6 +22,10 @@ one-more P from i h p j l k = split i j (λ u. subst P (omega arith) p) (λ u. h
 pub outside : (marks : List ℕ) (p : ℕ) → length marks ≤ p → Unmarked marks p
 unfolding mark-at
 outside marks p h e = let z : _≡_ {A = ℕ} 0 1 = sym (List·getD-eq-default marks 0 {n = p} h) ∙ e in omega arith
+
+-- so a marked place lies in the row
+pub marked-inside : (marks : List ℕ) (p : ℕ) → Marked marks p → p < length marks
+marked-inside marks p m = split (length marks) p (λ h. absurd (outside marks p h m)) (λ h. h)
 
 -- the marks up to a place are good, and there they end or the next is not
 pub first-bad-is : (marks : List ℕ) (r : ℕ) → r ≤ length marks → ((i : ℕ) → i < r → getD marks i 0 ≤ 1) → (r ≡ length marks) ⊎ (1 < getD marks r 0)

@@ -25,7 +25,7 @@ use Rattle.writer.specs.Survey.{SurveyAnswer, SurveyBegin, most}
 use Rattle.writer.specs.Claims.{Steps}
 use Rattle.writer.proofs.Surveying.{survey-answers}
 use Rattle.writer.proofs.Stepping.{object-written}
-use Rattle.loader.specs.Load.{unfit}
+use Rattle.window.specs.Window.{unfit}
 use Rattle.page.specs.declared.PageError.{PageError}
 use Rattle.page.specs.declared.Paged.{Paged}
 use Rattle.page.specs.declared.Paged.the-variants.{Refused}

@@ -22,7 +22,10 @@ use Rattle.writer.specs.Told.{wrote}
 use Rattle.writer.specs.Text.{chars, refused, place-behind}
 use Rattle.writer.specs.Line.{ended-line}
 use Rattle.writer.specs.Object.{joined-lines}
-use Rattle.loader.specs.Load.{Verdict, accepted, unfit, Loaded, load}
+use Rattle.steps.specs.Steps.{Verdict, accepted}
+use Rattle.window.specs.Window.{unfit}
+use Rattle.steps.specs.Sites.{Loaded}
+use Rattle.loader.specs.Load.{load}
 use Rattle.loader.specs.Told.{told}
 use Rattle.page.specs.declared.Paged.the-variants.{Wrote}
 use Rattle.page.specs.Pieces.{Piece, pieces}

@@ -21,10 +21,9 @@ use Rattle.writer.specs.declared.Written.the-variants.{Wrote as WriterWrote}
 use Rattle.writer.specs.Told.{Told, wrote, refuses}
 use Rattle.writer.specs.Text.{Text, chars, refused, place-behind, if-room, put-at, Writes}
 use Rattle.writer.proofs.Answers as writer
-use Rattle.loader.specs.Load.{unfit}
-use Rattle.loader.specs.Claims.{Window}
-use Rattle.loader.proofs.Demand3.{good-window}
-use Rattle.loader.proofs.Claims as loader
+use Rattle.window.specs.Window.{unfit}
+use Rattle.window.specs.Claims.{Window}
+use Rattle.window.proofs.Tests.{good-window, no-window as is-no-window}
 use Rattle.page.specs.declared.PageError.{PageError}
 use Rattle.page.specs.declared.PageError.the-variants.{BadWindow, BadMark, OutputFull}
 use Rattle.page.specs.declared.Paged.{Paged}
@@ -43,7 +42,7 @@ module _ (first : ℕ) (page marks : List ℕ) where
   unfolding page-text
   text-cases P unfitting ill good =
       branch P (unfit first (length page) (length marks)) _ _
-      (λ u. unfitting (loader.no-window first page marks u))
+      (λ u. unfitting (is-no-window first page marks u))
       (λ u. branch P (ltb (first-bad marks) (length marks)) _ _
       (λ b. ill (good-window first page marks u) (bad-found marks (ltb-true (first-bad marks) (length marks) b)))
       (λ b. good (record { window = good-window first page marks u; marks-good = none-bad marks (ltb-false (first-bad marks) (length marks) b) })))

@@ -25,7 +25,7 @@ use Rattle.writer.specs.Line.{line-refusal, line}
 use Rattle.writer.specs.Object.{ends, ends-in-end, joined-lines}
 use Rattle.writer.specs.Claims.{In-range}
 use Rattle.writer.proofs.Objects.{whole-object}
-use Rattle.loader.specs.Claims.{Window}
+use Rattle.window.specs.Claims.{Window}
 use Rattle.page.specs.Pieces.{Piece, pieces}
 use Rattle.page.specs.File.{upper, data-of, is-latest, records, page-records, file}
 use Rattle.page.specs.Claims.{File-is-object, File-lines, Lines-canonical, Equal-files}

@@ -10,7 +10,8 @@ use lib.ListN.{length, getD}
 use borrow.Author.Tests.{eqb-true}
 use Rattle.record.specs.Common.{Every}
 use Rattle.record.proofs.Tests.{branch}
-use Rattle.loader.proofs.Pages.{marked-inside}
+use Rattle.marks.specs.Marks.{mark-at}
+use Rattle.marks.proofs.Places.{marked-inside}
 use Rattle.page.specs.Pieces.{Piece, is-marked, pieces}
 use Rattle.page.specs.Shape.{places, held, marked-places, Sized}
 use Rattle.page.proofs.Shape.{made-so}
@@ -41,7 +42,7 @@ pub record Good (first : ℕ) (marks : List ℕ) (p : Piece) : Type 0 where
   pub all-marked : (i : ℕ) → i < p .size → getD marks (p .place + i) 0 ≡ 1
 
 good : (first : ℕ) (marks : List ℕ) (ps : List Piece) → Every (Sized first) ps → Every (λ i. getD marks i 0 ≡ 1) (held ps) → Every (Good first marks) ps
-unfolding held
+unfolding held mark-at
 good first marks [] s h = tt
 good first marks (p ∷ ps) (s, ss) h =
     let (m, hs) = every-part (λ i. getD marks i 0 ≡ 1) (p .place) (p .size) (held ps) h in

@@ -14,6 +14,7 @@ use lib.Seq.{drop-cons, ext-getD}
 use borrow.Author.Tests.{eq-eqb, ne-eqb, le-leb, lt-ltb}
 use Rattle.marks.specs.Marks.{row-length, mark-at, Marked, flags}
 use Rattle.marks.specs.Claims.{Mark, All-good}
+use Rattle.marks.proofs.Places.{marked-inside}
 use Rattle.marks.proofs.Flags.{flags-length, whole-row}
 use Rattle.record.specs.Common.{if_then_else_, Every}
 use Rattle.record.specs.declared.Record.{Record}
@@ -25,12 +26,18 @@ use Rattle.record.proofs.Tests.{split}
 use Rattle.record.proofs.Choices.{or-else-none}
 use Rattle.record.proofs.Writing.{reads-back}
 use Rattle.reader.specs.Row.{Numbered, on}
-use Rattle.loader.specs.Placing.{Placement, Base, linear, from-start, byte-address, placed, base-behind, step-at, steps, stated}
-use Rattle.loader.specs.Load.{Tally, accepted, by, within, outside, decision, verdict, unfit, last-at, mark, painted, marked, Loaded, placements, stopping, load}
-use Rattle.loader.specs.Claims.{Window}
-use Rattle.loader.proofs.Pages.{painted-at, marked-at, length-painted, length-marked, marked-inside}
-use Rattle.loader.proofs.Demand3.{accepted-load}
-use Rattle.loader.proofs.Claims.{unfit-is-no-window}
+use Rattle.steps.specs.Steps.{Placement, Tally, nothing-yet, accepted, by, outside, turn, decision, verdict, stated}
+use Rattle.loader.specs.Placing.{Base, linear, from-start, byte-address, placed, base-behind, does, act, base-after, along}
+use Rattle.loader.specs.Helpers.{left, does-on}
+use Rattle.window.specs.Window.{within, window, unfit}
+use Rattle.steps.specs.Sites.{Site, last-at, mark, byte-shown, mark-shown, painted, marked, stopping-by, Loaded}
+use Rattle.loader.specs.Load.{steps-of, placements, stopping, load}
+use Rattle.window.specs.Claims.{Window}
+use Rattle.steps.proofs.Places.{painted-at, marked-at, length-painted, length-marked}
+use Rattle.loader.proofs.Rows.{cut-text}
+use Rattle.loader.proofs.Demand3.{fit-stopping, accepted-load}
+use Rattle.window.proofs.Claims.{unfit-is-no-window}
+use Rattle.window.proofs.Storing.{shows}
 use Rattle.page.specs.Pieces.{Piece, is-marked, pieces}
 use Rattle.page.specs.File.{upper, data-of, is-latest, records, page-records, file}
 use Rattle.page.specs.Shape.{places, held, marked-places}
@@ -46,9 +53,9 @@ use Rattle.page.proofs.Files.{in-range, all-sayable, file-is-object}
 
 -- the steps at the line of a record that a line can hold
 steps-said : (n : ℕ) (base : Base) (m : Meaning) (rest : List Numbered) → Sayable m
-    → steps base (on n (said-of m) ∷ rest) ≡ step-at n base m ++ steps (base-behind base m) rest
-unfolding steps
-steps-said n base m rest h = ap (λ (x : Meaning). step-at n base x ++ steps (base-behind base x) rest) (reads-back m h .means)
+    → left base (on n (said-of m) ∷ rest) ≡ does-on n base m ++ left (base-behind base m) rest
+unfolding along act base-after
+steps-said n base m rest h = ap (λ (x : Meaning). does-on n base x ++ left (base-behind base x) rest) (reads-back m h .means)
 
 -- the byte of a place of the page, at its address
 abbrev placement : (first : ℕ) (page : List ℕ) → ℕ → Placement
@@ -79,14 +86,14 @@ module _ (first : ℕ) (page : List ℕ) (below : first + length page ≤ 2 ^ 32
   -- from a base and a count, a row is accepted with k data records more, and states these places
   record Comes-to (base : Base) (count k : ℕ) (rest : List Numbered) (stated-places : List ℕ) : Type 0 where
     line : ℕ
-    decides : decision (within first (length page)) (tally count) (steps base rest) ≡ some (by line (accepted (tally (count + k))))
-    states : stated (steps base rest) ≡ map (placement first page) stated-places
+    decides : decision (within first (length page)) (tally count) (left base rest) ≡ some (by line (accepted (tally (count + k))))
+    states : stated (left base rest) ≡ map (placement first page) stated-places
 
   module _ (marks : List ℕ) (even : length page ≡ length marks) where
     comes-data : (n count k : ℕ) (p : Piece) (rest : List Numbered) (later : List ℕ) → Good first marks p → Sayable (meant (data-of first p) page)
         → Comes-to (linear (upper first p)) (suc count) k rest later
         → Comes-to (linear (upper first p)) count (suc k) (on n (said-of (meant (data-of first p) page)) ∷ rest) (places (p .place) (p .size) ++ later)
-    unfolding decision stated step-at base-behind
+    unfolding decision turn stated does base-behind
     comes-data n count k p rest later g s c =
         let said = steps-said n (linear (upper first p)) (meant (data-of first p) page) rest s in
         let h : p .place + p .size ≤ length page = omega (arith, g .inside) in
@@ -100,7 +107,7 @@ module _ (first : ℕ) (page : List ℕ) (below : first + length page ≤ 2 ^ 32
 
     comes-upper : (n u count k : ℕ) (base : Base) (rest : List Numbered) (later : List ℕ) → Sayable (extended-linear u)
         → Comes-to (linear u) count k rest later → Comes-to base count k (on n (said-of (extended-linear u)) ∷ rest) later
-    unfolding step-at base-behind
+    unfolding does base-behind
     comes-upper n u count k base rest later s c =
         let said = steps-said n base (extended-linear u) rest s in
         record { line = c .line; decides = rw said (c .decides); states = rw said (c .states) }
@@ -109,7 +116,7 @@ module _ (first : ℕ) (page : List ℕ) (below : first + length page ≤ 2 ^ 32
     comes : (n count : ℕ) (base : Base) (latest : Option ℕ) (ps : List Piece) → Every (Good first marks) ps
         → Every (λ r. Sayable (meant r page)) (records first latest ps) → ((u : ℕ) → latest ≡ some u → base ≡ linear u)
         → Comes-to base count (length ps) (spoken n (records first latest ps) page) (held ps)
-    unfolding records spoken held decision stated steps
+    unfolding records spoken held decision turn stated along act does
     comes n count base latest [] g s b = record { line = n; decides = rw (add-zero count); states = refl }
     comes n count base latest (p ∷ ps) (g, gs) s b =
         go (is-latest latest (upper first p)) refl s
@@ -174,33 +181,38 @@ mark-seen page m i (inl e) = rw e
 mark-seen page m i (inr e) = rw e
 
 module _ (first : ℕ) (page marks old-page old-marks : List ℕ) (even : length page ≡ length marks) (lp : length old-page ≡ length page) (lm : length old-marks ≡ length marks) where
+  abbrev site : Site
+  site = window first (length old-page)
+
   abbrev there : List Placement
   there = map (placement first page) (marked-places 0 marks)
 
   last-there : (i : ℕ) → i < length marks → last-at (first + i) there ≡ seen page (getD marks i 0) i
   last-there i h = rw (zero-add i) at (last-marked first page 0 i marks h)
 
-  byte-there : (i : ℕ) → i < length marks → getD (painted first there old-page) i 0 ≡ Option·getD (seen page (getD marks i 0) i) (getD old-page i 0)
+  byte-there : (i : ℕ) → i < length marks → getD (painted site 0 there old-page) i 0 ≡ Option·getD (seen page (getD marks i 0) i) (getD old-page i 0)
+  unfolding byte-shown
   byte-there i h =
-      painted-at first there old-page i (omega arith) ∙ ap (λ (o : Option ℕ). Option·getD o (getD old-page i 0)) (last-there i h)
+      painted-at site there old-page i (omega arith)
+      ∙ rw (shows first (length old-page) i (omega arith)) (ap (λ (o : Option ℕ). Option·getD o (getD old-page i 0)) (last-there i h))
 
-  marks-again : All-good marks → marked first there old-marks ≡ marks
-  unfolding mark-at
+  marks-again : All-good marks → marked site 0 there old-marks ≡ marks
+  unfolding mark-at mark-shown
   marks-again g =
-      let l = length-marked first there old-marks in
-      ext-getD 0 (marked first there old-marks) marks (l ∙ lm)
-      (λ i k. marked-at first there old-marks i (omega arith) ∙ ap mark (last-there i (omega arith)) ∙ mark-seen page (getD marks i 0) i (g i))
+      let l = length-marked site there 0 old-marks in
+      ext-getD 0 (marked site 0 there old-marks) marks (l ∙ lm)
+      (λ i k. marked-at site there old-marks i (omega arith) ∙ rw (shows first (length old-page) i (omega arith)) (ap mark (last-there i (omega arith))) ∙ mark-seen page (getD marks i 0) i (g i))
 
-  bytes-again : (i : ℕ) → Marked marks i → getD (painted first there old-page) i 0 ≡ getD page i 0
+  bytes-again : (i : ℕ) → Marked marks i → getD (painted site 0 there old-page) i 0 ≡ getD page i 0
   unfolding seen mark-at
   bytes-again i m = byte-there i (marked-inside marks i m) ∙ rw m
 
-  others-again : (i : ℕ) → mark-at marks i ≡ 0 → getD (painted first there old-page) i 0 ≡ getD old-page i 0
+  others-again : (i : ℕ) → mark-at marks i ≡ 0 → getD (painted site 0 there old-page) i 0 ≡ getD old-page i 0
   unfolding seen mark-at
   others-again i m =
       split (length marks) i
-      (λ h. let l = length-painted first there old-page in
-      List·getD-eq-default (painted first there old-page) 0 (omega arith) ∙ sym (List·getD-eq-default old-page 0 (omega arith)))
+      (λ h. let l = length-painted site there 0 old-page in
+      List·getD-eq-default (painted site 0 there old-page) 0 (omega arith) ∙ sym (List·getD-eq-default old-page 0 (omega arith)))
       (λ h. byte-there i h ∙ rw m)
 
   -- a text that is accepted with k data records and states the marked places
@@ -214,18 +226,20 @@ module _ (first : ℕ) (page marks old-page old-marks : List ℕ) (even : length
 -- ---- the claims
 
 pub loads-back : Loads-back
-unfolding placements stopping verdict page-records row-length
+unfolding placements stopping steps-of stopping-by verdict page-records row-length
 loads-back first page marks old-page old-marks P b lp lm =
     let w = P .window in
     let shown : List ℕ = flags (length page) marks in
     let ps : List Piece = pieces first 0 none shown in
     let said = same-row (page-records first shown) page (file first page marks) (in-range first page marks w) b (file-is-object first page marks w) in
     let c = comes first page (w .below) shown (sym (flags-length (length page) marks)) 1 0 from-start none ps (all-good first shown) (all-sayable first page marks w b) (λ u e. cc) in
+    let cut = cut-text (λ base. base) (file first page marks) in
     let old : Window first old-page old-marks = record { even = lp ∙ w .even ∙ sym lm; small = omega (arith, w .small); below = omega (arith, w .below) } in
     let fit : unfit first (length old-page) (length old-marks) ≡ false = unfit-is-no-window first old-page old-marks (unfit first (length old-page) (length old-marks)) (record { answer = refl }) .1 old in
     restores first page marks old-page old-marks (w .even) lp lm (file first page marks) (length ps) (P .marks-good)
-    (rw (fit, lp, said, c .decides) (ap (λ (k : ℕ). accepted (tally k)) (zero-add (length ps))))
-    (rw said (c .states ∙ ap (map (placement first page)) (made-so first shown .holds ∙ ap (marked-places 0) (whole-row (length page) marks (sym (w .even))))))
+    (ap verdict (fit-stopping first old-page old-marks (steps-of (file first page marks)) fit ∙ sym (cut .0 (within first (length old-page)) nothing-yet))
+    ∙ rw (lp, said, c .decides) (ap (λ (k : ℕ). accepted (tally k)) (zero-add (length ps))))
+    (sym (cut .1) ∙ rw said (c .states ∙ ap (map (placement first page)) (made-so first shown .holds ∙ ap (marked-places 0) (whole-row (length page) marks (sym (w .even))))))
 
 pub files-tell : Files-tell
 files-tell first page₁ marks₁ page₂ marks₂ P₁ P₂ b₁ b₂ l e =

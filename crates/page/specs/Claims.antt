@@ -19,9 +19,11 @@ use Rattle.writer.specs.Text.{chars, refused}
 use Rattle.writer.specs.Line.{line}
 use Rattle.writer.specs.Object.{object}
 use Rattle.loader.specs.declared.Loading.{Loading}
-use Rattle.loader.specs.Load.{accepted, Loaded, load}
+use Rattle.steps.specs.Steps.{accepted}
+use Rattle.steps.specs.Sites.{Loaded}
+use Rattle.loader.specs.Load.{load}
 use Rattle.loader.specs.Told.{Load, told as told-loading}
-use Rattle.loader.specs.Claims.{Window}
+use Rattle.window.specs.Claims.{Window}
 use Rattle.page.specs.declared.PageError.{PageError}
 use Rattle.page.specs.declared.PageError.the-variants.{OutputFull}
 use Rattle.page.specs.declared.Paged.{Paged}

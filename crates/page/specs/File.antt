@@ -13,7 +13,7 @@ use Rattle.record.specs.declared.Record.the-variants.{Data, EndOfFile, Extended
 use Rattle.marks.specs.Marks.{flags, first-bad}
 use Rattle.writer.specs.Text.{Text, chars, refused}
 use Rattle.writer.specs.Object.{joined-lines}
-use Rattle.loader.specs.Load.{unfit}
+use Rattle.window.specs.Window.{unfit}
 use Rattle.page.specs.Pieces.{Piece, pieces}
 
 -- ---- the records

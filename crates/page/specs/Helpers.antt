@@ -18,7 +18,7 @@ use Rattle.writer.specs.Told.{refuses}
 use Rattle.writer.specs.Told as writer
 use Rattle.writer.specs.Text.{refused, chars}
 use Rattle.writer.specs.Claims.{Surveys}
-use Rattle.loader.specs.Claims.{Window}
+use Rattle.window.specs.Claims.{Window}
 use Rattle.page.specs.declared.Walk.{Walk}
 use Rattle.page.specs.declared.Step.{Step}
 use Rattle.page.specs.declared.Surveyed.{Surveyed}

@@ -570,9 +570,9 @@ fn say_loader_error(e: LoaderError) {
 
 fn say_loading(l: Loading) {
     match l {
-        Loading::Accepted(n) => {
+        Loading::Accepted(tally) => {
             say(b"A");
-            say_field(n as u64, 1);
+            say_field(tally.records as u64, 1);
         }
         Loading::Refused(e, line) => {
             say_loader_error(e);

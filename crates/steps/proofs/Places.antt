@@ -15,7 +15,7 @@ use borrow.Author.Tests.{eqb-true, eqb-false, eq-eqb}
 use Rattle.record.specs.Common.{if_then_else_, or-else}
 use Rattle.record.proofs.Choices.{or-else-none, or-else-assoc, getD-or-else}
 use Rattle.steps.specs.Steps.{Placement}
-use Rattle.steps.specs.Sites.{Site, last-at, mark, byte-at, mark-at, painted, marked, Last-stated, Place, Owed}
+use Rattle.steps.specs.Sites.{Site, last-at, mark, byte-shown, mark-shown, painted, marked, Last-stated, Place, Owed}
 
 -- ---- place by place
 
@@ -33,23 +33,23 @@ module _ (site : Site) (ps : List Placement) where
   step-on : (a i : ℕ) → suc a + i ≡ a + suc i
   step-on a i = omega arith
 
-  painted-from : (k : ℕ) (page : List ℕ) (i : ℕ) → i < length page → getD (painted site k ps page) i 0 ≡ byte-at (site (k + i)) ps (getD page i 0)
+  painted-from : (k : ℕ) (page : List ℕ) (i : ℕ) → i < length page → getD (painted site k ps page) i 0 ≡ byte-shown (site (k + i)) ps (getD page i 0)
   unfolding painted
   painted-from k [] i h = absurd (not-suc-le-zero h)
   painted-from k (old ∷ page) zero h = rw add-zero
   painted-from k (old ∷ page) (suc i) h = rw (← step-on k i) (painted-from (suc k) page i (le-of-suc-le-suc h))
 
-  marked-from : (k : ℕ) (marks : List ℕ) (i : ℕ) → i < length marks → getD (marked site k ps marks) i 0 ≡ mark-at (site (k + i)) ps (getD marks i 0)
+  marked-from : (k : ℕ) (marks : List ℕ) (i : ℕ) → i < length marks → getD (marked site k ps marks) i 0 ≡ mark-shown (site (k + i)) ps (getD marks i 0)
   unfolding marked
   marked-from k [] i h = absurd (not-suc-le-zero h)
   marked-from k (old ∷ marks) zero h = rw add-zero
   marked-from k (old ∷ marks) (suc i) h = rw (← step-on k i) (marked-from (suc k) marks i (le-of-suc-le-suc h))
 
   -- the byte and the mark of place i
-  pub painted-at : (page : List ℕ) (i : ℕ) → i < length page → getD (painted site 0 ps page) i 0 ≡ byte-at (site i) ps (getD page i 0)
+  pub painted-at : (page : List ℕ) (i : ℕ) → i < length page → getD (painted site 0 ps page) i 0 ≡ byte-shown (site i) ps (getD page i 0)
   painted-at page i h = rw (zero-add i) at (painted-from 0 page i h)
 
-  pub marked-at : (marks : List ℕ) (i : ℕ) → i < length marks → getD (marked site 0 ps marks) i 0 ≡ mark-at (site i) ps (getD marks i 0)
+  pub marked-at : (marks : List ℕ) (i : ℕ) → i < length marks → getD (marked site 0 ps marks) i 0 ≡ mark-shown (site i) ps (getD marks i 0)
   marked-at marks i h = rw (zero-add i) at (marked-from 0 marks i h)
 
 -- ---- the last placement
@@ -107,8 +107,8 @@ place ps a old (some b) f =
       unmarked-keeps = λ e. absurd (omega arith);
     }
 
-pub owed : (shows : Option ℕ) (ps : List Placement) (old old-mark : ℕ) → Owed shows ps old old-mark (mark-at shows ps old-mark) (byte-at shows ps old)
-unfolding mark-at byte-at
+pub owed : (shows : Option ℕ) (ps : List Placement) (old old-mark : ℕ) → Owed shows ps old old-mark (mark-shown shows ps old-mark) (byte-shown shows ps old)
+unfolding mark-shown byte-shown
 owed none ps old old-mark = (refl, refl)
 owed (some a) ps old old-mark = place ps a old (last-at a ps) (found a ps)
 
@@ -137,15 +137,15 @@ place-is ps a old m b k = go (last-at a ps) refl (found a ps) (k .one-or-zero)
         absurd (omega arith)
 
 pub owed-is : (shows : Option ℕ) (ps : List Placement) (old old-mark m b : ℕ) → Owed shows ps old old-mark m b
-    → (m ≡ mark-at shows ps old-mark) × (b ≡ byte-at shows ps old)
-unfolding mark-at byte-at
+    → (m ≡ mark-shown shows ps old-mark) × (b ≡ byte-shown shows ps old)
+unfolding mark-shown byte-shown
 owed-is none ps old old-mark m b k = k
 owed-is (some a) ps old old-mark m b k = place-is ps a old m b k
 
 -- ---- placements after placements
 
-pub byte-append : (shows : Option ℕ) (ps qs : List Placement) (old : ℕ) → byte-at shows (ps ++ qs) old ≡ byte-at shows qs (byte-at shows ps old)
-unfolding byte-at
+pub byte-append : (shows : Option ℕ) (ps qs : List Placement) (old : ℕ) → byte-shown shows (ps ++ qs) old ≡ byte-shown shows qs (byte-shown shows ps old)
+unfolding byte-shown
 byte-append none ps qs old = refl
 byte-append (some a) ps qs old = ap (λ (o : Option ℕ). Option·getD o old) (last-append a ps qs) ∙ getD-or-else (last-at a qs) (last-at a ps) old
 
@@ -155,8 +155,8 @@ painted-append site i ps qs [] = refl
 painted-append site i ps qs (old ∷ page) =
     ap₂ (λ (x : ℕ) (l : List ℕ). x ∷ l) (byte-append (site i) ps qs old) (painted-append site (suc i) ps qs page)
 
-pub byte-none : (shows : Option ℕ) (old : ℕ) → byte-at shows [] old ≡ old
-unfolding byte-at last-at
+pub byte-none : (shows : Option ℕ) (old : ℕ) → byte-shown shows [] old ≡ old
+unfolding byte-shown last-at
 byte-none none old = refl
 byte-none (some a) old = refl
 

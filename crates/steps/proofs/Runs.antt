@@ -12,7 +12,7 @@ use lib.ListN.{length, getD, replicate}
 use borrow.Author.Tests.{eq-eqb, ne-eqb}
 use Rattle.record.specs.Common.{if_then_else_, or-else}
 use Rattle.steps.specs.Steps.{Placement, outside}
-use Rattle.steps.specs.Sites.{Site, last-at, mark, byte-at, mark-at, painted, marked}
+use Rattle.steps.specs.Sites.{Site, last-at, mark, byte-shown, mark-shown, painted, marked}
 use Rattle.steps.specs.Runs.{run, as-mark, clear-at, cleared, Marks-by-ones}
 
 -- ---- what a run states
@@ -92,8 +92,8 @@ last-one a (p ∷ ps) = rw (last-one a ps) (go (last-at a ps) (eqb (p .address) 
     go none true = refl
     go none false = refl
 
-mark-is : (shows : Option ℕ) (ps : List Placement) (old : ℕ) → mark-at shows ps old ≡ byte-at shows (map as-mark ps) (clear-at shows old)
-unfolding mark-at byte-at mark
+mark-is : (shows : Option ℕ) (ps : List Placement) (old : ℕ) → mark-shown shows ps old ≡ byte-shown shows (map as-mark ps) (clear-at shows old)
+unfolding mark-shown byte-shown mark
 mark-is none ps old = refl
 mark-is (some a) ps old = rw (last-one a ps) (go (last-at a ps))
   where

@@ -13,7 +13,7 @@ use Rattle.record.specs.Refusals.{Refusal, missing-end-of-file-record}
 use Rattle.reader.specs.Lines.{through}
 use Rattle.steps.specs.Steps.{Placement, Action, places, finishes, fails, Step, step, Tally, nothing-yet, Verdict, accepted, refused, Decision, by, outside, Turn, on, stop, turn, at-data, onward, decision, verdict, stated}
 use Rattle.steps.specs.Source.{Source, steps-of}
-use Rattle.steps.specs.Sites.{Site, last-at, mark, byte-at, mark-at, painted, marked, store, Room, stopping-by, stopping-in, load, Shown, Alike, Non-interference, What-is-stored, Owed-unique, All-inside, Refusal-changes-nothing, Sizes-kept}
+use Rattle.steps.specs.Sites.{Site, last-at, mark, byte-shown, mark-shown, painted, marked, store, Room, stopping-by, stopping-in, load, Shown, Alike, Non-interference, What-is-stored, Owed-unique, All-inside, Refusal-changes-nothing, Sizes-kept}
 use Rattle.steps.proofs.Source.{nothing-after-the-LF, accepts-at-end}
 use Rattle.steps.proofs.Places.{length-painted, length-marked, painted-at, marked-at, owed, owed-is}
 
@@ -136,12 +136,12 @@ all-inside S src room text page marks k e =
 -- where an address is shown, the old mark does not matter
 shown-mark : (site : Site) (ps : List Placement) (m₁ m₂ : List ℕ) → length m₁ ≡ length m₂ → (i : ℕ) → i < length m₁ → Shown site i
     → getD (marked site 0 ps m₁) i 0 ≡ getD (marked site 0 ps m₂) i 0
-unfolding mark-at
+unfolding mark-shown
 shown-mark site ps m₁ m₂ lm i h (a, e) = rw (marked-at site ps m₁ i h, marked-at site ps m₂ i (omega arith), e)
 
 -- where it is marked, the old byte does not matter
-marked-byte : (shows : Option ℕ) (a : ℕ) (ps : List Placement) (x y o : ℕ) → shows ≡ some a → mark-at shows ps o ≡ 1 → byte-at shows ps x ≡ byte-at shows ps y
-unfolding byte-at mark-at mark
+marked-byte : (shows : Option ℕ) (a : ℕ) (ps : List Placement) (x y o : ℕ) → shows ≡ some a → mark-shown shows ps o ≡ 1 → byte-shown shows ps x ≡ byte-shown shows ps y
+unfolding byte-shown mark-shown mark
 marked-byte none a ps x y o e m = let z : _≡_ {A = ℕ} 0 1 = cc in absurd (omega arith)
 marked-byte (some b) a ps x y o e m = go (last-at b ps) m
   where

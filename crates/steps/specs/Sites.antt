@@ -32,30 +32,30 @@ mark none = 0
 mark (some b) = 1
 
 -- a place that shows an address holds the byte last stated there, or what it held; any other place what it held
-unfoldable pub byte-at : (shows : Option ℕ) → List Placement → (old : ℕ) → ℕ
+unfoldable pub byte-shown : (shows : Option ℕ) → List Placement → (old : ℕ) → ℕ
 unfolding last-at
-byte-at none ps old = old
-byte-at (some address) ps old = Option·getD (last-at address ps) old
+byte-shown none ps old = old
+byte-shown (some address) ps old = Option·getD (last-at address ps) old
 
 -- its mark says whether something is stated there; any other place keeps its mark
-unfoldable pub mark-at : (shows : Option ℕ) → List Placement → (old : ℕ) → ℕ
+unfoldable pub mark-shown : (shows : Option ℕ) → List Placement → (old : ℕ) → ℕ
 unfolding last-at mark
-mark-at none ps old = old
-mark-at (some address) ps old = mark (last-at address ps)
+mark-shown none ps old = old
+mark-shown (some address) ps old = mark (last-at address ps)
 
 -- ---- page and marks
 
 -- the page's places from place i on, with these placements upon them
 unfoldable pub painted : Site → (i : ℕ) → List Placement → (page : List ℕ) → List ℕ
-unfolding byte-at
+unfolding byte-shown
 painted site i ps [] = []
-painted site i ps (old ∷ page) = byte-at (site i) ps old ∷ painted site (suc i) ps page
+painted site i ps (old ∷ page) = byte-shown (site i) ps old ∷ painted site (suc i) ps page
 
 -- the marks of those places
 unfoldable pub marked : Site → (i : ℕ) → List Placement → (marks : List ℕ) → List ℕ
-unfolding mark-at
+unfolding mark-shown
 marked site i ps [] = []
-marked site i ps (old ∷ marks) = mark-at (site i) ps old ∷ marked site (suc i) ps marks
+marked site i ps (old ∷ marks) = mark-shown (site i) ps old ∷ marked site (suc i) ps marks
 
 -- ---- the load
 

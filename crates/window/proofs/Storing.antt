@@ -13,7 +13,7 @@ use Rattle.marks.proofs.Places.{split}
 use Rattle.marks.specs.Marks.{mark-at, marked-run}
 use Rattle.marks.specs.Claims.{Run-marked}
 use Rattle.marks.proofs.Runs.{run-made-so}
-use Rattle.steps.specs.Sites.{last-at, byte-at, painted}
+use Rattle.steps.specs.Sites.{last-at, byte-shown, painted}
 use Rattle.steps.specs.Runs.{run}
 use Rattle.steps.proofs.Places.{length-painted, painted-at}
 use Rattle.steps.proofs.Runs.{last-before, last-within, last-beyond, marks-of-run}
@@ -39,7 +39,7 @@ module _ (first size address : ℕ) (bytes old : List ℕ) where
   new = painted (window first size) 0 (run address bytes) old
 
   pub run-there : (i k : ℕ) → i < length old → i < size → k < length bytes → first + i ≡ address + k → getD new i 0 ≡ getD bytes k 0
-  unfolding byte-at
+  unfolding byte-shown
   run-there i k h s l e = rw (painted-at (window first size) (run address bytes) old i h, shows first size i s, e, last-within address k bytes l)
 
   -- a place that the run does not state, or that is not shown
@@ -47,15 +47,15 @@ module _ (first size address : ℕ) (bytes old : List ℕ) where
   Apart i = (first + i < address) ⊎ ((address + length bytes ≤ first + i) ⊎ (size ≤ i))
 
   pub run-apart : (i : ℕ) → Apart i → getD new i 0 ≡ getD old i 0
-  unfolding byte-at
+  unfolding byte-shown
   run-apart i a = split (length old) i
       (λ u. List·getD-eq-default new 0 {n = i} (omega (arith, length-painted (window first size) (run address bytes) 0 old)) ∙ sym (List·getD-eq-default old 0 {n = i} u))
-      (λ h. painted-at (window first size) (run address bytes) old i h ∙ split size i (λ s. not-shown s) (λ s. ap (λ (x : Option ℕ). byte-at x (run address bytes) (getD old i 0)) (shows first size i s) ∙ not-stated a s))
+      (λ h. painted-at (window first size) (run address bytes) old i h ∙ split size i (λ s. not-shown s) (λ s. ap (λ (x : Option ℕ). byte-shown x (run address bytes) (getD old i 0)) (shows first size i s) ∙ not-stated a s))
     where
-      not-shown : size ≤ i → byte-at (window first size i) (run address bytes) (getD old i 0) ≡ getD old i 0
+      not-shown : size ≤ i → byte-shown (window first size i) (run address bytes) (getD old i 0) ≡ getD old i 0
       not-shown s = rw (shows-not first size i s)
 
-      not-stated : Apart i → i < size → byte-at (some (first + i)) (run address bytes) (getD old i 0) ≡ getD old i 0
+      not-stated : Apart i → i < size → byte-shown (some (first + i)) (run address bytes) (getD old i 0) ≡ getD old i 0
       not-stated (inl l) s = ap (λ (o : Option ℕ). Option·getD o (getD old i 0)) (last-before (first + i) address bytes l)
       not-stated (inr (inl u)) s = ap (λ (o : Option ℕ). Option·getD o (getD old i 0)) (last-beyond (first + i) address bytes u)
       not-stated (inr (inr u)) s = absurd (omega arith)

@@ -9,8 +9,8 @@ use denote.Ref.{now}
 use borrow.Author.Needs.{needs}
 use Rattle.record.specs.Refusals.{bad-mark}
 use Rattle.writer.specs.Text.{refused}
-use Rattle.loader.specs.Load.{unfit}
-use Rattle.loader.proofs.Demand3.{good-window}
+use Rattle.window.specs.Window.{unfit}
+use Rattle.window.proofs.Tests.{good-window}
 use Rattle.page.proofs.Answers.{text-unfit, text-bad, text-good}
 use Rattle.page.proofs.survey_page.Statement.{statement}
 use Rattle.page.proofs.survey_page.Tie as tie
