@@ -30,7 +30,7 @@ use Rattle.steps.specs.Steps.{Placement, Tally, nothing-yet, accepted, by, outs
 use Rattle.loader.specs.Placing.{Base, linear, from-start, byte-address, placed, base-behind, does, act, base-after, along}
 use Rattle.loader.specs.Helpers.{left, does-on}
 use Rattle.window.specs.Window.{within, window, unfit}
-use Rattle.steps.specs.Sites.{Site, last-at, mark, byte-shown, mark-shown, painted, marked, stopping-by, Loaded}
+use Rattle.steps.specs.Sites.{last-at, mark, byte-shown, mark-shown, painted, marked, stopping-by, Loaded}
 use Rattle.loader.specs.Load.{steps-of, placements, stopping, load}
 use Rattle.window.specs.Claims.{Window}
 use Rattle.steps.proofs.Places.{painted-at, marked-at, length-painted, length-marked}
@@ -181,7 +181,7 @@ mark-seen page m i (inl e) = rw e
 mark-seen page m i (inr e) = rw e
 
 module _ (first : ℕ) (page marks old-page old-marks : List ℕ) (even : length page ≡ length marks) (lp : length old-page ≡ length page) (lm : length old-marks ≡ length marks) where
-  abbrev site : Site
+  abbrev site : ℕ → Option ℕ
   site = window first (length old-page)
 
   abbrev there : List Placement

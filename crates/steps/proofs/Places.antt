@@ -15,11 +15,11 @@ use borrow.Author.Tests.{eqb-true, eqb-false, eq-eqb}
 use Rattle.record.specs.Common.{if_then_else_, or-else}
 use Rattle.record.proofs.Choices.{or-else-none, or-else-assoc, getD-or-else}
 use Rattle.steps.specs.Steps.{Placement}
-use Rattle.steps.specs.Sites.{Site, last-at, mark, byte-shown, mark-shown, painted, marked, Last-stated, Place, Owed}
+use Rattle.steps.specs.Sites.{last-at, mark, byte-shown, mark-shown, painted, marked, Last-stated, Place, Owed}
 
 -- ---- place by place
 
-module _ (site : Site) (ps : List Placement) where
+module _ (site : ℕ → Option ℕ) (ps : List Placement) where
   pub length-painted : (i : ℕ) (page : List ℕ) → length (painted site i ps page) ≡ length page
   unfolding painted
   length-painted i [] = refl
@@ -149,7 +149,7 @@ unfolding byte-shown
 byte-append none ps qs old = refl
 byte-append (some a) ps qs old = ap (λ (o : Option ℕ). Option·getD o old) (last-append a ps qs) ∙ getD-or-else (last-at a qs) (last-at a ps) old
 
-pub painted-append : (site : Site) (i : ℕ) (ps qs : List Placement) (page : List ℕ) → painted site i (ps ++ qs) page ≡ painted site i qs (painted site i ps page)
+pub painted-append : (site : ℕ → Option ℕ) (i : ℕ) (ps qs : List Placement) (page : List ℕ) → painted site i (ps ++ qs) page ≡ painted site i qs (painted site i ps page)
 unfolding painted
 painted-append site i ps qs [] = refl
 painted-append site i ps qs (old ∷ page) =
@@ -160,7 +160,7 @@ unfolding byte-shown last-at
 byte-none none old = refl
 byte-none (some a) old = refl
 
-pub painted-none : (site : Site) (i : ℕ) (page : List ℕ) → painted site i [] page ≡ page
+pub painted-none : (site : ℕ → Option ℕ) (i : ℕ) (page : List ℕ) → painted site i [] page ≡ page
 unfolding painted
 painted-none site i [] = refl
 painted-none site i (old ∷ page) = ap₂ (λ (x : ℕ) (l : List ℕ). x ∷ l) (byte-none (site i) old) (painted-none site (suc i) page)

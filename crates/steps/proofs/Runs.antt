@@ -12,7 +12,7 @@ use lib.ListN.{length, getD, replicate}
 use borrow.Author.Tests.{eq-eqb, ne-eqb}
 use Rattle.record.specs.Common.{if_then_else_, or-else}
 use Rattle.steps.specs.Steps.{Placement, outside}
-use Rattle.steps.specs.Sites.{Site, last-at, mark, byte-shown, mark-shown, painted, marked}
+use Rattle.steps.specs.Sites.{last-at, mark, byte-shown, mark-shown, painted, marked}
 use Rattle.steps.specs.Runs.{run, as-mark, clear-at, cleared, Marks-by-ones}
 
 -- ---- what a run states
@@ -101,7 +101,7 @@ mark-is (some a) ps old = rw (last-one a ps) (go (last-at a ps))
     go none = refl
     go (some b) = refl
 
-marks-from : (site : Site) (i : ℕ) (ps : List Placement) (marks : List ℕ) → marked site i ps marks ≡ painted site i (map as-mark ps) (cleared site i marks)
+marks-from : (site : ℕ → Option ℕ) (i : ℕ) (ps : List Placement) (marks : List ℕ) → marked site i ps marks ≡ painted site i (map as-mark ps) (cleared site i marks)
 unfolding marked painted cleared
 marks-from site i ps [] = refl
 marks-from site i ps (old ∷ marks) = ap₂ (λ (x : ℕ) (l : List ℕ). x ∷ l) (mark-is (site i) ps old) (marks-from site (suc i) ps marks)

@@ -13,13 +13,13 @@ use Rattle.record.specs.Refusals.{Refusal, missing-end-of-file-record}
 use Rattle.reader.specs.Lines.{through}
 use Rattle.steps.specs.Steps.{Placement, Action, places, finishes, fails, Step, step, Tally, nothing-yet, Verdict, accepted, refused, Decision, by, outside, Turn, on, stop, turn, at-data, onward, decision, verdict, stated}
 use Rattle.steps.specs.Source.{Source, steps-of}
-use Rattle.steps.specs.Sites.{Site, last-at, mark, byte-shown, mark-shown, painted, marked, store, Room, stopping-by, stopping-in, load, Shown, Alike, Non-interference, What-is-stored, Owed-unique, All-inside, Refusal-changes-nothing, Sizes-kept}
+use Rattle.steps.specs.Sites.{last-at, mark, byte-shown, mark-shown, painted, marked, store, Room, stopping-by, stopping-in, load, Shown, Alike, Non-interference, What-is-stored, Owed-unique, All-inside, Refusal-changes-nothing, Sizes-kept}
 use Rattle.steps.proofs.Source.{nothing-after-the-LF, accepts-at-end}
 use Rattle.steps.proofs.Places.{length-painted, length-marked, painted-at, marked-at, owed, owed-is}
 
 -- ---- what is answered
 
-pub stored-answer : (site : Site) (ps : List Placement) (page marks : List ℕ) (v : Verdict) → (store site ps page marks v) .answer ≡ v
+pub stored-answer : (site : ℕ → Option ℕ) (ps : List Placement) (page marks : List ℕ) (v : Verdict) → (store site ps page marks v) .answer ≡ v
 unfolding store
 stored-answer site ps page marks (accepted k) = refl
 stored-answer site ps page marks (refused r n) = refl
@@ -63,7 +63,7 @@ pub refusal-changes-nothing : Refusal-changes-nothing
 refusal-changes-nothing S src room text page marks r n e =
     rw (refused-load src room text page marks r n (sym (load-answer src room text page marks) ∙ e)) (refl, refl)
 
-stored-sizes : (site : Site) (ps : List Placement) (page marks : List ℕ) (v : Verdict)
+stored-sizes : (site : ℕ → Option ℕ) (ps : List Placement) (page marks : List ℕ) (v : Verdict)
     → (length ((store site ps page marks v) .page) ≡ length page) × (length ((store site ps page marks v) .marks) ≡ length marks)
 unfolding store
 stored-sizes site ps page marks (accepted k) = (length-painted site ps 0 page, length-marked site ps 0 marks)
@@ -134,7 +134,7 @@ all-inside S src room text page marks k e =
 -- ---- the first half of demand 3
 
 -- where an address is shown, the old mark does not matter
-shown-mark : (site : Site) (ps : List Placement) (m₁ m₂ : List ℕ) → length m₁ ≡ length m₂ → (i : ℕ) → i < length m₁ → Shown site i
+shown-mark : (site : ℕ → Option ℕ) (ps : List Placement) (m₁ m₂ : List ℕ) → length m₁ ≡ length m₂ → (i : ℕ) → i < length m₁ → Shown site i
     → getD (marked site 0 ps m₁) i 0 ≡ getD (marked site 0 ps m₂) i 0
 unfolding mark-shown
 shown-mark site ps m₁ m₂ lm i h (a, e) = rw (marked-at site ps m₁ i h, marked-at site ps m₂ i (omega arith), e)
@@ -150,7 +150,7 @@ marked-byte (some b) a ps x y o e m = go (last-at b ps) m
     go (some c) m = refl
 
 -- two stores of one verdict
-module _ (site : Site) (page₁ marks₁ page₂ marks₂ : List ℕ) (lp : length page₁ ≡ length page₂) (lm : length marks₁ ≡ length marks₂) where
+module _ (site : ℕ → Option ℕ) (page₁ marks₁ page₂ marks₂ : List ℕ) (lp : length page₁ ≡ length page₂) (lm : length marks₁ ≡ length marks₂) where
   same-stores : (ps₁ ps₂ : List Placement) (v₁ v₂ : Verdict) → v₁ ≡ v₂ → ((k : Tally) → v₁ ≡ accepted k → ps₁ ≡ ps₂)
       → Alike site (store site ps₁ page₁ marks₁ v₁) (store site ps₂ page₂ marks₂ v₂)
   unfolding store

@@ -5,7 +5,7 @@ use Prim.Native.Nat.{ℕ, suc}
 use mathlib.Core.Option.{Option, none, some}
 use mathlib.Core.List.{List, [], _∷_, map}
 use Rattle.steps.specs.Steps.{Placement}
-use Rattle.steps.specs.Sites.{Site, painted, marked}
+use Rattle.steps.specs.Sites.{painted, marked}
 
 -- the first byte at the address, each further one at the next
 unfoldable pub run : (address : ℕ) → List ℕ → List Placement
@@ -21,10 +21,10 @@ abbrev pub clear-at : (shows : Option ℕ) → (old : ℕ) → ℕ
 clear-at none old = old
 clear-at (some address) old = 0
 
-unfoldable pub cleared : Site → (i : ℕ) → (marks : List ℕ) → List ℕ
+unfoldable pub cleared : (site : ℕ → Option ℕ) → (i : ℕ) → (marks : List ℕ) → List ℕ
 cleared site i [] = []
 cleared site i (old ∷ marks) = clear-at (site i) old ∷ cleared site (suc i) marks
 
 -- marks are ones, painted upon cleared marks
 abbrev pub Marks-by-ones : Type 0
-Marks-by-ones = (site : Site) (ps : List Placement) (marks : List ℕ) → marked site 0 ps marks ≡ painted site 0 (map as-mark ps) (cleared site 0 marks)
+Marks-by-ones = (site : ℕ → Option ℕ) (ps : List Placement) (marks : List ℕ) → marked site 0 ps marks ≡ painted site 0 (map as-mark ps) (cleared site 0 marks)

@@ -1,4 +1,4 @@
--- Where bytes are stored: a site says which address each place of a page shows, or that it shows none. One window is a site.
+-- Where bytes are stored: a site, ℕ → Option ℕ, says which address each place of a page shows, or that it shows none. One window is a site.
 -- Demand 3 is claimed here of every source and every site. Each claim is proved in `proofs/Sites.antt`.
 -- Assumes nothing.
 use mathlib.Core.Path.{_≡_}
@@ -16,10 +16,6 @@ use Rattle.steps.specs.Steps.{Placement, Step, Tally, nothing-yet, Verdi
 use Rattle.steps.specs.Source.{Source, steps-of}
 
 -- ---- a place
-
--- the address that a place shows, or none
-abbrev pub Site : Type 0
-Site = (place : ℕ) → Option ℕ
 
 -- the byte that the last placement at an address states: a later one, if there is one, and else the first
 unfoldable pub last-at : (address : ℕ) → List Placement → Option ℕ
@@ -46,13 +42,13 @@ mark-shown (some address) ps old = mark (last-at address ps)
 -- ---- page and marks
 
 -- the page's places from place i on, with these placements upon them
-unfoldable pub painted : Site → (i : ℕ) → List Placement → (page : List ℕ) → List ℕ
+unfoldable pub painted : (site : ℕ → Option ℕ) → (i : ℕ) → List Placement → (page : List ℕ) → List ℕ
 unfolding byte-shown
 painted site i ps [] = []
 painted site i ps (old ∷ page) = byte-shown (site i) ps old ∷ painted site (suc i) ps page
 
 -- the marks of those places
-unfoldable pub marked : Site → (i : ℕ) → List Placement → (marks : List ℕ) → List ℕ
+unfoldable pub marked : (site : ℕ → Option ℕ) → (i : ℕ) → List Placement → (marks : List ℕ) → List ℕ
 unfolding mark-shown
 marked site i ps [] = []
 marked site i ps (old ∷ marks) = mark-shown (site i) ps old ∷ marked site (suc i) ps marks
@@ -66,7 +62,7 @@ pub record Loaded : Type 0 where
   pub marks : List ℕ
 
 -- a refusal leaves page and marks as they were; an acceptance writes what was stated
-unfoldable pub store : Site → List Placement → (page marks : List ℕ) → Verdict → Loaded
+unfoldable pub store : (site : ℕ → Option ℕ) → List Placement → (page marks : List ℕ) → Verdict → Loaded
 unfolding painted marked
 store site ps page marks (accepted tally) = record { answer = accepted tally; page = painted site 0 ps page; marks = marked site 0 ps marks }
 store site ps page marks (refused r line) = record { answer = refused r line; page = page; marks = marks }
@@ -75,7 +71,7 @@ store site ps page marks (refused r line) = record { answer = refused r line; pa
 pub record Room : Type 0 where
   pub fault : Option Refusal
   pub inside : ℕ → Bool
-  pub site : Site
+  pub site : ℕ → Option ℕ
 
 -- where and how steps stop a load: before the first line if the room has a fault, else at the first line that decides, if one does
 unfoldable pub stopping-by : Option Refusal → (inside : ℕ → Bool) → List Step → Option Decision
@@ -99,11 +95,11 @@ load src room text page marks = load-steps room (steps-of src text) page marks
 -- ---- demand 3, first half
 
 -- the place shows an address
-abbrev pub Shown : Site → (place : ℕ) → Type 0
+abbrev pub Shown : (site : ℕ → Option ℕ) → (place : ℕ) → Type 0
 Shown site i = (address : ℕ) × (site i ≡ some address)
 
 -- two loads agree: in their answers and, if those accept, where an address is shown, in the marks and, where they are 1, in the bytes
-pub record Alike (site : Site) (l₁ l₂ : Loaded) : Type 0 where
+pub record Alike (site : ℕ → Option ℕ) (l₁ l₂ : Loaded) : Type 0 where
   pub answers : l₁ .answer ≡ l₂ .answer
   pub marks : (t : Tally) → l₁ .answer ≡ accepted t → (i : ℕ) → i < length (l₁ .marks) → Shown site i → getD (l₁ .marks) i 0 ≡ getD (l₂ .marks) i 0
   pub bytes : (t : Tally) → l₁ .answer ≡ accepted t → (i : ℕ) → i < length (l₁ .page) → i < length (l₁ .marks) → Shown site i → getD (l₁ .marks) i 0 ≡ 1

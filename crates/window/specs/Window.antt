@@ -2,18 +2,18 @@
 -- Assumes nothing.
 use Prim.Native.Nat.{ℕ, _+_, _^_}
 use mathlib.Core.Bool.{Bool, not, _&&_, _||_}
-use mathlib.Core.Option.{none, some}
+use mathlib.Core.Option.{Option, none, some}
 use lib.Dec.{eqb, leb, ltb}
 use Rattle.record.specs.Common.{if_then_else_}
 use Rattle.record.specs.Refusals.{bad-window}
-use Rattle.steps.specs.Sites.{Site, Room}
+use Rattle.steps.specs.Sites.{Room}
 
 -- does the window of `size` places from `first` on hold the address?
 unfoldable pub within : (first size address : ℕ) → Bool
 within first size address = leb first address && ltb address (first + size)
 
 -- place i of the window shows the address first + i
-unfoldable pub window : (first size : ℕ) → Site
+unfoldable pub window : (first size : ℕ) → ℕ → Option ℕ
 window first size i = if ltb i size then some (first + i) else none
 
 -- page and marks differ in length, the page has over 65,536 places, or the window goes beyond 2^32
