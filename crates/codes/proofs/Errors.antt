@@ -1,4 +1,4 @@
--- A refusal of a line in numbers: its number over 256, and its figures' values.
+-- A refusal of a line in numbers: its number is added to 256, and its values are those of its figures.
 -- Assumes nothing.
 use Prim.Native.Nat.{ℕ, _+_}
 use mathlib.Core.Path.{_≡_, refl}

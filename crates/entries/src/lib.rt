@@ -1,4 +1,4 @@
-// A record in numbers, and a list of records in bytes, as C has them, written.
+// Writes a record that is given in numbers, and a list of records that is given in bytes, as C has them.
 use record::Record;
 use record::types;
 use writer::Survey;

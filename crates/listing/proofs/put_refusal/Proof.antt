@@ -1,4 +1,4 @@
--- `listing::put_refusal` meets its contract: each part behind the one before.
+-- `listing::put_refusal` meets its contract: each part after the one before it.
 -- Assumes nothing.
 use Prim.Native.Nat.{ℕ}
 use mathlib.Core.Path.{_≡_, sym, _∙_, ap, ap₂}
