@@ -8,14 +8,14 @@ ghost use lib.ListN.{length, take, drop};
 ghost use lib.Seq.{paste};
 ghost use lib.Dec.{eqb};
 ghost use Rattle.record.specs.Common.{if_then_else_};
-ghost use Rattle.record.specs.Digits.{all-digits, leading};
-ghost use Rattle.record.specs.Line.{size, judge-bytes, says, named};
+ghost use Rattle.record.specs.Digits.{all-digits};
+ghost use Rattle.record.specs.Line.{size, judge-bytes, says};
 ghost use Rattle.reader.specs.Told.{told};
 ghost use Rattle.reader.specs.Answer.{ReadRecord, Reads, word};
 ghost use Rattle.reader.specs.Lines.{rest};
 ghost use Rattle.reader.specs.Text.{FirstLine, Default, Ends, New, Next, Number, default-options, at-end};
 ghost use Rattle.reader.specs.Held.{Opened, Asked};
-ghost use Rattle.reader.specs.Helpers.{NoFeed, FirstFeed, LineEnd, Spotted, Settled, invalid-at, Decodable, Decoded, Special, Summed};
+ghost use Rattle.reader.specs.Helpers.{NoFeed, FirstFeed, LineEnd, Spotted, Settled, invalid-at, Special, Summed};
 
 // Why a line gives no record, in the crate's order.
 pub enum ReaderError {
@@ -23,7 +23,7 @@ pub enum ReaderError {
     RecordTooShort,
     RecordTooLong,
     RecordNotEvenLength,
-    // The place of the first byte behind the colon that is no digit, the colon's being 0; 65,535 for any place beyond that.
+    // The place of the first byte after the colon that is not a digit, the colon's being 0; 65,535 for any place beyond that.
     ContainsInvalidCharacters(u16),
     // The computed checksum, and the stated one.
     ChecksumMismatch(u8, u8),
@@ -76,69 +76,6 @@ enum Spot {
         empties: usize,
     },
     Nothing,
-}
-
-// The place of the first byte behind the colon that is no digit, or behind the line where each is one.
-fn first_other(line: &[u8]) -> usize
-    ensures { λ r. ⌜ r ≡ suc (leading (drop 1 (now (line .entry)))) ⌝ }
-{
-    let mut i = 1;
-    while i < line.len() {
-        if record::digit_value(line[i]) >= 16 {
-            return i;
-        }
-        i += 1;
-    }
-    i
-}
-
-// A place as a refusal names it.
-fn name_place(place: usize) -> u16
-    ensures { λ r. ⌜ r ≡ named place ⌝ }
-{
-    if place > 65535 {
-        return 65535;
-    }
-    place as u16
-}
-
-// The byte that two digits spell.
-fn pair(high: u8, low: u8) -> u8
-    ensures { λ r. ⌜ r ≡ (high * 16 + low) % 256 ⌝ }
-{
-    (((high as u16) * 16 + (low as u16)) % 256) as u8
-}
-
-// 16 where a byte is no digit, else 0; and the sum of the bytes up to there.
-struct Scan {
-    seen: u8,
-    sum: u8,
-}
-
-// Decodes the 2n digits behind the colon into the buffer and sums the bytes, up to a byte that is no digit. Without the exits the compiler
-// spreads the loop over vectors, and the code grows threefold.
-fn decode(line: &[u8], n: usize, buf: &mut [u8]) -> Scan
-    requires { ⌜ Decodable (now line) n (now buf) ⌝ }
-    ensures { λ r. ⌜ Decoded (drop 1 (now (line .entry))) n (r .seen) (r .sum) (now (buf .exit)) ⌝ }
-{
-    let mut sum: u8 = 0;
-    let mut i = 0;
-    while i < n {
-        let p = 1 + 2 * i;
-        let high = record::digit_value(line[p]);
-        if high >= 16 {
-            return Scan { seen: high, sum };
-        }
-        let low = record::digit_value(line[p + 1]);
-        if low >= 16 {
-            return Scan { seen: low, sum };
-        }
-        let byte = pair(high, low);
-        sum = std::num::wrapping_add_u8(sum, byte);
-        buf[i] = byte;
-        i += 1;
-    }
-    Scan { seen: 0, sum }
 }
 
 // Two bytes, high byte first.
@@ -261,13 +198,16 @@ fn judge_bytes(buf: &[u8], m: usize, sum: u8, pool: &mut [u8], at: usize) -> Ans
     Answer::Read(special(kind, buf))
 }
 
-// The given refusal, unless a byte behind the colon is no digit.
+// The given refusal, unless a byte after the colon is not a digit.
 fn digits_or(line: &[u8], e: ReaderError) -> Answer
+    requires { ⌜ 0 < length (now line) ⌝ }
     ensures { λ r. ⌜ r ≡ (if all-digits (drop 1 (now (line .entry))) then Answer.Refused e else Answer.Refused (invalid-at (now (line .entry)))) ⌝ }
 {
-    let place = first_other(line);
-    if place < line.len() {
-        return Answer::Refused(ReaderError::ContainsInvalidCharacters(name_place(place)));
+    let good = digits::first_other(&line[1..]);
+    if good < line.len() - 1 {
+        return Answer::Refused(ReaderError::ContainsInvalidCharacters(digits::name_place(
+            good + 1,
+        )));
     }
     Answer::Refused(e)
 }
@@ -294,10 +234,13 @@ fn read_with(buf: &mut [u8], line: &[u8], pool: &mut [u8], at: usize) -> Answer
         return digits_or(line, ReaderError::RecordNotEvenLength);
     }
     let m = n / 2;
-    let scan = decode(line, m, buf);
-    if scan.seen >= 16 {
-        let place = first_other(line);
-        return Answer::Refused(ReaderError::ContainsInvalidCharacters(name_place(place)));
+    let scan = digits::decode(&line[1..], buf);
+    let whole = scan.whole;
+    if !whole {
+        let good = digits::first_other(&line[1..]);
+        return Answer::Refused(ReaderError::ContainsInvalidCharacters(digits::name_place(
+            good + 1,
+        )));
     }
     judge_bytes(buf, m, scan.sum, pool, at)
 }
