@@ -27,7 +27,7 @@ use Rattle.reader.specs.Lines.{lines, later, Found, a-line, no-line, nex
 use Rattle.reader.specs.Row.{Numbered, on, number, sayings, stops, through-stop, stopped, row}
 use Rattle.reader.specs.Text.{told-reply, is-full, ends-row, behind, at-end, next-number, Outcome, of-found, outcome}
 use Rattle.reader.specs.Calls.{no-more, one-more}
-use Rattle.reader.specs.Claims.{Done-stays, Done-behind, Full-keeps, Room-is-enough, Pool-blind, Same-through, Nothing-behind, Next-unique, Default-unique, Ends-unique, New-unique, Number-unique}
+use Rattle.reader.specs.Claims.{Done-stays, Done-behind, Full-keeps, Room-is-enough, Pool-blind, Same-through, Nothing-behind, Next-unique, Default-unique, Ends-unique, New-unique, Number-unique, Is-pool-full-unique}
 use Rattle.reader.proofs.Claims.{untold, untold-told}
 use Rattle.reader.proofs.Cutting.{lines-closed, Head, through-head}
 use Rattle.reader.proofs.Reading.{full-keeps, outcome-finished, outcome-found}
@@ -253,3 +253,6 @@ new-with-options-unique = new-unique
 
 pub number-unique : Number-unique
 number-unique e r r′ x y = x .answer ∙ sym (y .answer)
+
+pub is-pool-full-unique : Is-pool-full-unique
+is-pool-full-unique e r r′ x y = x .answer ∙ sym (y .answer)

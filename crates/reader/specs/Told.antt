@@ -1,6 +1,7 @@
 -- What an answer tells: a record's type and numbers, a refusal, or "done".
 -- Assumes nothing.
 use Prim.Native.Nat.{ℕ}
+use mathlib.Core.Bool.{Bool, true, false}
 use mathlib.Core.List.{List}
 use Rattle.record.specs.Record.{type-of, numbers-of}
 use Rattle.record.specs.Refusals.{Refusal, missing-start-code, contains-invalid-characters, record-too-short, record-too-long, record-not-even-length, checksum-mismatch, payload-length-mismatch, unsupported-record-type, invalid-length-for-type, pool-full}
@@ -25,6 +26,18 @@ refusal-of PayloadLengthMismatch = payload-length-mismatch
 refusal-of (UnsupportedRecordType kind) = unsupported-record-type kind
 refusal-of InvalidLengthForType = invalid-length-for-type
 refusal-of PoolFull = pool-full
+
+abbrev pub is-pool-full : ReaderError → Bool
+is-pool-full MissingStartCode = false
+is-pool-full RecordTooShort = false
+is-pool-full RecordTooLong = false
+is-pool-full RecordNotEvenLength = false
+is-pool-full (ContainsInvalidCharacters place) = false
+is-pool-full (ChecksumMismatch computed stated) = false
+is-pool-full PayloadLengthMismatch = false
+is-pool-full (UnsupportedRecordType kind) = false
+is-pool-full InvalidLengthForType = false
+is-pool-full PoolFull = true
 
 abbrev pub told : Answer → Told
 told (Read r) = gives (type-of r) (numbers-of r)

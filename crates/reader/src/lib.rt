@@ -1,5 +1,9 @@
 // Intel HEX read: one line to a record, and a text to a row of answers.
 use record::Record;
+use record::byte_counts;
+use record::char_counts;
+use record::chars;
+use record::payload_sizes;
 use record::types;
 ghost use mathlib.Core.Path.{_≡_};
 ghost use mathlib.Core.Bool.{true, false};
@@ -13,7 +17,7 @@ ghost use Rattle.record.specs.Line.{size, judge-bytes, says};
 ghost use Rattle.reader.specs.Told.{told};
 ghost use Rattle.reader.specs.Answer.{ReadRecord, Reads, word};
 ghost use Rattle.reader.specs.Lines.{rest};
-ghost use Rattle.reader.specs.Text.{FirstLine, Default, Ends, New, Next, Number, default-options, at-end};
+ghost use Rattle.reader.specs.Text.{FirstLine, Default, Ends, New, Next, Number, IsPoolFull, default-options, at-end};
 ghost use Rattle.reader.specs.Held.{Opened, Asked};
 ghost use Rattle.reader.specs.Helpers.{NoFeed, FirstFeed, LineEnd, Spotted, Settled, invalid-at, Special, Summed};
 
@@ -103,15 +107,15 @@ fn size_of(kind: u8) -> usize
     ensures { λ r. ⌜ r ≡ size kind ⌝ }
 {
     if kind == types::END_OF_FILE {
-        return 0;
+        return payload_sizes::END_OF_FILE;
     }
     if kind == types::EXTENDED_SEGMENT_ADDRESS {
-        return 2;
+        return payload_sizes::EXTENDED_SEGMENT_ADDRESS;
     }
     if kind == types::EXTENDED_LINEAR_ADDRESS {
-        return 2;
+        return payload_sizes::EXTENDED_LINEAR_ADDRESS;
     }
-    4
+    payload_sizes::START_LINEAR_ADDRESS
 }
 
 // The record of a type from 01 to 05 whose payload, the buffer's bytes from the fifth on, has its type's size.
@@ -176,7 +180,7 @@ fn judge_bytes(buf: &[u8], m: usize, sum: u8, pool: &mut [u8], at: usize) -> Ans
     ensures { λ r. ⌜ Reads (judge-bytes (take m (now (buf .entry)))) (now (pool .entry)) at r (now (pool .exit)) ⌝ }
 {
     let last = m - 1;
-    let n = m - 5;
+    let n = m - byte_counts::AROUND_PAYLOAD;
     if sum != 0 {
         let stated = buf[last];
         let computed = std::num::wrapping_sub_u8(stated, sum);
@@ -220,14 +224,14 @@ fn read_with(buf: &mut [u8], line: &[u8], pool: &mut [u8], at: usize) -> Answer
     if line.len() == 0 {
         return Answer::Refused(ReaderError::MissingStartCode);
     }
-    if line[0] != b':' {
+    if line[0] != chars::COLON {
         return Answer::Refused(ReaderError::MissingStartCode);
     }
     let n = line.len() - 1;
-    if n < 10 {
+    if n < char_counts::FEWEST_DIGITS {
         return digits_or(line, ReaderError::RecordTooShort);
     }
-    if n > 520 {
+    if n > char_counts::MOST_DIGITS {
         return digits_or(line, ReaderError::RecordTooLong);
     }
     if n % 2 != 0 {
@@ -249,7 +253,7 @@ fn read_with(buf: &mut [u8], line: &[u8], pool: &mut [u8], at: usize) -> Answer
 pub fn read_record(line: &[u8], pool: &mut [u8], at: usize) -> Answer
     ensures { λ r. ⌜ ReadRecord (now (line .entry)) (now (pool .entry)) at r (now (pool .exit)) ⌝ }
 {
-    let mut buf = [0u8; 260];
+    let mut buf = [0u8; byte_counts::MOST];
     read_with(&mut buf, line, pool, at)
 }
 
@@ -257,7 +261,7 @@ pub fn read_record(line: &[u8], pool: &mut [u8], at: usize) -> Answer
 fn is_feed(c: u8) -> u8
     ensures { λ r. ⌜ r ≡ (if eqb c 10 then 1 else 0) ⌝ }
 {
-    if c == 10 {
+    if c == chars::LF {
         return 1;
     }
     0
@@ -284,7 +288,7 @@ fn feed_from(text: &[u8], from: usize) -> usize
 {
     let mut i = from;
     while i < text.len() {
-        if text[i] == 10 {
+        if text[i] == chars::LF {
             return i;
         }
         i += 1;
@@ -318,7 +322,7 @@ fn line_len(text: &[u8], feed: usize) -> usize
         return feed;
     }
     let before = feed - 1;
-    if text[before] == 13 {
+    if text[before] == chars::CR {
         return before;
     }
     feed
@@ -387,6 +391,24 @@ impl ReaderError {
             ReaderError::PoolFull => 10,
         }
     }
+
+    // Whether it is PoolFull, the only refusal that does not use its line up.
+    pub fn is_pool_full(self) -> bool
+        ensures { λ r. ⌜ IsPoolFull self r ⌝ }
+    {
+        match self {
+            ReaderError::MissingStartCode => false,
+            ReaderError::ContainsInvalidCharacters(_) => false,
+            ReaderError::RecordTooShort => false,
+            ReaderError::RecordTooLong => false,
+            ReaderError::RecordNotEvenLength => false,
+            ReaderError::ChecksumMismatch(_, _) => false,
+            ReaderError::PayloadLengthMismatch => false,
+            ReaderError::UnsupportedRecordType(_) => false,
+            ReaderError::InvalidLengthForType => false,
+            ReaderError::PoolFull => true,
+        }
+    }
 }
 
 impl ReaderOptions {
@@ -427,7 +449,7 @@ fn settle(s: State, answer: Answer, position: usize, line: usize) -> Step
             },
         },
         Answer::Refused(e) => {
-            if e.number() == 10 {
+            if e.is_pool_full() {
                 return Step {
                     reply: Reply::Refused(e),
                     state: s,

@@ -1,5 +1,8 @@
 // Intel HEX written: one record to a line, a list to an object's text, and the survey and the step that it is made of.
 use record::Record;
+use record::char_counts;
+use record::chars;
+use record::payload_sizes;
 use record::types;
 ghost use mathlib.Core.Path.{_≡_};
 ghost use mathlib.Core.List.{[], _∷_};
@@ -69,7 +72,7 @@ fn put_head(n: u8, address: u16, kind: u8, out: &mut [u8], at: usize) -> u8
 {
     let top = high(address);
     let rest = low(address);
-    out[at] = b':';
+    out[at] = chars::COLON;
     put(n, out, at + 1);
     put(top, out, at + 3);
     put(rest, out, at + 5);
@@ -86,7 +89,7 @@ fn put_line(kind: u8, address: u16, payload: &[u8], out: &mut [u8], at: usize)
 {
     let n = payload.len();
     let first = put_head(n as u8, address, kind, out, at);
-    let from = at + 9;
+    let from = at + char_counts::BEFORE_PAYLOAD;
     let sum = digits::spell(payload, first, &mut out[from..]);
     put(std::num::wrapping_sub_u8(0, sum), out, from + 2 * n);
 }
@@ -141,16 +144,16 @@ fn measure(record: Record, pool: &[u8]) -> Written
             if at > pool.len() - len {
                 return Written::Refused(WriterError::PayloadOutsidePool);
             }
-            if len > 255 {
+            if len > payload_sizes::MOST_DATA {
                 return Written::Refused(WriterError::DataExceedsMaximumLength(len));
             }
-            Written::Wrote(11 + 2 * len)
+            Written::Wrote(char_counts::NO_PAYLOAD + 2 * len)
         }
-        Record::EndOfFile => Written::Wrote(11),
-        Record::ExtendedSegmentAddress(_) => Written::Wrote(15),
-        Record::StartSegmentAddress { cs: _, ip: _ } => Written::Wrote(19),
-        Record::ExtendedLinearAddress(_) => Written::Wrote(15),
-        Record::StartLinearAddress(_) => Written::Wrote(19),
+        Record::EndOfFile => Written::Wrote(char_counts::NO_PAYLOAD),
+        Record::ExtendedSegmentAddress(_) => Written::Wrote(char_counts::TWO_BYTES),
+        Record::StartSegmentAddress { cs: _, ip: _ } => Written::Wrote(char_counts::FOUR_BYTES),
+        Record::ExtendedLinearAddress(_) => Written::Wrote(char_counts::TWO_BYTES),
+        Record::StartLinearAddress(_) => Written::Wrote(char_counts::FOUR_BYTES),
     }
 }
 
@@ -187,7 +190,7 @@ pub fn write_step(record: Record, pool: &[u8], out: &mut [u8], at: usize) -> Wri
             }
             let end = at + n;
             put_record(record, pool, out, at);
-            out[end] = b'\n';
+            out[end] = chars::LF;
             Written::Wrote(end + 1)
         }
     }
