@@ -2,7 +2,6 @@
 -- Assumes nothing.
 use Prim.Native.Nat.{ℕ, suc, _≤_, _<_}
 use mathlib.Core.Path.{_≡_, refl, sym, ap, _∙_}
-use mathlib.Core.Logic.{_≢_}
 use mathlib.Core.Bool.{Bool, true, false, _||_}
 use mathlib.Core.Option.{Option}
 use mathlib.Core.List.{List, [], _∷_}
@@ -10,9 +9,9 @@ use native.Mathlib.Omega.{arith}
 use lib.Dec.{eqb, ltb}
 use lib.ListN.{length, take, drop, replicate, length-append, length-drop}
 use lib.Seq.{length-take-le}
-use borrow.Author.Tests.{eq-eqb, ne-eqb, ltb-true, ltb-false}
+use borrow.Author.Tests.{ltb-true, ltb-false}
 use Rattle.record.specs.Common.{if_then_else_}
-use Rattle.record.specs.Refusals.{number-of, missing-start-code, contains-invalid-characters, record-too-long}
+use Rattle.record.specs.Refusals.{missing-start-code, contains-invalid-characters, record-too-long}
 use Rattle.record.specs.Digits.{all-digits, leading}
 use Rattle.record.specs.Line.{wrong, named, judge}
 use Rattle.record.specs.declared.Record.{Record}
@@ -20,10 +19,10 @@ use Rattle.record.proofs.Tests.{split}
 use Rattle.reader.specs.declared.Answer.{Answer}
 use Rattle.reader.specs.declared.Answer.the-variants.{Read, Refused}
 use Rattle.reader.specs.declared.ReaderError.{ReaderError}
-use Rattle.reader.specs.Told.{Told, gives, refuses, done, told, refusal-of}
+use Rattle.reader.specs.Told.{Told, gives, refuses, done, told, is-pool-full}
 use Rattle.reader.specs.Answer.{Reads, answered, poured}
 use Rattle.reader.specs.Text.{is-full, ends-row}
-use Rattle.reader.proofs.Reading.{full-keeps}
+use Rattle.reader.proofs.Reading.{full-by-number, full-keeps}
 use Rattle.chunks.specs.declared.Chunks.{Chunks}
 use Rattle.chunks.specs.declared.Place.{Place}
 use Rattle.chunks.specs.declared.Place.the-variants.{Nowhere}
@@ -44,20 +43,20 @@ module _ (s : Chunks) (answer : Answer) (position line : ℕ) (last : Bool) (lie
   unfolding is-full is-record
   settle-read r state finished e f g = rw (e, f, g) (record { answer = refl; state = refl; place = refl })
 
-  pub settle-full : (e : ReaderError) (r : ChunkStep) → answer ≡ Refused e → number-of (refusal-of e) ≡ 10 → Plain (reply.Refused e) s r
+  pub settle-full : (e : ReaderError) (r : ChunkStep) → answer ≡ Refused e → is-pool-full e ≡ true → Plain (reply.Refused e) s r
       → Settles s (told answer) position line last lies r
   unfolding is-full is-record
   settle-full e r a n p =
-      rw a (record { answer = ap word-of (p .reply-is); state = p .state-is ∙ rw (eq-eqb (number-of (refusal-of e)) 10 n); place = p .lies-is })
+      rw a (record { answer = ap word-of (p .reply-is); state = p .state-is ∙ rw (sym (full-by-number e) ∙ n); place = p .lies-is })
 
-  pub settle-refused : (e : ReaderError) (state : Chunks) (finished : Bool) (r : ChunkStep) → answer ≡ Refused e → number-of (refusal-of e) ≢ 10
+  pub settle-refused : (e : ReaderError) (state : Chunks) (finished : Bool) (r : ChunkStep) → answer ≡ Refused e → is-pool-full e ≡ false
       → state ≡ past-line s position line finished → finished ≡ (last || s .options .«stop_after_first_error») → Plain (reply.Refused e) state r
       → Settles s (told answer) position line last lies r
   unfolding is-full is-record ends-row
   settle-refused e state finished r a n f g p =
       rw a (record {
         answer = ap word-of (p .reply-is);
-        state = p .state-is ∙ f ∙ rw (ne-eqb (number-of (refusal-of e)) 10 n, g);
+        state = p .state-is ∙ f ∙ rw (sym (full-by-number e) ∙ n, g);
         place = p .lies-is;
       })
 

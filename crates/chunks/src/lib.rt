@@ -3,6 +3,8 @@ use reader::Answer;
 use reader::ReaderError;
 use reader::ReaderOptions;
 use record::Record;
+use record::char_counts::MOST_KEPT;
+use record::chars;
 ghost use mathlib.Core.Path.{_≡_};
 ghost use mathlib.Core.Bool.{false, _||_};
 ghost use mathlib.Core.List.{[]};
@@ -18,6 +20,14 @@ ghost use Rattle.reader.specs.Text.{default-options};
 ghost use Rattle.chunks.specs.Begun.{seek, stands-for, push as pushed, with-CR, add as added};
 ghost use Rattle.chunks.specs.Next.{kept-in, left-out, begun, past-line, over, number-behind, of-sought, Meets, NextChunk, Finish, NewChunks, PartOf, Shown};
 ghost use Rattle.chunks.specs.Helpers.{held, has-line, Grown, Passed, ends-in-CR, seek-at, CutAt, place-in-line, refusal-in-line, told-in-line, Settles, Plain, Within};
+
+// The last place of the carry that a line uses, and the same as a refusal names it.
+const LAST_KEPT: usize = 521;
+
+const LAST_KEPT_NAMED: u16 = 521;
+
+// The last place that a refusal can name.
+const LAST_NAMED: u16 = 65535;
 
 // Where a reader of chunks stands.
 pub struct Chunks {
@@ -133,7 +143,7 @@ fn is_digit(c: u8) -> bool
 fn one_more(n: u16) -> u16
     ensures { λ r. ⌜ r ≡ named (suc n) ⌝ }
 {
-    if n == 65535 {
+    if n == LAST_NAMED {
         return n;
     }
     n + 1
@@ -145,15 +155,15 @@ fn push(carry: &mut [u8], used: usize, skipped: u16, c: u8) -> Taken
     requires { ⌜ (used ≤ 522) × (522 ≤ length (now carry)) ⌝ }
     ensures { λ r. ⌜ Grown (now (carry .entry)) used (pushed (kept-in (now (carry .entry)) used skipped) c) (r .used) (r .skipped) (now (carry .exit)) ⌝ }
 {
-    if used < 522 {
+    if used < MOST_KEPT {
         carry[used] = c;
         return Taken {
             used: used + 1,
             skipped,
         };
     }
-    if is_digit(carry[521]) {
-        carry[521] = c;
+    if is_digit(carry[LAST_KEPT]) {
+        carry[LAST_KEPT] = c;
         return Taken {
             used,
             skipped: one_more(skipped),
@@ -168,7 +178,7 @@ fn with_cr(carry: &mut [u8], used: usize, skipped: u16, cr: bool) -> Taken
     ensures { λ r. ⌜ Grown (now (carry .entry)) used (with-CR (held (now (carry .entry)) used skipped cr)) (r .used) (r .skipped) (now (carry .exit)) ⌝ }
 {
     if cr {
-        return push(carry, used, skipped, 13);
+        return push(carry, used, skipped, chars::CR);
     }
     Taken { used, skipped }
 }
@@ -180,7 +190,7 @@ fn add(carry: &mut [u8], used: usize, skipped: u16, cr: bool, c: u8) -> Held
     ensures { λ r. ⌜ r .cr ≡ added (held (now (carry .entry)) used skipped cr) c .cr ⌝ }
 {
     let n = with_cr(carry, used, skipped, cr);
-    if c == 13 {
+    if c == chars::CR {
         return Held {
             used: n.used,
             skipped: n.skipped,
@@ -214,7 +224,7 @@ fn gather_bytes(
     let mut w = cr;
     while i < chunk.len() {
         let c = chunk[i];
-        if c == 10 {
+        if c == chars::LF {
             return Gathered {
                 position: i,
                 used: n,
@@ -254,7 +264,7 @@ fn ends_in_cr(line: &[u8]) -> bool
     if line.len() == 0 {
         return false;
     }
-    line[line.len() - 1] == 13
+    line[line.len() - 1] == chars::CR
 }
 
 // The same as `gather_bytes`, but in one go where no CR waits, the line fits, and the chunk has bytes enough that it pays.
@@ -279,7 +289,7 @@ fn gather(
     let mut n = 0;
     let line = reader::first_line(&chunk[position..], &mut n);
     let len = line.len();
-    if len > 522 - used {
+    if len > MOST_KEPT - used {
         return gather_bytes(chunk, position, carry, used, skipped, cr);
     }
     copy(line, carry, used);
@@ -320,7 +330,7 @@ fn find(chunk: &[u8], position: usize, empties: usize) -> Cut
         let line = reader::first_line(&chunk[from..], &mut n);
         let len = line.len();
         let next = from + n;
-        if chunk[next - 1] != 10 {
+        if chunk[next - 1] != chars::LF {
             return Cut::Open {
                 from,
                 empties: passed,
@@ -391,13 +401,13 @@ fn plain(reply: ChunkReply, state: Chunks) -> ChunkStep
 fn place_in_line(place: u16, skipped: u16) -> u16
     ensures { λ r. ⌜ r ≡ place-in-line skipped place ⌝ }
 {
-    if place != 521 {
+    if place != LAST_KEPT_NAMED {
         return place;
     }
-    if skipped > 65014 {
-        return 65535;
+    if skipped > LAST_NAMED - LAST_KEPT_NAMED {
+        return LAST_NAMED;
     }
-    521 + skipped
+    LAST_KEPT_NAMED + skipped
 }
 
 // A refusal of what a carry holds, as one of its line: one that names the carry's last byte names its place there.
@@ -450,7 +460,7 @@ fn settle(
             }
         }
         Answer::Refused(e) => {
-            if e.number() == 10 {
+            if e.is_pool_full() {
                 return plain(ChunkReply::Refused(e), s);
             }
             let finished = either(last, options.stop_after_first_error);
@@ -522,7 +532,7 @@ fn fresh(
 fn left_out(s: Chunks) -> u16
     ensures { λ r. ⌜ r ≡ left-out s ⌝ }
 {
-    if s.used < 522 {
+    if s.used < MOST_KEPT {
         return 0;
     }
     s.skipped
@@ -627,10 +637,10 @@ impl Chunks {
     pub fn next(self, chunk: &[u8], carry: &mut [u8], pool: &mut [u8], at: usize) -> ChunkStep
         ensures { λ r. ⌜ NextChunk self (now (chunk .entry)) (now (carry .entry)) (now (pool .entry)) at r (now (carry .exit)) (now (pool .exit)) ⌝ }
     {
-        if carry.len() < 522 {
+        if carry.len() < MOST_KEPT {
             return plain(ChunkReply::CarryTooSmall, self);
         }
-        if self.used > 522 {
+        if self.used > MOST_KEPT {
             return plain(ChunkReply::CarryTooSmall, self);
         }
         if self.finished {
@@ -647,10 +657,10 @@ impl Chunks {
     pub fn finish(self, carry: &mut [u8], pool: &mut [u8], at: usize) -> ChunkStep
         ensures { λ r. ⌜ Finish self (now (carry .entry)) (now (pool .entry)) at r (now (carry .exit)) (now (pool .exit)) ⌝ }
     {
-        if carry.len() < 522 {
+        if carry.len() < MOST_KEPT {
             return plain(ChunkReply::CarryTooSmall, self);
         }
-        if self.used > 522 {
+        if self.used > MOST_KEPT {
             return plain(ChunkReply::CarryTooSmall, self);
         }
         if self.finished {

@@ -10,7 +10,7 @@ ghost use mathlib.Core.List.{[], _∷_, _++_};
 ghost use Prim.Native.Nat.{_+_, _*_, _≤_, _<_};
 ghost use lib.ListN.{length};
 ghost use Rattle.record.specs.Record.{meant};
-ghost use Rattle.record.specs.Written.{capital-digit, spelt, two-bytes};
+ghost use Rattle.record.specs.Written.{spelt, two-bytes};
 ghost use Rattle.record.specs.Meaning.{data-at};
 ghost use Rattle.reader.specs.Told.{refusal-of};
 ghost use Rattle.listing.specs.Listing.{decimal, spaced, record-entry, refusal-entry, shown, heading, count-line, answers};
@@ -41,17 +41,6 @@ struct Entries {
     count: usize,
 }
 
-// The capital digit of a value.
-fn capital_digit(x: u8) -> u8
-    requires { ⌜ x < 16 ⌝ }
-    ensures { λ r. ⌜ r ≡ capital-digit x ⌝ }
-{
-    if x < 10 {
-        return 48 + x;
-    }
-    55 + x
-}
-
 // One character, at a place; the place behind it is answered, as by all that follow.
 fn put_char(c: u8, out: &mut [u8], at: usize) -> usize
     requires { ⌜ at + 1 ≤ length (now out) ⌝ }
@@ -66,8 +55,8 @@ fn put_byte(b: u8, out: &mut [u8], at: usize) -> usize
     requires { ⌜ at + 2 ≤ length (now out) ⌝ }
     ensures { λ r. ⌜ Puts (now (out .entry)) at (spelt (b ∷ [])) r (now (out .exit)) ⌝ }
 {
-    let low = put_char(capital_digit(b / 16), out, at);
-    put_char(capital_digit(b % 16), out, low)
+    let low = put_char(digits::capital_digit(b / 16), out, at);
+    put_char(digits::capital_digit(b), out, low)
 }
 
 // Two bytes, high byte first.
@@ -112,10 +101,10 @@ fn put_decimal(n: usize, out: &mut [u8], at: usize) -> usize
     ensures { λ r. ⌜ Puts (now (out .entry)) at (decimal n) r (now (out .exit)) ⌝ }
 {
     if n < 10 {
-        return put_char(capital_digit(n as u8), out, at);
+        return put_char(digits::capital_digit(n as u8), out, at);
     }
     let last = put_decimal(n / 10, out, at);
-    put_char(capital_digit((n % 10) as u8), out, last)
+    put_char(digits::capital_digit((n % 10) as u8), out, last)
 }
 
 // A data record: no space behind its address where it has no payload.

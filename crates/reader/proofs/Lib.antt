@@ -1,4 +1,3 @@
-pub mod Offender
 pub mod Decoding
 pub mod Payload
 pub mod Answers

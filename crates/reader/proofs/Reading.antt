@@ -3,12 +3,11 @@
 -- Assumes nothing.
 use Prim.Native.Nat.{ℕ, _-_}
 use mathlib.Core.Path.{_≡_, refl, sym, _∙_, ap, ap₂, subst}
-use mathlib.Core.Logic.{_≢_}
 use mathlib.Core.Bool.{Bool, true, false}
 use mathlib.Core.List.{List, [], _∷_}
 use native.Mathlib.Omega.{arith}
 use lib.ListN.{length, take, drop, length-drop}
-use borrow.Author.Tests.{eq-eqb, ne-eqb}
+use lib.Dec.{eqb}
 use Rattle.record.specs.Common.{if_then_else_, pasted}
 use Rattle.record.specs.Refusals.{number-of, pool-full}
 use Rattle.record.specs.Line.{Said, says, wrong, judge}
@@ -18,10 +17,11 @@ use Rattle.record.proofs.Tests.{if-true, if-false}
 use Rattle.reader.specs.declared.Answer.{Answer}
 use Rattle.reader.specs.declared.Answer.the-variants.{Read, Refused}
 use Rattle.reader.specs.declared.ReaderError.{ReaderError}
+use Rattle.reader.specs.declared.ReaderError.the-variants.{MissingStartCode, RecordTooShort, RecordTooLong, RecordNotEvenLength, ContainsInvalidCharacters, ChecksumMismatch, PayloadLengthMismatch, UnsupportedRecordType, InvalidLengthForType, PoolFull}
 use Rattle.reader.specs.declared.Reply.the-variants as reply
 use Rattle.reader.specs.declared.State.{State}
 use Rattle.reader.specs.declared.Step.{Step}
-use Rattle.reader.specs.Told.{Told, gives, refuses, done, told, refusal-of}
+use Rattle.reader.specs.Told.{Told, gives, refuses, done, told, refusal-of, is-pool-full}
 use Rattle.reader.specs.Answer.{room, given, kept, answered, poured, ReadRecord}
 use Rattle.reader.specs.Lines.{Found, a-line, no-line, next-line}
 use Rattle.reader.specs.Text.{told-reply, is-full, ends-row, behind, at-end, next-number, Outcome, of-found, outcome, Meets, Next}
@@ -29,21 +29,34 @@ use Rattle.reader.specs.Helpers.{Settled, Ahead}
 
 -- ---- one answer
 
+-- PoolFull has a number of its own
+pub full-by-number : (e : ReaderError) → is-pool-full e ≡ eqb (number-of (refusal-of e)) (number-of pool-full)
+full-by-number MissingStartCode = refl
+full-by-number RecordTooShort = refl
+full-by-number RecordTooLong = refl
+full-by-number RecordNotEvenLength = refl
+full-by-number (ContainsInvalidCharacters place) = refl
+full-by-number (ChecksumMismatch computed stated) = refl
+full-by-number PayloadLengthMismatch = refl
+full-by-number (UnsupportedRecordType kind) = refl
+full-by-number InvalidLengthForType = refl
+full-by-number PoolFull = refl
+
 module _ (s : State) (answer : Answer) (position line : ℕ) where
   pub settle-read : (r : Record) (end : Bool) → answer ≡ Read r → end ≡ ends-row (s .options) (told (Read r))
       → Settled s (told answer) position line (record { reply = reply.Read r; state = behind s position line end })
   unfolding is-full
   settle-read r end e f = rw (e, f) (record { answer = refl; state = refl })
 
-  pub settle-full : (e : ReaderError) → answer ≡ Refused e → number-of (refusal-of e) ≡ 10
+  pub settle-full : (e : ReaderError) → answer ≡ Refused e → is-pool-full e ≡ true
       → Settled s (told answer) position line (record { reply = reply.Refused e; state = s })
   unfolding is-full
-  settle-full e a n = rw a (record { answer = refl; state = rw (eq-eqb (number-of (refusal-of e)) 10 n) })
+  settle-full e a n = rw a (record { answer = refl; state = rw (sym (full-by-number e) ∙ n) })
 
-  pub settle-refused : (e : ReaderError) → answer ≡ Refused e → number-of (refusal-of e) ≢ 10
+  pub settle-refused : (e : ReaderError) → answer ≡ Refused e → is-pool-full e ≡ false
       → Settled s (told answer) position line (record { reply = reply.Refused e; state = behind s position line (s .options .«stop_after_first_error») })
   unfolding is-full ends-row
-  settle-refused e a n = rw a (record { answer = refl; state = rw (ne-eqb (number-of (refusal-of e)) 10 n) })
+  settle-refused e a n = rw a (record { answer = refl; state = rw (sym (full-by-number e) ∙ n) })
 
 -- ---- one call
 

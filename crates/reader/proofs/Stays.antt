@@ -29,7 +29,7 @@ use Rattle.reader.specs.Lines.{lines, later, Found, a-line, no-line, nex
 use Rattle.reader.specs.Row.{Numbered, on, number, sayings, stops, through-stop, stopped, row}
 use Rattle.reader.specs.Text.{told-reply, is-full, ends-row, behind, at-end, next-number, Outcome, of-found, outcome}
 use Rattle.reader.specs.Calls.{no-more, one-more}
-use Rattle.reader.specs.Claims.{Done-stays, Done-behind, Full-keeps, Room-is-enough, Pool-blind, Same-through, Nothing-behind, Next-unique, Default-unique, Ends-unique, New-unique, Number-unique, Figures-unique}
+use Rattle.reader.specs.Claims.{Done-stays, Done-behind, Full-keeps, Room-is-enough, Pool-blind, Same-through, Nothing-behind, Next-unique, Default-unique, Ends-unique, New-unique, Number-unique, Figures-unique, Is-pool-full-unique}
 use Rattle.reader.proofs.Claims.{untold, untold-told}
 use Rattle.reader.proofs.Cutting.{lines-closed, Head, through-head}
 use Rattle.reader.proofs.Reading.{full-keeps, outcome-finished, outcome-found}
@@ -261,3 +261,6 @@ figures-unique e r r′ x y = same (x .number-is ∙ sym (y .number-is)) (x .val
   where
     same : {n n′ : ℕ} {v v′ : Values} → n ≡ n′ → v ≡ v′ → _≡_ {A = Figures} (record { number = n; values = v }) (record { number = n′; values = v′ })
     same e f = rw (e, f)
+
+pub is-pool-full-unique : Is-pool-full-unique
+is-pool-full-unique e r r′ x y = x .answer ∙ sym (y .answer)

@@ -27,7 +27,7 @@ use Rattle.reader.specs.Told.{Told, gives, refuses, done, told, FiguresO
 use Rattle.reader.specs.Answer.{ReadRecord, answered}
 use Rattle.reader.specs.Lines.{Joins, lines, through}
 use Rattle.reader.specs.Row.{Numbered, on, number, sayings, stopped, row}
-use Rattle.reader.specs.Text.{FirstLine, new-state, outcome, Next, Default, Ends, New, Number}
+use Rattle.reader.specs.Text.{FirstLine, new-state, outcome, Next, Default, Ends, New, Number, IsPoolFull}
 use Rattle.reader.specs.Calls.{Call, Given, Never-full, Calls, replies, one-by-one}
 
 -- ---- one line
@@ -205,3 +205,6 @@ Number-unique = (e : ReaderError) (r r′ : ℕ) → Number e r → Number e r�
 
 abbrev pub Figures-unique : Type 0
 Figures-unique = (e : ReaderError) (r r′ : Figures) → FiguresOf e r → FiguresOf e r′ → r ≡ r′
+
+abbrev pub Is-pool-full-unique : Type 0
+Is-pool-full-unique = (e : ReaderError) (r r′ : Bool) → IsPoolFull e r → IsPoolFull e r′ → r ≡ r′

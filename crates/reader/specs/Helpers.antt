@@ -1,15 +1,13 @@
 -- What the helpers of the readers ask of and promise each other.
 -- Assumes nothing.
-use Prim.Native.Nat.{ℕ, suc, _+_, _*_, _%_, _<_, _≤_}
+use Prim.Native.Nat.{ℕ, suc, _+_, _%_, _<_, _≤_}
 use mathlib.Core.Path.{_≡_}
 use mathlib.Core.Logic.{_≢_}
 use mathlib.Core.List.{List}
-use mathlib.Core.Bool.{true}
-use lib.Dec.{ltb}
 use lib.ListN.{length, getD, take, drop}
 use Rattle.checksum.specs.Checksum.{sum}
 use Rattle.record.specs.declared.Record.{Record}
-use Rattle.record.specs.Digits.{all-digits, leading, bytes}
+use Rattle.record.specs.Digits.{leading}
 use Rattle.record.specs.Line.{named}
 use Rattle.record.specs.Meaning.{meaning}
 use Rattle.reader.specs.declared.Answer.the-variants.{Read}
@@ -24,18 +22,6 @@ use Rattle.reader.specs.Told.{Told, told}
 use Rattle.reader.specs.Text.{told-reply, is-full, ends-row, behind}
 use Rattle.record.specs.Common.{if_then_else_}
 use Rattle.reader.specs.Answer.{given}
-
--- a line of n pairs of characters behind its colon, and a buffer for the bytes of the longest line
-pub record Decodable (line : List ℕ) (n : ℕ) (buf : List ℕ) : Type 0 where
-  pub sized : length line ≡ 1 + 2 * n
-  pub most : n ≤ 260
-  pub room : 260 ≤ length buf
-
--- digits that were decoded into a buffer's first n places: whether each is one; if so, the buffer has the bytes that they spell, and the sum is theirs
-pub record Decoded (ds : List ℕ) (n seen total : ℕ) (buf : List ℕ) : Type 0 where
-  pub digits : ltb seen 16 ≡ all-digits ds
-  pub spelt : all-digits ds ≡ true → take n buf ≡ bytes ds
-  pub sums : all-digits ds ≡ true → total ≡ sum (bytes ds) % 256
 
 -- refusal 2 of a line, whose first byte is the colon
 abbrev pub invalid-at : (line : List ℕ) → ReaderError

@@ -18,7 +18,7 @@ use Rattle.reader.specs.declared.State.{State}
 use Rattle.reader.specs.declared.Reply.{Reply}
 use Rattle.reader.specs.declared.Reply.the-variants.{Read, Refused, Done}
 use Rattle.reader.specs.declared.Step.{Step}
-use Rattle.reader.specs.Told.{Told, gives, refuses, done, refusal-of}
+use Rattle.reader.specs.Told.{Told, gives, refuses, done, refusal-of, is-pool-full}
 use Rattle.reader.specs.Answer.{answered, poured}
 use Rattle.reader.specs.Lines.{first-line, rest, Found, a-line, no-line, next-line}
 
@@ -122,3 +122,7 @@ pub record New (options : ReaderOptions) (r : State) : Type 0 where
 -- the contract of `ReaderError::number`
 pub record Number (e : ReaderError) (r : ℕ) : Type 0 where
   pub answer : r ≡ number-of (refusal-of e)
+
+-- the contract of `ReaderError::is_pool_full`
+pub record IsPoolFull (e : ReaderError) (r : Bool) : Type 0 where
+  pub answer : r ≡ is-pool-full e

@@ -2,6 +2,7 @@
 -- Assumes nothing.
 use Prim.Native.Nat.{ℕ}
 use mathlib.Core.Path.{_≡_}
+use mathlib.Core.Bool.{Bool, true, false}
 use mathlib.Core.List.{List, [], _∷_}
 use lib.Dec.{eqb}
 use Rattle.record.specs.Common.{if_then_else_}
@@ -31,6 +32,18 @@ refusal-of PayloadLengthMismatch = payload-length-mismatch
 refusal-of (UnsupportedRecordType kind) = unsupported-record-type kind
 refusal-of InvalidLengthForType = invalid-length-for-type
 refusal-of PoolFull = pool-full
+
+abbrev pub is-pool-full : ReaderError → Bool
+is-pool-full MissingStartCode = false
+is-pool-full RecordTooShort = false
+is-pool-full RecordTooLong = false
+is-pool-full RecordNotEvenLength = false
+is-pool-full (ContainsInvalidCharacters place) = false
+is-pool-full (ChecksumMismatch computed stated) = false
+is-pool-full PayloadLengthMismatch = false
+is-pool-full (UnsupportedRecordType kind) = false
+is-pool-full InvalidLengthForType = false
+is-pool-full PoolFull = true
 
 abbrev pub told : Answer → Told
 told (Read r) = gives (type-of r) (numbers-of r)

@@ -1,23 +1,27 @@
 // Intel HEX read: one line to a record, and a text to a row of answers.
 use record::Record;
+use record::byte_counts;
+use record::char_counts;
+use record::chars;
+use record::payload_sizes;
 use record::refusals;
 use record::types;
 ghost use mathlib.Core.Path.{_≡_};
 ghost use mathlib.Core.Bool.{true, false};
-ghost use Prim.Native.Nat.{suc, _+_, _-_, _*_, _%_, _≤_, _<_};
+ghost use Prim.Native.Nat.{_+_, _-_, _*_, _%_, _≤_, _<_};
 ghost use lib.ListN.{length, take, drop};
 ghost use lib.Seq.{paste};
 ghost use lib.Dec.{eqb};
 ghost use Rattle.record.specs.Common.{if_then_else_};
-ghost use Rattle.record.specs.Digits.{all-digits, leading};
-ghost use Rattle.record.specs.Line.{size, judge-bytes, says, named};
+ghost use Rattle.record.specs.Digits.{all-digits};
+ghost use Rattle.record.specs.Line.{size, judge-bytes, says};
 ghost use Rattle.reader.specs.declared.Values.the-variants.{Nothing};
 ghost use Rattle.reader.specs.Told.{told, FiguresOf};
 ghost use Rattle.reader.specs.Answer.{ReadRecord, Reads, word};
 ghost use Rattle.reader.specs.Lines.{rest};
-ghost use Rattle.reader.specs.Text.{FirstLine, Default, Ends, New, Next, Number, default-options, at-end};
+ghost use Rattle.reader.specs.Text.{FirstLine, Default, Ends, New, Next, Number, IsPoolFull, default-options, at-end};
 ghost use Rattle.reader.specs.Held.{Opened, Asked};
-ghost use Rattle.reader.specs.Helpers.{NoFeed, FirstFeed, LineEnd, Spotted, Settled, invalid-at, Decodable, Decoded, Special, Summed};
+ghost use Rattle.reader.specs.Helpers.{NoFeed, FirstFeed, LineEnd, Spotted, Settled, invalid-at, Special, Summed};
 
 // Why a line gives no record, in the crate's order.
 pub enum ReaderError {
@@ -25,7 +29,7 @@ pub enum ReaderError {
     RecordTooShort,
     RecordTooLong,
     RecordNotEvenLength,
-    // The place of the first byte behind the colon that is no digit, the colon's being 0; 65,535 for any place beyond that.
+    // The place of the first byte after the colon that is not a digit, the colon's being 0; 65,535 for any place beyond that.
     ContainsInvalidCharacters(u16),
     // The computed checksum, and the stated one.
     ChecksumMismatch(u8, u8),
@@ -94,69 +98,6 @@ enum Spot {
     Nothing,
 }
 
-// The place of the first byte behind the colon that is no digit, or behind the line where each is one.
-fn first_other(line: &[u8]) -> usize
-    ensures { λ r. ⌜ r ≡ suc (leading (drop 1 (now (line .entry)))) ⌝ }
-{
-    let mut i = 1;
-    while i < line.len() {
-        if record::digit_value(line[i]) >= 16 {
-            return i;
-        }
-        i += 1;
-    }
-    i
-}
-
-// A place as a refusal names it.
-fn name_place(place: usize) -> u16
-    ensures { λ r. ⌜ r ≡ named place ⌝ }
-{
-    if place > 65535 {
-        return 65535;
-    }
-    place as u16
-}
-
-// The byte that two digits spell.
-fn pair(high: u8, low: u8) -> u8
-    ensures { λ r. ⌜ r ≡ (high * 16 + low) % 256 ⌝ }
-{
-    (((high as u16) * 16 + (low as u16)) % 256) as u8
-}
-
-// 16 where a byte is no digit, else 0; and the sum of the bytes up to there.
-struct Scan {
-    seen: u8,
-    sum: u8,
-}
-
-// Decodes the 2n digits behind the colon into the buffer and sums the bytes, up to a byte that is no digit. Without the exits the compiler
-// spreads the loop over vectors, and the code grows threefold.
-fn decode(line: &[u8], n: usize, buf: &mut [u8]) -> Scan
-    requires { ⌜ Decodable (now line) n (now buf) ⌝ }
-    ensures { λ r. ⌜ Decoded (drop 1 (now (line .entry))) n (r .seen) (r .sum) (now (buf .exit)) ⌝ }
-{
-    let mut sum: u8 = 0;
-    let mut i = 0;
-    while i < n {
-        let p = 1 + 2 * i;
-        let high = record::digit_value(line[p]);
-        if high >= 16 {
-            return Scan { seen: high, sum };
-        }
-        let low = record::digit_value(line[p + 1]);
-        if low >= 16 {
-            return Scan { seen: low, sum };
-        }
-        let byte = pair(high, low);
-        sum = std::num::wrapping_add_u8(sum, byte);
-        buf[i] = byte;
-        i += 1;
-    }
-    Scan { seen: 0, sum }
-}
-
 // Two bytes, high byte first.
 fn word16(high: u8, low: u8) -> u16
     ensures { λ r. ⌜ r ≡ high * 256 + low ⌝ }
@@ -182,15 +123,15 @@ fn size_of(kind: u8) -> usize
     ensures { λ r. ⌜ r ≡ size kind ⌝ }
 {
     if kind == types::END_OF_FILE {
-        return 0;
+        return payload_sizes::END_OF_FILE;
     }
     if kind == types::EXTENDED_SEGMENT_ADDRESS {
-        return 2;
+        return payload_sizes::EXTENDED_SEGMENT_ADDRESS;
     }
     if kind == types::EXTENDED_LINEAR_ADDRESS {
-        return 2;
+        return payload_sizes::EXTENDED_LINEAR_ADDRESS;
     }
-    4
+    payload_sizes::START_LINEAR_ADDRESS
 }
 
 // The record of a type from 01 to 05 whose payload, the buffer's bytes from the fifth on, has its type's size.
@@ -255,7 +196,7 @@ fn judge_bytes(buf: &[u8], m: usize, sum: u8, pool: &mut [u8], at: usize) -> Ans
     ensures { λ r. ⌜ Reads (judge-bytes (take m (now (buf .entry)))) (now (pool .entry)) at r (now (pool .exit)) ⌝ }
 {
     let last = m - 1;
-    let n = m - 5;
+    let n = m - byte_counts::AROUND_PAYLOAD;
     if sum != 0 {
         let stated = buf[last];
         let computed = std::num::wrapping_sub_u8(stated, sum);
@@ -277,13 +218,16 @@ fn judge_bytes(buf: &[u8], m: usize, sum: u8, pool: &mut [u8], at: usize) -> Ans
     Answer::Read(special(kind, buf))
 }
 
-// The given refusal, unless a byte behind the colon is no digit.
+// The given refusal, unless a byte after the colon is not a digit.
 fn digits_or(line: &[u8], e: ReaderError) -> Answer
+    requires { ⌜ 0 < length (now line) ⌝ }
     ensures { λ r. ⌜ r ≡ (if all-digits (drop 1 (now (line .entry))) then Answer.Refused e else Answer.Refused (invalid-at (now (line .entry)))) ⌝ }
 {
-    let place = first_other(line);
-    if place < line.len() {
-        return Answer::Refused(ReaderError::ContainsInvalidCharacters(name_place(place)));
+    let good = digits::first_other(&line[1..]);
+    if good < line.len() - 1 {
+        return Answer::Refused(ReaderError::ContainsInvalidCharacters(digits::name_place(
+            good + 1,
+        )));
     }
     Answer::Refused(e)
 }
@@ -296,24 +240,27 @@ fn read_with(buf: &mut [u8], line: &[u8], pool: &mut [u8], at: usize) -> Answer
     if line.len() == 0 {
         return Answer::Refused(ReaderError::MissingStartCode);
     }
-    if line[0] != b':' {
+    if line[0] != chars::COLON {
         return Answer::Refused(ReaderError::MissingStartCode);
     }
     let n = line.len() - 1;
-    if n < 10 {
+    if n < char_counts::FEWEST_DIGITS {
         return digits_or(line, ReaderError::RecordTooShort);
     }
-    if n > 520 {
+    if n > char_counts::MOST_DIGITS {
         return digits_or(line, ReaderError::RecordTooLong);
     }
     if n % 2 != 0 {
         return digits_or(line, ReaderError::RecordNotEvenLength);
     }
     let m = n / 2;
-    let scan = decode(line, m, buf);
-    if scan.seen >= 16 {
-        let place = first_other(line);
-        return Answer::Refused(ReaderError::ContainsInvalidCharacters(name_place(place)));
+    let scan = digits::decode(&line[1..], buf);
+    let whole = scan.whole;
+    if !whole {
+        let good = digits::first_other(&line[1..]);
+        return Answer::Refused(ReaderError::ContainsInvalidCharacters(digits::name_place(
+            good + 1,
+        )));
     }
     judge_bytes(buf, m, scan.sum, pool, at)
 }
@@ -322,7 +269,7 @@ fn read_with(buf: &mut [u8], line: &[u8], pool: &mut [u8], at: usize) -> Answer
 pub fn read_record(line: &[u8], pool: &mut [u8], at: usize) -> Answer
     ensures { λ r. ⌜ ReadRecord (now (line .entry)) (now (pool .entry)) at r (now (pool .exit)) ⌝ }
 {
-    let mut buf = [0u8; 260];
+    let mut buf = [0u8; byte_counts::MOST];
     read_with(&mut buf, line, pool, at)
 }
 
@@ -330,7 +277,7 @@ pub fn read_record(line: &[u8], pool: &mut [u8], at: usize) -> Answer
 fn is_feed(c: u8) -> u8
     ensures { λ r. ⌜ r ≡ (if eqb c 10 then 1 else 0) ⌝ }
 {
-    if c == 10 {
+    if c == chars::LF {
         return 1;
     }
     0
@@ -357,7 +304,7 @@ fn feed_from(text: &[u8], from: usize) -> usize
 {
     let mut i = from;
     while i < text.len() {
-        if text[i] == 10 {
+        if text[i] == chars::LF {
             return i;
         }
         i += 1;
@@ -391,7 +338,7 @@ fn line_len(text: &[u8], feed: usize) -> usize
         return feed;
     }
     let before = feed - 1;
-    if text[before] == 13 {
+    if text[before] == chars::CR {
         return before;
     }
     feed
@@ -486,6 +433,24 @@ impl ReaderError {
     {
         self.figures().number
     }
+
+    // Whether it is PoolFull, the only refusal that does not use its line up.
+    pub fn is_pool_full(self) -> bool
+        ensures { λ r. ⌜ IsPoolFull self r ⌝ }
+    {
+        match self {
+            ReaderError::MissingStartCode => false,
+            ReaderError::ContainsInvalidCharacters(_) => false,
+            ReaderError::RecordTooShort => false,
+            ReaderError::RecordTooLong => false,
+            ReaderError::RecordNotEvenLength => false,
+            ReaderError::ChecksumMismatch(_, _) => false,
+            ReaderError::PayloadLengthMismatch => false,
+            ReaderError::UnsupportedRecordType(_) => false,
+            ReaderError::InvalidLengthForType => false,
+            ReaderError::PoolFull => true,
+        }
+    }
 }
 
 impl ReaderOptions {
@@ -526,7 +491,7 @@ fn settle(s: State, answer: Answer, position: usize, line: usize) -> Step
             },
         },
         Answer::Refused(e) => {
-            if e.number() == 10 {
+            if e.is_pool_full() {
                 return Step {
                     reply: Reply::Refused(e),
                     state: s,

@@ -73,6 +73,59 @@ pub mod refusals {
     pub const BAD_MARK: u8 = 19;
 }
 
+// The characters that a text has a meaning for, beside digits.
+pub mod chars {
+    pub const COLON: u8 = b':';
+
+    pub const LF: u8 = b'\n';
+
+    pub const CR: u8 = b'\r';
+}
+
+// How many payload bytes a record of a type has.
+pub mod payload_sizes {
+    pub const MOST_DATA: usize = 255;
+
+    pub const END_OF_FILE: usize = 0;
+
+    pub const EXTENDED_SEGMENT_ADDRESS: usize = 2;
+
+    pub const START_SEGMENT_ADDRESS: usize = 4;
+
+    pub const EXTENDED_LINEAR_ADDRESS: usize = 2;
+
+    pub const START_LINEAR_ADDRESS: usize = 4;
+}
+
+// How many bytes a line spells.
+pub mod byte_counts {
+    // Length, address, type and checksum.
+    pub const AROUND_PAYLOAD: usize = 5;
+
+    pub const MOST: usize = 260;
+}
+
+// How many characters a line has.
+pub mod char_counts {
+    // The digits of the shortest line, and of the longest.
+    pub const FEWEST_DIGITS: usize = 10;
+
+    pub const MOST_DIGITS: usize = 520;
+
+    // The colon and the digits before the payload.
+    pub const BEFORE_PAYLOAD: usize = 9;
+
+    // A line with a payload of no byte, of two and of four.
+    pub const NO_PAYLOAD: usize = 11;
+
+    pub const TWO_BYTES: usize = 15;
+
+    pub const FOUR_BYTES: usize = 19;
+
+    // One more than the longest line has: of a longer line no more is kept.
+    pub const MOST_KEPT: usize = 522;
+}
+
 impl Record {
     // The record's type.
     pub fn record_type(self) -> u8

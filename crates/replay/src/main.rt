@@ -315,7 +315,7 @@ fn say_reply(reply: Reply) -> bool {
         }
         Reply::Refused(e) => {
             say_refusal(e);
-            e.number() != 10
+            !e.is_pool_full()
         }
         Reply::Done => {
             io::write_all(1, b"done");

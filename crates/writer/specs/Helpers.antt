@@ -20,11 +20,6 @@ pub record Head (n address kind : ℕ) (out : List ℕ) (at r : ℕ) (out′ : L
   pub sums : r ≡ sum (front n address kind) % 256
   pub left : out′ ≡ pasted out at (58 ∷ spelt (front n address kind))
 
--- a payload was put at a place, and its bytes, with a sum before them, sum to r
-pub record Payload (payload : List ℕ) (before : ℕ) (out : List ℕ) (at r : ℕ) (out′ : List ℕ) : Type 0 where
-  pub sums : r ≡ (before + sum payload) % 256
-  pub left : out′ ≡ pasted out at (spelt payload)
-
 -- a line with the payload fits at the place
 pub record Fitting (payload out : List ℕ) (at : ℕ) : Type 0 where
   pub most : length payload ≤ 255

@@ -1,18 +1,21 @@
 // Intel HEX written: one record to a line, a list to an object's text, and the survey and the step that it is made of.
 use record::Record;
+use record::char_counts;
+use record::chars;
+use record::payload_sizes;
 use record::types;
 ghost use mathlib.Core.Path.{_≡_};
 ghost use mathlib.Core.List.{[], _∷_};
 ghost use Prim.Native.Nat.{_+_, _*_, _/_, _%_, _≤_, _<_};
 ghost use lib.ListN.{length};
 ghost use Rattle.record.specs.Common.{if_then_else_, pasted};
-ghost use Rattle.record.specs.Written.{capital-digit, spelt, written};
+ghost use Rattle.record.specs.Written.{spelt, written};
 ghost use Rattle.writer.specs.Told.{told};
 ghost use Rattle.writer.specs.Text.{place-behind};
 ghost use Rattle.writer.specs.Line.{ToRecordString, WriteStep, WriteNext, line, line-text};
 ghost use Rattle.writer.specs.Object.{is-end, WriteObject};
 ghost use Rattle.writer.specs.Survey.{SurveyNew, SurveyAdd, SurveyAnswer, SurveyBegin, cap, longer};
-ghost use Rattle.writer.specs.Helpers.{Head, Payload, Fitting, Ready};
+ghost use Rattle.writer.specs.Helpers.{Head, Fitting, Ready};
 ghost use Rattle.writer.specs.Claims.{Surveys};
 
 // The largest number of a `usize`.
@@ -39,21 +42,13 @@ pub enum Written {
     Refused(WriterError),
 }
 
-// The capital digit of a value below 16.
-fn capital_digit(x: u8) -> u8
-    requires { ⌜ x < 16 ⌝ }
-    ensures { λ r. ⌜ r ≡ capital-digit x ⌝ }
-{
-    if x < 10 { 48 + x } else { 55 + x }
-}
-
 // A byte's two digits.
 fn put(byte: u8, out: &mut [u8], at: usize)
     requires { ⌜ at + 2 ≤ length (now out) ⌝ }
     ensures { λ _. ⌜ now (out .exit) ≡ pasted (now (out .entry)) at (spelt (byte ∷ [])) ⌝ }
 {
-    out[at] = capital_digit(byte / 16);
-    out[at + 1] = capital_digit(byte % 16);
+    out[at] = digits::capital_digit(byte / 16);
+    out[at + 1] = digits::capital_digit(byte);
 }
 
 // The high byte of two.
@@ -77,7 +72,7 @@ fn put_head(n: u8, address: u16, kind: u8, out: &mut [u8], at: usize) -> u8
 {
     let top = high(address);
     let rest = low(address);
-    out[at] = b':';
+    out[at] = chars::COLON;
     put(n, out, at + 1);
     put(top, out, at + 3);
     put(rest, out, at + 5);
@@ -87,24 +82,6 @@ fn put_head(n: u8, address: u16, kind: u8, out: &mut [u8], at: usize) -> u8
     std::num::wrapping_add_u8(first, second)
 }
 
-// The payload's digits. Gives the sum of the bytes, behind a sum that is had already.
-fn put_payload(payload: &[u8], sum: u8, out: &mut [u8], at: usize) -> u8
-    requires { ⌜ at + 2 * length (now payload) ≤ length (now out) ⌝ }
-    ensures { λ r. ⌜ Payload (now (payload .entry)) sum (now (out .entry)) at r (now (out .exit)) ⌝ }
-{
-    let mut total = sum;
-    let mut p = at;
-    let mut i = 0;
-    while i < payload.len() {
-        let byte = payload[i];
-        put(byte, out, p);
-        total = std::num::wrapping_add_u8(total, byte);
-        p += 2;
-        i += 1;
-    }
-    total
-}
-
 // A line, whole, at a place where it fits.
 fn put_line(kind: u8, address: u16, payload: &[u8], out: &mut [u8], at: usize)
     requires { ⌜ Fitting (now payload) (now out) at ⌝ }
@@ -112,8 +89,9 @@ fn put_line(kind: u8, address: u16, payload: &[u8], out: &mut [u8], at: usize)
 {
     let n = payload.len();
     let first = put_head(n as u8, address, kind, out, at);
-    let sum = put_payload(payload, first, out, at + 9);
-    put(std::num::wrapping_sub_u8(0, sum), out, at + 9 + 2 * n);
+    let from = at + char_counts::BEFORE_PAYLOAD;
+    let sum = digits::spell(payload, first, &mut out[from..]);
+    put(std::num::wrapping_sub_u8(0, sum), out, from + 2 * n);
 }
 
 // The line of a record that has one, at a place where it fits. The address of all but data is 0000.
@@ -166,16 +144,16 @@ fn measure(record: Record, pool: &[u8]) -> Written
             if at > pool.len() - len {
                 return Written::Refused(WriterError::PayloadOutsidePool);
             }
-            if len > 255 {
+            if len > payload_sizes::MOST_DATA {
                 return Written::Refused(WriterError::DataExceedsMaximumLength(len));
             }
-            Written::Wrote(11 + 2 * len)
+            Written::Wrote(char_counts::NO_PAYLOAD + 2 * len)
         }
-        Record::EndOfFile => Written::Wrote(11),
-        Record::ExtendedSegmentAddress(_) => Written::Wrote(15),
-        Record::StartSegmentAddress { cs: _, ip: _ } => Written::Wrote(19),
-        Record::ExtendedLinearAddress(_) => Written::Wrote(15),
-        Record::StartLinearAddress(_) => Written::Wrote(19),
+        Record::EndOfFile => Written::Wrote(char_counts::NO_PAYLOAD),
+        Record::ExtendedSegmentAddress(_) => Written::Wrote(char_counts::TWO_BYTES),
+        Record::StartSegmentAddress { cs: _, ip: _ } => Written::Wrote(char_counts::FOUR_BYTES),
+        Record::ExtendedLinearAddress(_) => Written::Wrote(char_counts::TWO_BYTES),
+        Record::StartLinearAddress(_) => Written::Wrote(char_counts::FOUR_BYTES),
     }
 }
 
@@ -212,7 +190,7 @@ pub fn write_step(record: Record, pool: &[u8], out: &mut [u8], at: usize) -> Wri
             }
             let end = at + n;
             put_record(record, pool, out, at);
-            out[end] = b'\n';
+            out[end] = chars::LF;
             Written::Wrote(end + 1)
         }
     }

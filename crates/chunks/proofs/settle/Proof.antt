@@ -22,8 +22,8 @@ past-line-requires c κs = search needs
 enum-known-answer-2 : tie.Need-enum-known-answer-2
 enum-known-answer-2 c = search needs
 
-number-requires : tie.Need-number-requires
-number-requires c κs = search needs
+is-pool-full-requires : tie.Need-is-pool-full-requires
+is-pool-full-requires c κs = search needs
 
 plain-requires : tie.Need-plain-requires
 plain-requires c κs = search needs
@@ -31,7 +31,7 @@ plain-requires c κs = search needs
 returns : tie.Need-returns
 returns c =
     let a = c .before .before .before .before .before .before .before .args in
-    settle-full (a .s) (a .answer) (a .position) (a .line) (a .last) (a .lies) _ _ (c .before .before .before .before .answer2 .given .1) (sym (c .before .before .number .ensures .answer) ∙ c .before .if1 .taken) (c .plain .ensures)
+    settle-full (a .s) (a .answer) (a .position) (a .line) (a .last) (a .lies) _ _ (c .before .before .before .before .answer2 .given .1) (sym (c .before .before .is-pool-full .ensures .answer) ∙ c .before .if1 .taken) (c .plain .ensures)
 
 either-requires-2 : tie.Need-either-requires-2
 either-requires-2 c κs = search needs
@@ -51,7 +51,7 @@ returns-2 c =
 returns-3 : tie.Need-returns-3
 returns-3 c =
     let a = c .before .before .before .before .before .before .before .before .before .args in
-    settle-refused (a .s) (a .answer) (a .position) (a .line) (a .last) (a .lies) _ _ _ _ (c .before .before .before .before .before .before .answer2 .given .1) (λ e. c .before .before .before .if1 .left (c .before .before .before .before .number .ensures .answer ∙ e))
+    settle-refused (a .s) (a .answer) (a .position) (a .line) (a .last) (a .lies) _ _ _ _ (c .before .before .before .before .before .before .answer2 .given .1) (sym (c .before .before .before .before .is-pool-full .ensures .answer) ∙ c .before .before .before .if1 .left)
     (c .before .past-line2 .ensures) (c .before .before .either2 .ensures) (c .plain2 .ensures)
 
 pub settle-spec : {M : Type 1} → statement M
@@ -63,7 +63,7 @@ settle-spec =
     either-requires
     past-line-requires
     enum-known-answer-2
-    number-requires
+    is-pool-full-requires
     plain-requires
     returns
     either-requires-2

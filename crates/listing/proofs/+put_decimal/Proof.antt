@@ -1,7 +1,7 @@
 -- `listing::put_decimal` meets its contract: one digit, or the digits of a tenth of the number and the last one behind them.
 -- Assumes nothing.
 use Prim.Native.Nat.{ℕ, _/_, _%_, _<_}
-use mathlib.Core.Path.{sym, _∙_, ap}
+use mathlib.Core.Path.{_≡_, sym, _∙_, ap}
 use mathlib.Core.List.{[], _∷_, _++_}
 use native.Mathlib.Omega.{arith}
 use borrow.Author.Needs.{needs}
@@ -16,7 +16,7 @@ use borrow.Fn.PlainCycle.{Measures, is, falls, and}
 use Rattle.listing.proofs.put_decimal.Reads as put-decimal
 use Rattle.listing.proofs.put_decimal.Kinds as put-decimal-kinds
 use Rattle.listing.proofs.+put_decimal.Lts-put_decimal as put-decimal-lts
-use Rattle.listing.proofs.capital_digit.Reads as digit-reads
+use Rattle.digits.proofs.capital_digit.Reads as digit-reads
 use Rattle.listing.proofs.put_char.Reads as put-char-reads
 use Rattle.listing.proofs.+put_decimal.{statement}
 use Rattle.listing.proofs.+put_decimal.Tie.{close}
@@ -82,7 +82,8 @@ put-decimal-returns : (t : ℕ) → put-decimal-lts.Need-returns (
 ) (put-decimal-at t) put-decimal.Post
 put-decimal-returns t c =
     let a = c .before .before .before .before .before .before .before .args in
-    put-as (now (a .out)) (a .at) (ap (λ (x : ℕ). x ∷ []) (c .before .before .before .before .capital-digit .ensures) ∙ sym (decimal-small (a .n) (c .before .before .before .before .before .if1 .taken))) (c .before .before .put-char .ensures)
+    let z : a .n % 16 ≡ a .n = omega (arith, c .before .before .before .before .before .if1 .taken) in
+    put-as (now (a .out)) (a .at) (ap (λ (x : ℕ). x ∷ []) (c .before .before .before .before .capital-digit .ensures .answer ∙ ap capital-digit z) ∙ sym (decimal-small (a .n) (c .before .before .before .before .before .if1 .taken))) (c .before .before .put-char .ensures)
 
 put-decimal-put-decimal-requires : (t : ℕ) → put-decimal-lts.Need-put-decimal-requires (
   digit-reads.Asked,
@@ -154,7 +155,8 @@ put-decimal-returns-2 t c =
     let a = c .before .before .before .before .before .before .before .before .before .before .before .args in
     let l = ap length (decimal-more (a .n) (c .before .before .before .before .before .before .before .before .before .if1 .left)) in
     let m = length-append (decimal (a .n / 10)) (capital-digit (a .n % 10) ∷ []) in
-    put-as (now (a .out)) (a .at) (ap (λ (x : ℕ). decimal (a .n / 10) ++ (x ∷ [])) (c .before .before .before .before .capital-digit2 .ensures) ∙ sym (decimal-more (a .n) (c .before .before .before .before .before .before .before .before .before .if1 .left)))
+    let z : a .n % 10 % 16 ≡ a .n % 10 = omega arith in
+    put-as (now (a .out)) (a .at) (ap (λ (x : ℕ). decimal (a .n / 10) ++ (x ∷ [])) (c .before .before .before .before .capital-digit2 .ensures .answer ∙ ap capital-digit z) ∙ sym (decimal-more (a .n) (c .before .before .before .before .before .before .before .before .before .if1 .left)))
     (put-then (now (a .out)) (a .at) (omega (arith, c .before .before .before .before .before .before .before .before .before .before .before .pre .1)) (c .before .before .before .before .before .before .before .put-decimal .ensures) (c .before .before .put-char2 .ensures))
 
 pub +put-decimal-spec : {M : Type 1} → statement M

@@ -15,13 +15,13 @@ ends-requires c κs = search needs
 enum-known-answer-2 : tie.Need-enum-known-answer-2
 enum-known-answer-2 c = search needs
 
-number-requires : tie.Need-number-requires
-number-requires c κs = search needs
+is-pool-full-requires : tie.Need-is-pool-full-requires
+is-pool-full-requires c κs = search needs
 
 returns : tie.Need-returns
 returns c =
     let a = c .before .before .before .before .before .before .args in
-    settle-full (a .s) (a .answer) (a .position) (a .line) _ (c .before .before .before .answer2 .given .1) (sym (c .before .number .ensures .answer) ∙ c .if1 .taken)
+    settle-full (a .s) (a .answer) (a .position) (a .line) _ (c .before .before .before .answer2 .given .1) (sym (c .before .is-pool-full .ensures .answer) ∙ c .if1 .taken)
 
 returns-2 : tie.Need-returns-2
 returns-2 c =
@@ -31,7 +31,7 @@ returns-2 c =
 returns-3 : tie.Need-returns-3
 returns-3 c =
     let a = c .before .before .before .before .before .before .args in
-    settle-refused (a .s) (a .answer) (a .position) (a .line) _ (c .before .before .before .answer2 .given .1) (λ e. c .if1 .left (c .before .number .ensures .answer ∙ e))
+    settle-refused (a .s) (a .answer) (a .position) (a .line) _ (c .before .before .before .answer2 .given .1) (sym (c .before .is-pool-full .ensures .answer) ∙ c .if1 .left)
 
 pub settle-spec : {M : Type 1} → statement M
 settle-spec =
@@ -40,7 +40,7 @@ settle-spec =
     enum-known-answer
     ends-requires
     enum-known-answer-2
-    number-requires
+    is-pool-full-requires
     returns
     returns-2
     returns-3)

@@ -1,11 +1,9 @@
 -- `writer::put` meets its contract: two stores, one behind the other.
 -- Assumes nothing.
 use native.Mathlib.Omega.{arith}
-use Prim.Native.Nat.{_/_, _%_}
 use denote.Ref.{now}
 use lib.ListN.{length-set}
-use Rattle.record.specs.Written.{capital-digit, spelt}
-use Rattle.record.proofs.Pasting.{pasted-two}
+use Rattle.digits.proofs.Spelling.{put-two}
 use borrow.Author.Needs.{needs}
 use Rattle.writer.proofs.put.Statement.{statement}
 use Rattle.writer.proofs.put.Tie as tie
@@ -29,11 +27,10 @@ same-length : tie.Need-same-length
 same-length c = search needs
 
 returns : tie.Need-returns
-unfolding spelt
 returns c =
     let a = c .before .before .before .args in
-    rw (c .before .capital-digit .ensures, c .capital-digit2 .ensures)
-    (pasted-two (now (a .out)) (a .at) (capital-digit (a .byte / 16)) (capital-digit (a .byte % 16)) (omega arith))
+    put-two (now (a .out)) (a .at) (a .byte) (c .before .capital-digit .result) (c .capital-digit2 .result) (search needs) (omega arith)
+    (c .before .capital-digit .ensures .answer) (c .capital-digit2 .ensures .answer)
 
 pub put-spec : {M : Type 1} → statement M
 put-spec =

@@ -1,30 +1,26 @@
--- `reader::decode` meets its contract. The loop's invariant is `Turn` of `proofs/Decoding.antt`, with the buffer's length.
+-- `digits::decode_pairs` meets its contract. The loop's invariant is `Turn` of `proofs/Decoding.antt`.
 -- Assumes nothing.
-use mathlib.Core.Path.{_≡_, refl}
-use lib.ListN.{length, length-set}
-use Prim.Native.Nat.{_-_}
+use lib.ListN.{length}
+use Prim.Native.Nat.{_-_, _/_}
 use borrow.Author.Needs.{needs}
 use denote.Ref.{now}
-use Rattle.reader.proofs.Decoding.{Turn, turn-first, turn-high, turn-low, turn-more, turn-last}
-use Rattle.reader.proofs.decode.Statement.{statement}
-use Rattle.reader.proofs.decode.Tie as tie
+use Rattle.digits.proofs.Decoding.{Turn, turn-first, turn-high, turn-low, turn-more, turn-last}
+use Rattle.digits.proofs.decode_pairs.Statement.{statement}
+use Rattle.digits.proofs.decode_pairs.Tie as tie
 
 abbrev Inv-loop : tie.InvT-loop
-Inv-loop line n buf₀ sum₀ i₀ buf sum i = Turn line n buf sum i × (length buf ≡ length buf₀)
+Inv-loop ds buf₀ n sum₀ i₀ buf sum i = Turn ds buf₀ buf sum i
 
 abbrev μ-loop : tie.MeasureT-loop
-μ-loop line n buf₀ sum₀ i₀ buf sum i = n - i
+μ-loop ds buf₀ n sum₀ i₀ buf sum i = length ds / 2 - i
 
 loop-holds : tie.Need-loop-holds Inv-loop μ-loop
 loop-holds c =
     let a = c .before .before .args in
-    (turn-first (now (a .line)) (a .n) (now (a .buf)) (c .before .before .pre), refl)
+    turn-first (now (a .ds)) (now (a .buf)) (c .before .before .pre)
 
 mul-p : tie.Need-mul-p Inv-loop μ-loop
 mul-p c = search needs
-
-add-p : tie.Need-add-p Inv-loop μ-loop
-add-p c = search needs
 
 shared-slice-read-digit-value : tie.Need-shared-slice-read-digit-value Inv-loop μ-loop
 shared-slice-read-digit-value c = search needs
@@ -39,9 +35,9 @@ returns : tie.Need-returns Inv-loop μ-loop
 returns c =
     let t = c .before .before .before .before .loop in
     let e = c .before .before .before .before .before .before .before in
-    turn-high (now (e .args .line)) (e .args .n) (now (e .args .buf)) (e .pre)
+    turn-high (now (e .args .ds)) (now (e .args .buf)) (e .pre)
     (t .buf) (t .sum) (t .i) (c .before .digit-value .result)
-    (t .inv .0) (c .before .before .before .loop-test .taken) (c .before .digit-value .ensures .answer) (c .if1 .taken)
+    (t .inv) (c .before .before .before .loop-test .taken) (c .before .digit-value .ensures .answer) (c .if1 .taken)
 
 add-digit-value : tie.Need-add-digit-value Inv-loop μ-loop
 add-digit-value c = search needs
@@ -59,9 +55,9 @@ returns-2 : tie.Need-returns-2 Inv-loop μ-loop
 returns-2 c =
     let t = c .before .before .before .before .before .before .before .loop in
     let e = c .before .before .before .before .before .before .before .before .before .before in
-    turn-low (now (e .args .line)) (e .args .n) (now (e .args .buf)) (e .pre)
+    turn-low (now (e .args .ds)) (now (e .args .buf)) (e .pre)
     (t .buf) (t .sum) (t .i) (c .before .before .before .before .digit-value .result)
-    (t .inv .0) (c .before .before .before .before .before .before .loop-test .taken) (c .before .before .before .before .digit-value .ensures .answer) (c .before .before .before .if1 .left)
+    (t .inv) (c .before .before .before .before .before .before .loop-test .taken) (c .before .before .before .before .digit-value .ensures .answer) (c .before .before .before .if1 .left)
     (c .before .digit-value2 .result) (c .before .digit-value2 .ensures .answer) (c .if2 .taken)
 
 pair-requires : tie.Need-pair-requires Inv-loop μ-loop
@@ -82,14 +78,12 @@ loop-less c = search needs
 loop-again : tie.Need-loop-again Inv-loop μ-loop
 loop-again c =
     let t = c .before .before .before .before .before .before .before .before .before .loop in
-    let e = c .before .before .before .before .before .before .before .before .before .before .before .before in (
-      turn-more (now (e .args .line)) (e .args .n) (now (e .args .buf)) (e .pre)
-          (t .buf) (t .sum) (t .i) (c .before .before .before .before .before .before .digit-value .result)
-          (t .inv .0) (c .before .before .before .before .before .before .before .before .loop-test .taken) (c .before .before .before .before .before .before .digit-value .ensures .answer) (c .before .before .before .before .before .if1 .left)
-          (c .before .before .before .digit-value2 .result) (c .before .before .before .digit-value2 .ensures .answer) (c .before .before .if2 .left)
-          (c .before .pair .result) (c .wrapping-add-u8 .result) (c .before .pair .ensures) (c .wrapping-add-u8 .ensures),
-      simp length-set (t .inv .1),
-    )
+    let e = c .before .before .before .before .before .before .before .before .before .before .before .before in
+    turn-more (now (e .args .ds)) (now (e .args .buf)) (e .pre)
+    (t .buf) (t .sum) (t .i) (c .before .before .before .before .before .before .digit-value .result)
+    (t .inv) (c .before .before .before .before .before .before .before .before .loop-test .taken) (c .before .before .before .before .before .before .digit-value .ensures .answer) (c .before .before .before .before .before .if1 .left)
+    (c .before .before .before .digit-value2 .result) (c .before .before .before .digit-value2 .ensures .answer) (c .before .before .if2 .left)
+    (c .before .pair .result) (c .wrapping-add-u8 .result) (c .before .pair .ensures) (c .wrapping-add-u8 .ensures)
 
 same-length-3 : tie.Need-same-length-3 Inv-loop μ-loop
 same-length-3 c = search needs
@@ -98,17 +92,16 @@ returns-3 : tie.Need-returns-3 Inv-loop μ-loop
 returns-3 c =
     let t = c .before .loop in
     let e = c .before .before .before .before in
-    turn-last (now (e .args .line)) (e .args .n) (now (e .args .buf)) (e .pre) (t .buf) (t .sum) (t .i) (t .inv .0) (c .loop-test .left)
+    turn-last (now (e .args .ds)) (now (e .args .buf)) (e .pre) (t .buf) (t .sum) (t .i) (t .inv) (c .loop-test .left)
 
-pub decode-spec : {M : Type 1} → statement M
-decode-spec =
+pub decode-pairs-spec : {M : Type 1} → statement M
+decode-pairs-spec =
     tie.close
     (tie.spec
     Inv-loop
     μ-loop
     loop-holds
     mul-p
-    add-p
     shared-slice-read-digit-value
     digit-value-requires
     same-length

@@ -1,0 +1,5 @@
+pub mod Parts
+pub mod Leading
+pub mod Decoding
+pub mod Spelling
+pub mod Claims
