@@ -9,10 +9,10 @@ use native.Mathlib.Omega.{arith}
 use lib.Dec.{eqb, leb}
 use lib.ListN.{length, getD, take}
 use borrow.Author.Tests.{leb-true}
-use Rattle.record.specs.Common.{Every, Byte}
+use Rattle.digits.specs.Common.{Every, Byte}
 use Rattle.record.specs.declared.Record.{Record}
 use Rattle.record.specs.declared.Record.the-variants.{Data, ExtendedSegmentAddress, StartSegmentAddress, ExtendedLinearAddress}
-use Rattle.record.proofs.Tests.{branch}
+use Rattle.digits.proofs.Tests.{branch}
 use Rattle.reader.specs.Calls.{Call, Given}
 use Rattle.reader.specs.Text.{default-options}
 use Rattle.writer.specs.Object.{object}

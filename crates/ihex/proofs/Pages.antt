@@ -10,9 +10,9 @@ use native.Mathlib.Omega.{arith}
 use lib.Dec.{leb}
 use lib.ListN.{length, take}
 use borrow.Author.Tests.{leb-false}
-use Rattle.record.specs.Common.{if_then_else_}
+use Rattle.digits.specs.Common.{if_then_else_}
 use Rattle.record.specs.Refusals.{output-full}
-use Rattle.record.proofs.Tests.{branch}
+use Rattle.digits.proofs.Tests.{branch}
 use Rattle.writer.specs.Told.{Told, wrote, refuses}
 use Rattle.writer.specs.Text.{Text, chars, refused, place-behind, if-room}
 use Rattle.loader.specs.Load.{Verdict, load}

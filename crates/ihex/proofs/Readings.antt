@@ -10,14 +10,14 @@ use native.Mathlib.Nat.{mul-add-mod-self-left}
 use lib.Dec.{leb}
 use lib.ListN.{length}
 use borrow.Author.Tests.{ne-eqb, eqb-false}
-use Rattle.record.specs.Common.{if_then_else_, pasted}
+use Rattle.digits.specs.Common.{if_then_else_, pasted}
 use Rattle.record.specs.Refusals.{Refusal, refusal, number-of, pool-full}
 use Rattle.record.specs.Line.{Said, says, wrong, judge}
 use Rattle.record.specs.Meaning.{Meaning, data-at, end-of-file, extended-segment, start-segment, extended-linear, start-linear, meaning}
 use Rattle.record.specs.declared.Record.{Record}
 use Rattle.record.specs.declared.Record.the-variants.{Data, EndOfFile, ExtendedSegmentAddress, StartSegmentAddress, ExtendedLinearAddress, StartLinearAddress}
 use Rattle.record.specs.Record.{type-of}
-use Rattle.record.proofs.Tests.{branch}
+use Rattle.digits.proofs.Tests.{branch}
 use Rattle.reader.specs.declared.ReaderError.{ReaderError}
 use Rattle.reader.specs.declared.ReaderError.the-variants.{MissingStartCode, RecordTooShort, RecordTooLong, RecordNotEvenLength, ContainsInvalidCharacters, ChecksumMismatch, PayloadLengthMismatch, UnsupportedRecordType, InvalidLengthForType, PoolFull}
 use Rattle.reader.specs.declared.ReaderOptions.{ReaderOptions}

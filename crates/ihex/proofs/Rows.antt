@@ -13,11 +13,11 @@ use lib.Dec.{eqb, ltb}
 use lib.ListN.{length, take, drop-of-length-le}
 use lib.Seq.{take-nil, take-length}
 use borrow.Author.Tests.{lt-leb, le-ltb, eqb-true, ne-eqb}
-use Rattle.record.specs.Common.{if_then_else_, Every}
+use Rattle.digits.specs.Common.{if_then_else_, Every}
 use Rattle.record.specs.Refusals.{refusal, pool-full, carry-too-small}
 use Rattle.record.specs.Line.{Said, says, wrong, judge}
 use Rattle.record.specs.Meaning.{Meaning, data-at, end-of-file, extended-segment, start-segment, extended-linear, start-linear, meaning}
-use Rattle.record.proofs.Tests.{both-ways, split}
+use Rattle.digits.proofs.Tests.{both-ways, split}
 use Rattle.record.proofs.Standing.{Stands, stands, fault-few}
 use Rattle.reader.specs.Told.{Told, gives, refuses, done}
 use Rattle.reader.specs.Answer.{room, given, answered, poured}

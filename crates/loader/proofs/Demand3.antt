@@ -11,14 +11,14 @@ use mathlib.Core.List.{List, _++_, List·Memᴰ·head, Memᴰ·append-right}
 use lib.ListN.{length, getD}
 use lib.Dec.{eqb, ltb}
 use borrow.Author.Tests.{eqb-true, ltb-false, not-false}
-use Rattle.record.specs.Common.{if_then_else_}
+use Rattle.digits.specs.Common.{if_then_else_}
 use Rattle.record.specs.Refusals.{bad-window}
 use Rattle.reader.specs.Lines.{lines, through}
 use Rattle.reader.specs.Row.{row}
 use Rattle.loader.specs.Placing.{Placement, from-start}
 use Rattle.loader.specs.Load.{Tally, no-records, Verdict, accepted, refused, Decision, by, verdict, within, decision, unfit, last-at, mark, painted, marked, store, steps-of, placements, stopping, load}
 use Rattle.loader.specs.Claims.{Window, Alike, Place, Non-interference, What-is-stored, Place-unique, Refusal-changes-nothing, Sizes-kept}
-use Rattle.record.proofs.Tests.{or-false}
+use Rattle.digits.proofs.Tests.{or-false}
 use Rattle.reader.proofs.Cutting.{Closed, Head, lines-closed, through-head}
 use Rattle.loader.proofs.Rows.{same}
 use Rattle.loader.proofs.Pages.{painted-at, marked-at, marked-alike, marked-inside, length-painted, length-marked, Found, found, place-is}

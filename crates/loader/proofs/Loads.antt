@@ -10,7 +10,7 @@ use lib.ListN.{length, replicate}
 use Rattle.record.specs.Refusals.{Refusal, bad-window}
 use Rattle.reader.specs.Row.{through-stop}
 use Rattle.reader.specs.Along.{unread}
-use Rattle.record.proofs.Tests.{if-true, if-false}
+use Rattle.digits.proofs.Tests.{if-true, if-false}
 use Rattle.loader.specs.declared.LoaderError.{LoaderError}
 use Rattle.loader.specs.declared.LoaderError.the-variants.{BadWindow}
 use Rattle.loader.specs.declared.Loading.{Loading}

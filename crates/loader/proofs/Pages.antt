@@ -12,7 +12,7 @@ use mathlib.Core.List.{List, [], _∷_, _++_, map, List·Memᴰ, List·Memᴰ·h
 use lib.ListN.{length, getD, set, replicate}
 use lib.Dec.{eqb}
 use borrow.Author.Tests.{eqb-true, eqb-false, eq-eqb, ne-eqb}
-use Rattle.record.specs.Common.{if_then_else_, or-else}
+use Rattle.digits.specs.Common.{if_then_else_, or-else}
 use Rattle.loader.specs.Placing.{Placement}
 use Rattle.record.proofs.Choices.{or-else-none, or-else-assoc, getD-or-else}
 use Rattle.loader.specs.Load.{last-at, mark, painted, marked}

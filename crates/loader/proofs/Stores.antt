@@ -12,8 +12,8 @@ use lib.Dec.{leb, ltb}
 use lib.ListN.{length, getD, set, drop, length-set, drop-of-length-le}
 use lib.Seq.{drop-cons}
 use borrow.Author.Tests.{lt-ltb, le-ltb, ltb-true, ltb-false, leb-true, leb-false}
-use Rattle.record.specs.Common.{if_then_else_}
-use Rattle.record.proofs.Tests.{both}
+use Rattle.digits.specs.Common.{if_then_else_}
+use Rattle.digits.proofs.Tests.{both}
 use Rattle.loader.specs.Placing.{Placement, Base, byte-address, placed}
 use Rattle.loader.specs.Load.{within, outside, painted}
 use Rattle.loader.specs.Helpers.{as-mark, Painted, Fitting}

@@ -10,10 +10,10 @@ use native.Mathlib.Nat.{zero-add}
 use lib.Dec.{eqb, leb, ltb}
 use lib.ListN.{length, getD, take}
 use borrow.Author.Tests.{leb-true, leb-false, ltb-true, ltb-false}
-use Rattle.record.specs.Common.{if_then_else_, Every}
+use Rattle.digits.specs.Common.{if_then_else_, Every}
 use Rattle.record.specs.Refusals.{Refusal, refusal, output-full, bad-window, bad-mark}
 use Rattle.record.specs.Written.{written}
-use Rattle.record.proofs.Tests.{branch}
+use Rattle.digits.proofs.Tests.{branch}
 use Rattle.writer.specs.declared.Written.the-variants.{Wrote as WriterWrote}
 use Rattle.writer.specs.Told.{Told, wrote, refuses}
 use Rattle.writer.specs.Text.{Text, chars, refused, place-behind, if-room, put-at, Writes}

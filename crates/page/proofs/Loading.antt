@@ -12,13 +12,13 @@ use native.Mathlib.Nat.{add-zero, zero-add}
 use lib.ListN.{length, getD, take, drop, List·getD-eq-default}
 use lib.Seq.{drop-cons, ext-getD}
 use borrow.Author.Tests.{eq-eqb, ne-eqb, le-leb, lt-ltb}
-use Rattle.record.specs.Common.{if_then_else_, Every}
+use Rattle.digits.specs.Common.{if_then_else_, Every}
 use Rattle.record.specs.declared.Record.{Record}
 use Rattle.record.specs.declared.Record.the-variants.{ExtendedLinearAddress}
 use Rattle.record.specs.Record.{meant}
 use Rattle.record.specs.Meaning.{Meaning, extended-linear}
 use Rattle.record.specs.Written.{Sayable}
-use Rattle.record.proofs.Tests.{split}
+use Rattle.digits.proofs.Tests.{split}
 use Rattle.record.proofs.Choices.{or-else-none}
 use Rattle.record.proofs.Writing.{reads-back}
 use Rattle.reader.specs.Row.{Numbered, on}

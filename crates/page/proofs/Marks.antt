@@ -7,7 +7,7 @@ use native.Mathlib.Omega.{arith}
 use mathlib.Core.List.{List, [], _∷_}
 use lib.ListN.{length, getD}
 use borrow.Author.Tests.{le-leb, lt-leb}
-use Rattle.record.proofs.Tests.{split}
+use Rattle.digits.proofs.Tests.{split}
 use Rattle.page.specs.File.{good-marks}
 use Rattle.page.specs.Helpers.{Least, Farthest, PieceEnd}
 

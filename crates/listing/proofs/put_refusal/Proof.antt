@@ -6,7 +6,7 @@ use mathlib.Core.List.{_++_}
 use native.Mathlib.Omega.{arith}
 use denote.Ref.{now}
 use lib.ListN.{length}
-use Rattle.record.specs.Common.{text}
+use Rattle.digits.specs.Common.{text}
 use Rattle.reader.specs.Told.{refusal-of}
 use Rattle.listing.specs.Listing.{decimal, values-shown}
 use Rattle.listing.proofs.Putting.{put-then, put-as}

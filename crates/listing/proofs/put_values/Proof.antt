@@ -4,7 +4,7 @@ use mathlib.Core.Path.{sym, ap}
 use native.Mathlib.Omega.{arith}
 use denote.Ref.{now}
 use lib.ListN.{length}
-use Rattle.record.specs.Written.{spelt}
+use Rattle.digits.specs.Spelling.{spelt}
 use Rattle.reader.specs.declared.ReaderError.{ReaderError}
 use Rattle.reader.specs.Told.{refusal-of}
 use Rattle.listing.specs.Listing.{values-shown}
