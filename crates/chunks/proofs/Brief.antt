@@ -10,12 +10,13 @@ use lib.Dec.{eqb, ltb}
 use lib.ListN.{length, getD, take, drop, replicate, length-append, length-replicate, take-append-drop, drop-of-length-le}
 use lib.Seq.{split-at, length-take-le, take-at, drop-at, getD-at}
 use borrow.Author.Tests.{ltb-true, ltb-false, lt-ltb, le-ltb}
-use Rattle.record.specs.Common.{if_then_else_}
+use Rattle.digits.specs.Common.{if_then_else_}
 use Rattle.record.specs.Refusals.{missing-start-code, contains-invalid-characters, record-too-long}
-use Rattle.record.specs.Digits.{is-digit, all-digits, leading}
-use Rattle.record.specs.Line.{Said, wrong, named, invalid, judge, judge-digits}
-use Rattle.record.proofs.Tests.{both, and-assoc, split}
-use Rattle.record.proofs.Offender.{leading-on, leading-in}
+use Rattle.digits.specs.Digits.{is-digit, all-digits, leading}
+use Rattle.record.specs.Line.{Said, wrong, invalid, judge, judge-digits}
+use Rattle.digits.specs.Reading.{named}
+use Rattle.digits.proofs.Tests.{both, and-assoc, split}
+use Rattle.digits.proofs.Leading.{leading-on, leading-in}
 use Rattle.chunks.specs.Claims.{Left-out-counted, Nothing-behind-counted}
 use Rattle.chunks.specs.Begun.{Kept, none-kept, push, brief, behind-digits, stands-for}
 

@@ -11,12 +11,12 @@ use lib.Dec.{ltb}
 use lib.ListN.{length, take, drop, length-append, length-drop}
 use lib.Seq.{length-take-le, take-length}
 use borrow.Author.Tests.{ltb-true, ltb-false, le-leb}
-use Rattle.record.specs.Common.{if_then_else_, pasted}
+use Rattle.digits.specs.Common.{if_then_else_, pasted}
 use Rattle.record.specs.Refusals.{Refusal, number-of, pool-full, carry-too-small}
 use Rattle.record.specs.Line.{Said, says, wrong, judge}
 use Rattle.record.specs.Meaning.{Meaning, data-at, end-of-file, extended-segment, start-segment, extended-linear, start-linear, meaning}
 use Rattle.record.specs.Written.{Sayable}
-use Rattle.record.proofs.Tests.{branch, split, if-true, if-false, or-false}
+use Rattle.digits.proofs.Tests.{branch, split, if-true, if-false, or-false}
 use Rattle.record.proofs.Standing.{Stands, stands, fault-few}
 use Rattle.record.proofs.Writing.{said-is-sayable}
 use Rattle.reader.specs.Told.{Told, gives, refuses, done}

@@ -9,9 +9,9 @@ use native.Mathlib.Omega.{arith}
 use lib.ListN.{length, getD, take, drop, set, length-drop, drop-of-length-le}
 use lib.Seq.{length-take-le, take-suc-set, take-set-le, take-take, getD-take, take-all, take-nil}
 use borrow.Author.Tests.{ne-eqb, eq-eqb}
-use Rattle.record.specs.Common.{if_then_else_}
-use Rattle.record.specs.Digits.{is-digit}
-use Rattle.record.specs.Line.{named}
+use Rattle.digits.specs.Common.{if_then_else_}
+use Rattle.digits.specs.Digits.{is-digit}
+use Rattle.digits.specs.Reading.{named}
 use Rattle.reader.proofs.Searching.{tail-is}
 use Rattle.chunks.specs.Begun.{Kept, Begun, push, with-CR, add}
 use Rattle.chunks.specs.Next.{kept-in}

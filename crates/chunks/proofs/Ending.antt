@@ -11,8 +11,8 @@ use lib.Dec.{eqb}
 use lib.ListN.{length, getD, drop, length-append, length-drop}
 use lib.Seq.{getD-drop, drop-drop}
 use borrow.Author.Tests.{eqb-true, eqb-false}
-use Rattle.record.specs.Common.{if_then_else_}
-use Rattle.record.proofs.Tests.{or-false, split}
+use Rattle.digits.specs.Common.{if_then_else_}
+use Rattle.digits.proofs.Tests.{or-false, split}
 use Rattle.reader.specs.Lines.{LF, CR, first-line, rest, Ended, with-CRLF, with-LF, with-text, Cut}
 use Rattle.reader.proofs.Cutting.{cut, cut-unique}
 use Rattle.reader.proofs.Feeds.{rest-length, rest-drop}
@@ -21,7 +21,7 @@ use Rattle.chunks.specs.Helpers.{seek-at}
 use Rattle.chunks.specs.First.{Ends-at}
 use Rattle.chunks.proofs.Pass.{step-over}
 use Rattle.chunks.proofs.InPlace.{has-LF, LF-from, LF-before-rest, line-in, ends-some, ends-none}
-use Rattle.record.proofs.Parts.{none-left}
+use Rattle.digits.proofs.Parts.{none-left}
 use Rattle.chunks.proofs.Runs.{ended-has}
 
 -- ---- the first LF from a place on

@@ -8,9 +8,9 @@ use mathlib.Core.Option.{Option, none}
 use mathlib.Core.List.{List, [], _∷_, _++_, foldl}
 use native.Mathlib.Omega.{arith}
 use lib.ListN.{length, take, drop, length-take, length-drop}
-use Rattle.record.specs.Common.{if_then_else_}
+use Rattle.digits.specs.Common.{if_then_else_}
 use Rattle.record.specs.Line.{Said, judge}
-use Rattle.record.proofs.Tests.{split}
+use Rattle.digits.proofs.Tests.{split}
 use Rattle.reader.specs.Told.{Told, done}
 use Rattle.reader.specs.Answer.{answered}
 use Rattle.reader.specs.Lines.{CR}

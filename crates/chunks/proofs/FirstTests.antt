@@ -10,10 +10,10 @@ use lib.Dec.{ltb}
 use lib.ListN.{length, take, drop, drop-of-length-le}
 use lib.Seq.{length-take-le, take-length}
 use borrow.Author.Tests.{lt-ltb, le-ltb, ltb-true, ltb-false}
-use Rattle.record.specs.Common.{if_then_else_}
+use Rattle.digits.specs.Common.{if_then_else_}
 use Rattle.record.specs.Refusals.{carry-too-small}
 use Rattle.record.specs.Line.{judge}
-use Rattle.record.proofs.Tests.{if-true, if-false, or-true, or-false}
+use Rattle.digits.proofs.Tests.{if-true, if-false, or-true, or-false}
 use Rattle.reader.specs.declared.Answer.{Answer}
 use Rattle.reader.specs.Told.{refuses, done, told}
 use Rattle.reader.specs.Answer.{Reads, answered}

@@ -11,8 +11,8 @@ use lib.Dec.{eqb}
 use lib.ListN.{length, getD, take, drop, length-drop}
 use lib.Seq.{getD-drop}
 use borrow.Author.Tests.{eqb-true, eqb-false, eq-eqb}
-use Rattle.record.specs.Common.{if_then_else_}
-use Rattle.record.proofs.Tests.{or-true}
+use Rattle.digits.specs.Common.{if_then_else_}
+use Rattle.digits.proofs.Tests.{or-true}
 use Rattle.reader.specs.Lines.{LF, CR, first-line, rest}
 use Rattle.reader.proofs.Searching.{tail-is, first-line-prefix, first-line-length, behind-inside, behind-moves, rest-behind, Cut-off}
 use Rattle.chunks.specs.Begun.{Kept, Begun, nothing, is-empty, brief, add, counted, Sought, ended, seek}

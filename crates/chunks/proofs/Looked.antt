@@ -9,7 +9,7 @@ use mathlib.Core.List.{List, [], _∷_, _++_, foldl}
 use native.Mathlib.Omega.{arith}
 use lib.ListN.{length, getD, take, drop, length-append, length-drop}
 use Rattle.record.specs.Line.{judge}
-use Rattle.record.proofs.Tests.{split}
+use Rattle.digits.proofs.Tests.{split}
 use Rattle.reader.specs.Lines.{LF, first-line}
 use Rattle.chunks.specs.declared.Chunks.{Chunks}
 use Rattle.chunks.specs.declared.Place.{Place}

@@ -9,13 +9,14 @@ use lib.Dec.{eqb}
 use lib.ListN.{length, take, drop, replicate, length-append, drop-of-length-le}
 use lib.Seq.{take-all}
 use borrow.Author.Tests.{eqb-true, ne-eqb}
-use Rattle.record.specs.Common.{if_then_else_}
+use Rattle.digits.specs.Common.{if_then_else_}
 use Rattle.record.specs.Refusals.{refusal, missing-start-code, contains-invalid-characters, record-too-long, pool-full}
-use Rattle.record.specs.Digits.{all-digits, leading}
-use Rattle.record.specs.Line.{Said, says, wrong, named, judge}
+use Rattle.digits.specs.Digits.{all-digits, leading}
+use Rattle.record.specs.Line.{Said, says, wrong, judge}
+use Rattle.digits.specs.Reading.{named}
 use Rattle.record.specs.Meaning.{Meaning, data-at, end-of-file, extended-segment, start-segment, extended-linear, start-linear, meaning}
-use Rattle.record.proofs.Tests.{both-ways, split}
-use Rattle.record.proofs.Offender.{leads, leading-on, leading-in}
+use Rattle.digits.proofs.Tests.{both-ways, split}
+use Rattle.digits.proofs.Leading.{leads, leading-on, leading-in}
 use Rattle.record.proofs.Claims.{names-the-offender}
 use Rattle.reader.specs.declared.Answer.{Answer}
 use Rattle.reader.specs.Told.{Told, gives, refuses, told}

@@ -10,12 +10,13 @@ use lib.Dec.{eqb, ltb}
 use lib.ListN.{length, take, drop, replicate, length-append, length-drop}
 use lib.Seq.{length-take-le}
 use borrow.Author.Tests.{ltb-true, ltb-false}
-use Rattle.record.specs.Common.{if_then_else_}
+use Rattle.digits.specs.Common.{if_then_else_}
 use Rattle.record.specs.Refusals.{missing-start-code, contains-invalid-characters, record-too-long}
-use Rattle.record.specs.Digits.{all-digits, leading}
-use Rattle.record.specs.Line.{wrong, named, judge}
+use Rattle.digits.specs.Digits.{all-digits, leading}
+use Rattle.record.specs.Line.{wrong, judge}
+use Rattle.digits.specs.Reading.{named}
 use Rattle.record.specs.declared.Record.{Record}
-use Rattle.record.proofs.Tests.{split}
+use Rattle.digits.proofs.Tests.{split}
 use Rattle.reader.specs.declared.Answer.{Answer}
 use Rattle.reader.specs.declared.Answer.the-variants.{Read, Refused}
 use Rattle.reader.specs.declared.ReaderError.{ReaderError}

@@ -12,7 +12,7 @@ use lib.ListN.{length, getD, take, drop, length-drop, drop-of-length-le}
 use lib.Seq.{length-take-le, drop-cons}
 use borrow.Author.Tests.{eqb-true, eqb-false}
 use Rattle.record.specs.Line.{judge}
-use Rattle.record.proofs.Parts.{part-is, part-length}
+use Rattle.digits.proofs.Parts.{part-is, part-length}
 use Rattle.reader.specs.declared.Answer.{Answer}
 use Rattle.reader.specs.Told.{told}
 use Rattle.reader.specs.Answer.{Reads, answered}

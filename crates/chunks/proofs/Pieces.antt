@@ -9,8 +9,8 @@ use mathlib.Core.List.{List, [], _∷_, _++_}
 use native.Mathlib.Omega.{arith}
 use lib.Dec.{eqb}
 use borrow.Author.Tests.{eqb-true}
-use Rattle.record.specs.Common.{if_then_else_}
-use Rattle.record.proofs.Tests.{both-ways}
+use Rattle.digits.specs.Common.{if_then_else_}
+use Rattle.digits.proofs.Tests.{both-ways}
 use Rattle.reader.specs.Lines.{LF, CR, first-line, rest, lines}
 use Rattle.reader.proofs.Cutting.{lines-cons}
 use Rattle.chunks.specs.Begun.{Kept, Begun, nothing, is-empty, brief, stands-for, with-CR, add, counted, Sought, ended, unended, seek, look}

@@ -11,9 +11,9 @@ use lib.Dec.{eqb, ltb}
 use lib.ListN.{length, getD, take, drop, length-append, length-drop, drop-of-length-le}
 use lib.Seq.{paste, take-paste, split-at, length-take-le, take-take, take-length, drop-cons, getD-drop}
 use borrow.Author.Tests.{eqb-true, ltb-true, ltb-false}
-use Rattle.record.specs.Common.{if_then_else_}
-use Rattle.record.proofs.Tests.{or-true}
-use Rattle.record.proofs.Parts.{none-left}
+use Rattle.digits.specs.Common.{if_then_else_}
+use Rattle.digits.proofs.Tests.{or-true}
+use Rattle.digits.proofs.Parts.{none-left}
 use Rattle.reader.specs.Lines.{LF, CR, rest, Ended, with-CRLF, with-LF, with-text, Cut}
 use Rattle.reader.proofs.Cutting.{cut}
 use Rattle.reader.proofs.Searching.{tail-is, behind-inside, rest-behind, Cut-off}

@@ -8,7 +8,7 @@ use mathlib.Core.List.{List, [], _∷_, _++_}
 use native.Mathlib.Omega.{arith}
 use native.Mathlib.Nat.{add-suc, suc-add, add-zero}
 use lib.ListN.{length}
-use Rattle.record.specs.Common.{if_then_else_}
+use Rattle.digits.specs.Common.{if_then_else_}
 use Rattle.record.specs.Line.{judge}
 use Rattle.reader.specs.declared.ReaderOptions.{ReaderOptions}
 use Rattle.reader.specs.Told.{Told}

@@ -8,9 +8,9 @@ use native.Mathlib.Omega.{arith}
 use lib.Dec.{eqb, ltb}
 use lib.ListN.{length, getD, take}
 use borrow.Author.Tests.{eqb-true, ltb-false}
-use Rattle.record.specs.Common.{if_then_else_}
-use Rattle.record.specs.Digits.{is-digit}
-use Rattle.record.specs.Line.{named}
+use Rattle.digits.specs.Common.{if_then_else_}
+use Rattle.digits.specs.Digits.{is-digit}
+use Rattle.digits.specs.Reading.{named}
 use Rattle.reader.specs.Lines.{LF, CR, ends-line, first-line}
 use Rattle.chunks.specs.Begun.{Kept, none-kept, Begun, is-empty, push, brief, with-CR, add}
 

@@ -6,9 +6,9 @@ use mathlib.Core.Option.{Option, none, some}
 use mathlib.Core.List.{List, [], _∷_, _++_, foldl}
 use lib.Dec.{eqb, ltb}
 use lib.ListN.{length, getD, take, drop, replicate}
-use Rattle.record.specs.Common.{if_then_else_}
-use Rattle.record.specs.Digits.{is-digit}
-use Rattle.record.specs.Line.{named}
+use Rattle.digits.specs.Common.{if_then_else_}
+use Rattle.digits.specs.Digits.{is-digit}
+use Rattle.digits.specs.Reading.{named}
 use Rattle.reader.specs.Lines.{LF, CR}
 
 -- What is kept of a line: bytes of it, and how many digits were left out ahead of the last of them.

@@ -9,9 +9,9 @@ use mathlib.Core.Option.{none, some}
 use mathlib.Core.List.{List, [], _∷_, _++_, map}
 use denote.Ref.{RefT}
 use lib.ListN.{length, getD, take}
-use Rattle.record.specs.Common.{if_then_else_, Every, text, pasted}
+use Rattle.digits.specs.Common.{if_then_else_, Every, text, pasted}
 use Rattle.record.specs.Refusals.{pool-full, carry-too-small}
-use Rattle.record.specs.Digits.{is-digit, all-digits}
+use Rattle.digits.specs.Digits.{is-digit, all-digits}
 use Rattle.record.specs.Line.{judge}
 use Rattle.reader.specs.declared.ReaderOptions.{ReaderOptions}
 use Rattle.reader.specs.Told.{Told, gives, refuses, done}

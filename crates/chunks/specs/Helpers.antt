@@ -8,9 +8,9 @@ use mathlib.Core.Option.{Option, some}
 use mathlib.Core.List.{List}
 use lib.Dec.{eqb, ltb}
 use lib.ListN.{length, take, drop, getD}
-use Rattle.record.specs.Common.{if_then_else_}
+use Rattle.digits.specs.Common.{if_then_else_}
 use Rattle.record.specs.Refusals.{Refusal, refusal, contains-invalid-characters}
-use Rattle.record.specs.Line.{named}
+use Rattle.digits.specs.Reading.{named}
 use Rattle.reader.specs.Told.{Told, gives, refuses, done}
 use Rattle.reader.specs.Lines.{LF, CR}
 use Rattle.reader.specs.Text.{is-full, ends-row}

@@ -8,7 +8,7 @@ use mathlib.Core.List.{List, []}
 use denote.Ref.{RefT}
 use lib.Dec.{leb, ltb}
 use lib.ListN.{length, take, drop}
-use Rattle.record.specs.Common.{if_then_else_}
+use Rattle.digits.specs.Common.{if_then_else_}
 use Rattle.record.specs.Record.{type-of, numbers-of}
 use Rattle.record.specs.Refusals.{carry-too-small}
 use Rattle.record.specs.Line.{judge}

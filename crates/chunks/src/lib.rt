@@ -12,8 +12,9 @@ ghost use mathlib.Core.Option.{none};
 ghost use Prim.Native.Nat.{suc, _+_, _≤_};
 ghost use lib.ListN.{length, take, drop};
 ghost use lib.Seq.{paste};
-ghost use Rattle.record.specs.Digits.{is-digit};
-ghost use Rattle.record.specs.Line.{named, judge};
+ghost use Rattle.digits.specs.Digits.{is-digit};
+ghost use Rattle.record.specs.Line.{judge};
+ghost use Rattle.digits.specs.Reading.{named};
 ghost use Rattle.reader.specs.Told.{refusal-of, told};
 ghost use Rattle.reader.specs.Answer.{Reads};
 ghost use Rattle.reader.specs.Text.{default-options};
@@ -136,7 +137,7 @@ pub fn shown<'a>(lies: Place, chunk: &'a [u8], carry: &'a [u8]) -> &'a [u8]
 fn is_digit(c: u8) -> bool
     ensures { λ r. ⌜ r ≡ is-digit c ⌝ }
 {
-    record::digit_value(c) < 16
+    digits::digit_value(c) < 16
 }
 
 // One more, but 65,535 at most.

@@ -1,15 +1,32 @@
--- The claims of `specs/Claims.antt`, proved: each contract says every part of the answer by an equation.
+-- The claims of `specs/Claims.antt`, proved.
 -- Assumes nothing.
 use Prim.Native.Nat.{_*_}
-use mathlib.Core.Path.{sym, _∙_}
+use mathlib.Core.Path.{_≡_, sym, _∙_}
+use mathlib.Core.Logic.{inl, inr}
+use native.Mathlib.Omega.{arith}
 use lib.ListN.{length}
-use Rattle.record.proofs.Tests.{split}
-use Rattle.record.proofs.Offender.{leading-all}
-use Rattle.digits.specs.Claims.{Led-by-all, First-other-unique, Name-place-unique, Decode-unique, Capital-digit-unique, Spell-unique}
+use Rattle.digits.proofs.Tests.{split}
+use Rattle.digits.proofs.Leading.{leading-all}
+use Rattle.digits.specs.Digits.{digit}
+use Rattle.digits.specs.Hex.{Is-hex}
+use Rattle.digits.proofs.Hex.{hex-digit, hex-or-none}
+use Rattle.digits.specs.Claims.{Values-of-digits, Named-as, Digit-value-unique, Led-by-all, First-other-unique, Name-place-unique, Decode-unique, Capital-digit-unique, Spell-unique}
 use Rattle.digits.proofs.Decoding.{led-all}
 
 pub led-by-all : Led-by-all
 led-by-all ds d = (leading-all ds d, led-all ds d)
+
+pub named-as : Named-as
+named-as place = (λ h. omega arith, λ h. omega arith)
+
+pub values-of-digits : Values-of-digits
+values-of-digits c r v = (λ x h. v .answer ∙ hex-digit h, λ no-hex. v .answer ∙ none no-hex)
+  where
+    none : ¬ Is-hex c → digit c ≡ 16
+    none no-hex = elim (hex-or-none c) [ inl h ↦ absurd (no-hex (digit c, h)) | inr e ↦ e ]
+
+pub digit-value-unique : Digit-value-unique
+digit-value-unique c r r′ a b = a .answer ∙ sym (b .answer)
 
 pub first-other-unique : First-other-unique
 first-other-unique ds r r′ a b = a .answer ∙ sym (b .answer)

@@ -10,12 +10,11 @@ use lib.ListN.{length, getD, take, drop, set, length-set, drop-of-length-le}
 use lib.Seq.{take-suc, take-all, take-at, length-take-le}
 use Rattle.checksum.specs.Checksum.{sum}
 use Rattle.checksum.proofs.Laws.{sum-snoc}
-use Rattle.record.specs.Common.{pasted}
-use Rattle.record.specs.Digits.{digit, all-digits, leading, bytes}
-use Rattle.record.proofs.Offender.{leading-all}
-use Rattle.record.proofs.Pasting.{pasted-none, pasted-one, pasted-more}
+use Rattle.digits.specs.Common.{pasted}
+use Rattle.digits.specs.Digits.{digit, all-digits, leading, bytes}
+use Rattle.digits.proofs.Pasting.{pasted-none, pasted-one, pasted-more}
 use Rattle.digits.specs.Reading.{Decodable, pairs, led, Decoded}
-use Rattle.digits.proofs.Leading.{lead-more, lead-found, found-other, found-all}
+use Rattle.digits.proofs.Leading.{lead-more, lead-found, found-other, found-all, leading-all}
 
 -- ---- pairs
 

@@ -1,5 +1,9 @@
+pub mod Tests
 pub mod Parts
+pub mod Pasting
+pub mod Hex
 pub mod Leading
+pub mod Spelt
 pub mod Decoding
 pub mod Spelling
 pub mod Claims

@@ -1,12 +1,12 @@
--- The part of a row from a place to its end, as the code takes it, and what is pasted into such a part.
+-- Parts of rows. The code takes a part from a place to another, or to the row's end.
 -- Assumes nothing.
-use Prim.Native.Nat.{ℕ, _+_, _-_}
-use mathlib.Core.Path.{_≡_, sym, _∙_, ap, ap₂}
-use mathlib.Core.List.{List, [], _++_, append-assoc, append-nil}
+use Prim.Native.Nat.{ℕ, _+_, _-_, _≤_}
+use mathlib.Core.Path.{_≡_, refl, sym, _∙_, ap, ap₂}
+use mathlib.Core.List.{List, [], _∷_, _++_, append-assoc, append-nil}
 use native.Mathlib.Omega.{arith}
-use lib.ListN.{length, take, drop, length-drop, drop-of-length-le}
+use lib.ListN.{length, take, drop, length-take, length-drop, drop-of-length-le}
 use lib.Seq.{take-all, drop-drop}
-use Rattle.record.specs.Common.{pasted}
+use Rattle.digits.specs.Common.{Every, pasted}
 
 pub rest-is : (l : List ℕ) (k : ℕ) → take (length l - k) (drop k l) ≡ drop k l
 rest-is l k = take-all (length l - k) (drop k l) (omega (arith, length-drop k l))
@@ -21,3 +21,23 @@ rest-pasted out at xs p =
     ap₂ (λ (a b : List ℕ). take at out ++ (a ++ b)) p none
     ∙ ap (λ (l : List ℕ). take at out ++ l) (append-nil (pasted (drop at out) 0 xs) ∙ ap (λ (l : List ℕ). xs ++ l) after)
     ∙ sym (append-assoc (take at out) xs (drop (at + length xs) out))
+
+-- the part from a place to another, as the code takes it
+pub part-is : (pool : List ℕ) (at len : ℕ) → take (at + len - at) (drop at pool) ≡ take len (drop at pool)
+part-is pool at len = let n : at + len - at ≡ len = omega arith in rw n
+
+pub part-length : (pool : List ℕ) (at len : ℕ) → at + len ≤ length pool → length (take len (drop at pool)) ≡ len
+part-length pool at len h = simp (length-take, length-drop) (omega arith)
+
+pub none-left : (l : List ℕ) → length l ≡ 0 → l ≡ []
+none-left [] n = refl
+none-left (a ∷ l) n = absurd (omega arith)
+
+-- what holds of each element of a list holds of each of its front, and of each after that
+pub every-front : (P : ℕ → Type 0) (front after : List ℕ) → Every P (front ++ after) → Every P front
+every-front P [] after h = tt
+every-front P (a ∷ front) after (h, hs) = (h, every-front P front after hs)
+
+pub every-after : (P : ℕ → Type 0) (front after : List ℕ) → Every P (front ++ after) → Every P after
+every-after P [] after h = h
+every-after P (a ∷ front) after (h, hs) = every-after P front after hs

@@ -9,11 +9,10 @@ use lib.ListN.{length, getD, take, drop, set, drop-of-length-le}
 use lib.Seq.{take-suc, take-all, length-take-le}
 use Rattle.checksum.specs.Checksum.{sum}
 use Rattle.checksum.proofs.Laws.{sum-drop}
-use Rattle.record.specs.Common.{pasted}
-use Rattle.record.specs.Written.{capital-digit, spelt}
-use Rattle.record.proofs.Writing.{spelt-length, spelt-append}
-use Rattle.record.proofs.Pasting.{pasted-none, pasted-more, pasted-two}
-use Rattle.digits.specs.Spelling.{Spelt}
+use Rattle.digits.specs.Common.{pasted}
+use Rattle.digits.proofs.Spelt.{spelt-length, spelt-append}
+use Rattle.digits.proofs.Pasting.{pasted-none, pasted-more, pasted-two}
+use Rattle.digits.specs.Spelling.{Spelt, capital-digit, spelt}
 
 -- two stores, of a byte's high digit and of its low digit
 pub put-two : (out : List ℕ) (at byte high low : ℕ) → byte < 256 → at + 2 ≤ length out → high ≡ capital-digit (byte / 16 % 16) → low ≡ capital-digit (byte % 16)

@@ -1,17 +1,29 @@
--- What is claimed of the digits' functions, and proved in `proofs/Claims.antt`: no second answer meets a contract.
+-- What is claimed of digits and of the functions that read and write them, and proved in `proofs/Claims.antt`.
 -- Assumes nothing.
-use Prim.Native.Nat.{ℕ}
+use Prim.Native.Nat.{ℕ, _≤_}
 use mathlib.Core.Path.{_≡_}
 use mathlib.Core.Bool.{Bool, true}
 use mathlib.Core.List.{List}
 use lib.ListN.{length}
-use Rattle.record.specs.Digits.{all-digits, leading, bytes}
-use Rattle.digits.specs.Reading.{FirstOther, NamePlace, pairs, led, Decoded}
+use Rattle.digits.specs.Digits.{DigitValue, all-digits, leading, bytes}
+use Rattle.digits.specs.Hex.{Hex, Is-hex}
+use Rattle.digits.specs.Reading.{named, FirstOther, NamePlace, pairs, led, Decoded}
 use Rattle.digits.specs.Spelling.{CapitalDigit, Spell}
 
 -- where each character is a digit, the bytes that are led are all
 abbrev pub Led-by-all : Type 0
 Led-by-all = (ds : List ℕ) → all-digits ds ≡ true → (leading ds ≡ length ds) × (led ds ≡ bytes ds)
+
+-- a refusal names a place as it is, and any beyond 65,535 as that
+abbrev pub Named-as : Type 0
+Named-as = (place : ℕ) → (place ≤ 65535 → named place ≡ place) × (65535 ≤ place → named place ≡ 65535)
+
+-- the value of a digit of the format is the one that the format gives it, and that of any other byte is 16
+abbrev pub Values-of-digits : Type 0
+Values-of-digits = (c r : ℕ) → DigitValue c r → ((x : ℕ) → Hex c x → r ≡ x) × (¬ Is-hex c → r ≡ 16)
+
+abbrev pub Digit-value-unique : Type 0
+Digit-value-unique = (c r r′ : ℕ) → DigitValue c r → DigitValue c r′ → r ≡ r′
 
 abbrev pub First-other-unique : Type 0
 First-other-unique = (ds : List ℕ) (r r′ : ℕ) → FirstOther ds r → FirstOther ds r′ → r ≡ r′

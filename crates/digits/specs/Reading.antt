@@ -6,9 +6,12 @@ use mathlib.Core.Bool.{Bool}
 use mathlib.Core.List.{List}
 use lib.ListN.{length, take}
 use Rattle.checksum.specs.Checksum.{sum}
-use Rattle.record.specs.Common.{pasted}
-use Rattle.record.specs.Digits.{all-digits, leading, bytes}
-use Rattle.record.specs.Line.{named}
+use Rattle.digits.specs.Common.{pasted}
+use Rattle.digits.specs.Digits.{all-digits, leading, bytes}
+
+-- a place of a line as a refusal names it, the first character's being 0: 65,535 for any place beyond that
+abbrev pub named : (place : ℕ) → ℕ
+named place = min place 65535
 
 -- the contract of `first_other`
 pub record FirstOther (ds : List ℕ) (r : ℕ) : Type 0 where

@@ -2,11 +2,32 @@
 ghost use Prim.Native.Nat.{_+_, _*_, _/_, _%_, _≤_, _<_, min};
 ghost use mathlib.Core.Path.{_≡_};
 ghost use lib.ListN.{length};
+ghost use Rattle.digits.specs.Digits.{DigitValue};
 ghost use Rattle.digits.specs.Reading.{FirstOther, NamePlace, Decodable, Decoded, pairs};
 ghost use Rattle.digits.specs.Spelling.{CapitalDigit, Put, Spelt, Spell};
 
 // The last place that a refusal can name.
 const LAST_PLACE: usize = 65535;
+
+// The value of a hexadecimal digit, 0 to 15 in either letter case; 16 for any other byte. Differences wrap: what stands before `0` is beyond 9,
+// and the six letters before `G` or `g` are 250 to 255, whose lower four bits are the value.
+pub fn digit_value(c: u8) -> u8
+    ensures { λ r. ⌜ DigitValue c r ⌝ }
+{
+    let decimal = std::num::wrapping_sub_u8(c, b'0');
+    if decimal < 10 {
+        return decimal;
+    }
+    let capital = std::num::wrapping_sub_u8(c, b'G');
+    if capital >= 250 {
+        return capital % 16;
+    }
+    let small = std::num::wrapping_sub_u8(c, b'g');
+    if small >= 250 {
+        return small % 16;
+    }
+    16
+}
 
 // How many digits stand before the first byte that is not a digit: the length, where each is one.
 pub fn first_other(ds: &[u8]) -> usize
@@ -14,7 +35,7 @@ pub fn first_other(ds: &[u8]) -> usize
 {
     let mut i = 0;
     while i < ds.len() {
-        if record::digit_value(ds[i]) >= 16 {
+        if digit_value(ds[i]) >= 16 {
             return i;
         }
         i += 1;
@@ -65,11 +86,11 @@ fn decode_pairs(ds: &[u8], buf: &mut [u8]) -> Scan
     let mut i = 0;
     while i < n {
         let p = 2 * i;
-        let high = record::digit_value(ds[p]);
+        let high = digit_value(ds[p]);
         if high >= 16 {
             return Scan { whole: false, sum };
         }
-        let low = record::digit_value(ds[p + 1]);
+        let low = digit_value(ds[p + 1]);
         if low >= 16 {
             return Scan { whole: false, sum };
         }

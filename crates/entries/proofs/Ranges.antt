@@ -8,10 +8,10 @@ use native.Mathlib.Omega.{arith}
 use lib.Dec.{eqb, leb}
 use lib.ListN.{length, getD}
 use borrow.Author.Tests.{leb-true}
-use Rattle.record.specs.Common.{Every, Byte}
+use Rattle.digits.specs.Common.{Every, Byte}
 use Rattle.record.specs.declared.Record.{Record}
 use Rattle.record.specs.declared.Record.the-variants.{Data, ExtendedSegmentAddress, StartSegmentAddress, ExtendedLinearAddress}
-use Rattle.record.proofs.Tests.{branch}
+use Rattle.digits.proofs.Tests.{branch}
 use Rattle.writer.specs.Claims.{In-range}
 use Rattle.entries.specs.Entry.{if-short, record-of, two-at, four-at, eight-at, record-at, and-then, first-records, records-of}
 use Rattle.entries.specs.Claims.{List-in-range}

@@ -10,7 +10,7 @@ use lib.Dec.{leb}
 use lib.ListN.{length, take, drop, length-take, length-drop, drop-of-length-le}
 use lib.Seq.{take-nil}
 use borrow.Author.Tests.{leb-true, leb-false}
-use Rattle.record.specs.Common.{if_then_else_}
+use Rattle.digits.specs.Common.{if_then_else_}
 use Rattle.chunks.specs.declared.Chunks.{Chunks}
 use Rattle.chunks.specs.declared.Place.{Place}
 use Rattle.chunks.specs.declared.Place.the-variants.{Nowhere, InChunk, InCarry}

@@ -11,9 +11,9 @@ use lib.Dec.{leb}
 use lib.ListN.{length, take}
 use borrow.Author.Tests.{leb-false}
 use Rattle.marks.specs.Marks.{first-bad}
-use Rattle.record.specs.Common.{if_then_else_}
+use Rattle.digits.specs.Common.{if_then_else_}
 use Rattle.record.specs.Refusals.{output-full}
-use Rattle.record.proofs.Tests.{branch}
+use Rattle.digits.proofs.Tests.{branch}
 use Rattle.writer.specs.Told.{Told, wrote, refuses}
 use Rattle.writer.specs.Text.{Text, chars, refused, place-behind, if-room}
 use Rattle.steps.specs.Steps.{Verdict}

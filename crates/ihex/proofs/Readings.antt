@@ -8,11 +8,11 @@ use mathlib.Core.List.{List, [], _∷_}
 use native.Mathlib.Omega.{arith}
 use lib.Dec.{leb}
 use lib.ListN.{length}
-use Rattle.record.specs.Common.{if_then_else_, pasted}
+use Rattle.digits.specs.Common.{if_then_else_, pasted}
 use Rattle.record.specs.Refusals.{pool-full}
 use Rattle.record.specs.Line.{Said, says, wrong, judge}
 use Rattle.record.specs.Meaning.{Meaning, data-at, end-of-file, extended-segment, start-segment, extended-linear, start-linear, meaning}
-use Rattle.record.proofs.Tests.{branch}
+use Rattle.digits.proofs.Tests.{branch}
 use Rattle.reader.specs.declared.ReaderOptions.{ReaderOptions}
 use Rattle.reader.specs.declared.State.{State}
 use Rattle.reader.specs.declared.Reply.{Reply}

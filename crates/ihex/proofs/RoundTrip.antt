@@ -9,14 +9,14 @@ use lib.Dec.{leb}
 use lib.ListN.{length, take, drop, length-take}
 use lib.Seq.{take-at, drop-at, length-take-le}
 use borrow.Author.Tests.{le-leb, leb-true}
-use Rattle.record.specs.Common.{if_then_else_, Every, pasted}
+use Rattle.digits.specs.Common.{if_then_else_, Every, pasted}
 use Rattle.record.specs.Refusals.{pool-full}
 use Rattle.record.specs.declared.Record.{Record}
 use Rattle.record.specs.declared.Record.the-variants.{Data, EndOfFile, ExtendedSegmentAddress, StartSegmentAddress, ExtendedLinearAddress, StartLinearAddress}
 use Rattle.record.specs.Record.{meant}
 use Rattle.record.specs.Meaning.{Meaning, data-at, end-of-file, extended-segment, start-segment, extended-linear, start-linear, meaning}
 use Rattle.record.specs.Written.{kind-of, address-of, payload-of, Sayable}
-use Rattle.record.proofs.Tests.{both-ways}
+use Rattle.digits.proofs.Tests.{both-ways}
 use Rattle.record.proofs.Writing.{reads-back}
 use Rattle.reader.specs.declared.Answer.the-variants.{Read}
 use Rattle.reader.specs.Told.{gives, refuses, told}

@@ -12,10 +12,10 @@ use lib.Dec.{eqb, ltb}
 use lib.ListN.{length, take, drop-of-length-le}
 use lib.Seq.{take-nil, take-length}
 use borrow.Author.Tests.{lt-leb, eqb-true, ne-eqb}
-use Rattle.record.specs.Common.{if_then_else_, Every}
+use Rattle.digits.specs.Common.{if_then_else_, Every}
 use Rattle.record.specs.Refusals.{pool-full, carry-too-small}
 use Rattle.record.specs.Line.{judge}
-use Rattle.record.proofs.Tests.{split}
+use Rattle.digits.proofs.Tests.{split}
 use Rattle.record.proofs.Standing.{stands}
 use Rattle.reader.specs.Told.{Told, refuses, done}
 use Rattle.reader.specs.Answer.{given, answered, poured}

@@ -5,7 +5,7 @@ use mathlib.Core.Path.{_≡_}
 use mathlib.Core.Option.{some}
 use mathlib.Core.List.{List, [], _∷_}
 use lib.ListN.{length, take}
-use Rattle.record.specs.Common.{Every, Byte}
+use Rattle.digits.specs.Common.{Every, Byte}
 use Rattle.record.specs.declared.Record.{Record}
 use Rattle.record.specs.Record.{meant}
 use Rattle.record.specs.Meaning.{Meaning, data-at, end-of-file, extended-segment, start-segment, extended-linear, start-linear}

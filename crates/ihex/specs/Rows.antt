@@ -8,7 +8,7 @@ use mathlib.Core.Option.{Option, none, some}
 use mathlib.Core.List.{List, [], map}
 use lib.Dec.{eqb, ltb}
 use lib.ListN.{length, take, drop}
-use Rattle.record.specs.Common.{if_then_else_, Every, pasted}
+use Rattle.digits.specs.Common.{if_then_else_, Every, pasted}
 use Rattle.reader.specs.declared.ReaderOptions.{ReaderOptions}
 use Rattle.reader.specs.Lines.{lines, through}
 use Rattle.reader.specs.Row.{sayings, stopped}

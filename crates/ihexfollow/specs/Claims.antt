@@ -5,7 +5,7 @@ use mathlib.Core.Path.{_≡_}
 use mathlib.Core.Bool.{true, false}
 use mathlib.Core.List.{List, [], _∷_, _++_}
 use lib.ListN.{length}
-use Rattle.record.specs.Common.{Every}
+use Rattle.digits.specs.Common.{Every}
 use Rattle.chunks.specs.declared.Chunks.{Chunks}
 use Rattle.chunks.specs.declared.ChunkStep.{ChunkStep}
 use Rattle.chunks.specs.Next.{new-chunks}

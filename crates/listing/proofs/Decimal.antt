@@ -9,9 +9,9 @@ use native.Mathlib.Nat.{pow-succ'}
 use lib.Dec.{ltb}
 use lib.ListN.{length, length-append}
 use borrow.Author.Tests.{lt-ltb, le-ltb, ltb-false}
-use Rattle.record.specs.Common.{if_then_else_}
-use Rattle.record.specs.Written.{capital-digit}
-use Rattle.record.proofs.Tests.{split}
+use Rattle.digits.specs.Common.{if_then_else_}
+use Rattle.digits.specs.Spelling.{capital-digit}
+use Rattle.digits.proofs.Tests.{split}
 use Rattle.listing.specs.Listing.{digits, decimal}
 
 digits-enough : (a b n : ℕ) → n < a → n < b → digits a n ≡ digits b n

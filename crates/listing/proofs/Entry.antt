@@ -6,16 +6,17 @@ use mathlib.Core.Path.{_≡_, refl, sym, _∙_, ap}
 use mathlib.Core.List.{List, [], _∷_, _++_, append-assoc, append-nil}
 use native.Mathlib.Omega.{arith}
 use lib.ListN.{length, length-append}
-use Rattle.record.specs.Common.{text}
+use Rattle.digits.specs.Common.{text}
 use Rattle.record.specs.Refusals.{Refusal, number-of}
 use Rattle.record.specs.Faults.{Fault, no-colon, no-digit, short, long, odd, sum-differs, length-differs, type-unknown, size-differs}
 use Rattle.record.specs.Line.{Said, says, wrong}
 use Rattle.record.specs.Meaning.{data-at, meaning}
-use Rattle.record.specs.Written.{spelt, two-bytes}
-use Rattle.record.proofs.Spelling.{spells-length}
+use Rattle.record.specs.Written.{two-bytes}
+use Rattle.digits.specs.Spelling.{spelt}
+use Rattle.digits.proofs.Hex.{spells-length}
 use Rattle.record.proofs.Judging.{size-fits, kinds}
 use Rattle.record.proofs.Standing.{Stands}
-use Rattle.record.proofs.Writing.{spelt-length, spelt-append}
+use Rattle.digits.proofs.Spelt.{spelt-length, spelt-append}
 use Rattle.reader.specs.declared.ReaderError.{ReaderError}
 use Rattle.reader.specs.declared.ReaderError.the-variants.{MissingStartCode, RecordTooShort, RecordTooLong, RecordNotEvenLength, ContainsInvalidCharacters, ChecksumMismatch, PayloadLengthMismatch, UnsupportedRecordType, InvalidLengthForType, PoolFull}
 use Rattle.reader.specs.Told.{refusal-of, values-in}

@@ -9,11 +9,11 @@ use native.Mathlib.Omega.{arith}
 use lib.Dec.{eqb, ltb}
 use lib.ListN.{length}
 use borrow.Author.Tests.{eqb-true, ltb-true, lt-ltb, le-ltb}
-use Rattle.record.specs.Common.{if_then_else_, Every}
+use Rattle.digits.specs.Common.{if_then_else_, Every}
 use Rattle.record.specs.Refusals.{Refusal}
 use Rattle.record.specs.Line.{Said, says, wrong, judge}
 use Rattle.record.specs.Meaning.{Meaning, meaning}
-use Rattle.record.proofs.Tests.{branch, and-true}
+use Rattle.digits.proofs.Tests.{branch, and-true}
 use Rattle.reader.specs.declared.Reply.{Reply}
 use Rattle.reader.specs.declared.State.{State}
 use Rattle.reader.specs.Lines.{lines}

@@ -9,14 +9,14 @@ use lib.Dec.{leb}
 use lib.ListN.{length, take, drop, length-append, length-take}
 use borrow.Author.Tests.{le-leb, lt-leb, leb-true}
 use Rattle.record.specs.Meaning.{data-at}
-use Rattle.record.specs.Written.{spelt}
+use Rattle.digits.specs.Spelling.{spelt}
 use Rattle.record.specs.declared.Record.{Record}
 use Rattle.record.specs.declared.Record.the-variants.{Data, EndOfFile, ExtendedSegmentAddress, StartSegmentAddress, ExtendedLinearAddress, StartLinearAddress}
 use Rattle.reader.specs.declared.ReaderError.{ReaderError}
 use Rattle.reader.specs.declared.ReaderError.the-variants.{MissingStartCode, RecordTooShort, RecordTooLong, RecordNotEvenLength, ContainsInvalidCharacters, ChecksumMismatch, PayloadLengthMismatch, UnsupportedRecordType, InvalidLengthForType, PoolFull}
 use Rattle.reader.specs.declared.Reply.{Reply}
 use Rattle.reader.specs.declared.Reply.the-variants.{Read, Refused, Done}
-use Rattle.record.proofs.Tests.{split, both}
+use Rattle.digits.proofs.Tests.{split, both}
 use Rattle.reader.specs.Told.{refusal-of}
 use Rattle.listing.specs.Listing.{decimal, values-shown, record-entry, refusal-entry, count-line}
 use Rattle.listing.specs.Listed.{text-room, room, record-room, reply-room}

@@ -8,9 +8,9 @@ use native.Mathlib.Nat.{add-zero}
 use native.Mathlib.Numerals.{add-one}
 use lib.ListN.{length, getD, take, drop, set, length-append}
 use lib.Seq.{length-take-le, take-length, take-suc, paste, paste-suc}
-use Rattle.record.specs.Written.{spelt}
-use Rattle.record.proofs.Writing.{spelt-length, spelt-append}
-use Rattle.record.proofs.Pasting.{pasted-none, pasted-one, pasted-more}
+use Rattle.digits.specs.Spelling.{spelt}
+use Rattle.digits.proofs.Spelt.{spelt-length, spelt-append}
+use Rattle.digits.proofs.Pasting.{pasted-none, pasted-one, pasted-more}
 use Rattle.listing.specs.Helpers.{Puts}
 
 module _ (out : List ℕ) (at : ℕ) where

@@ -6,9 +6,9 @@ use mathlib.Core.Logic.{_≢_, _⊎_, inl, inr, ⊎-elim}
 use mathlib.Core.List.{List, [], _∷_, _++_}
 use native.Mathlib.Omega.{arith}
 use lib.ListN.{length, length-append}
-use Rattle.record.specs.Common.{text}
+use Rattle.digits.specs.Common.{text}
 use Rattle.record.specs.Line.{Said, judge}
-use Rattle.record.proofs.Tests.{branch}
+use Rattle.digits.proofs.Tests.{branch}
 use Rattle.record.proofs.Standing.{stands}
 use Rattle.reader.specs.declared.ReaderOptions.{ReaderOptions}
 use Rattle.reader.specs.Lines.{rest, lines, Ended, with-CRLF, with-LF, with-text, Cut, Joins, nothing, more}

@@ -7,8 +7,8 @@ use native.Mathlib.Omega.{arith}
 use mathlib.Core.Bool.{Bool, true, false}
 use lib.ListN.{length, drop, length-append}
 use borrow.Author.Tests.{lt-ltb, le-ltb, le-leb, lt-leb, leb-true}
-use Rattle.record.specs.Common.{if_then_else_, text}
-use Rattle.record.proofs.Tests.{split}
+use Rattle.digits.specs.Common.{if_then_else_, text}
+use Rattle.digits.proofs.Tests.{split}
 use Rattle.listing.specs.declared.Listed.{Listed}
 use Rattle.listing.specs.declared.Listed.the-variants.{Wrote, NoRoom}
 use Rattle.listing.specs.Listing.{decimal, ended, heading, count-line, entries, answers, listing}

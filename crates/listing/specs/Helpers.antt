@@ -5,8 +5,9 @@ use mathlib.Core.Path.{_≡_}
 use mathlib.Core.Bool.{Bool, true, false}
 use mathlib.Core.List.{List, [], _∷_, _++_}
 use lib.ListN.{length}
-use Rattle.record.specs.Common.{text, pasted}
-use Rattle.record.specs.Written.{spelt, two-bytes}
+use Rattle.digits.specs.Common.{text, pasted}
+use Rattle.record.specs.Written.{two-bytes}
+use Rattle.digits.specs.Spelling.{spelt}
 use Rattle.record.specs.Record.{meant, Inside}
 use Rattle.record.specs.declared.Record.{Record}
 use Rattle.reader.specs.declared.Values.{Values}

@@ -5,11 +5,12 @@ use mathlib.Core.Bool.{true, false}
 use mathlib.Core.List.{List, [], _∷_, _++_, flatMap}
 use lib.Dec.{eqb, ltb}
 use lib.ListN.{length}
-use Rattle.record.specs.Common.{if_then_else_, text}
+use Rattle.digits.specs.Common.{if_then_else_, text}
 use Rattle.record.specs.Refusals.{Refusal, refusal, number-of}
 use Rattle.record.specs.Line.{Said, says, wrong}
 use Rattle.record.specs.Meaning.{Meaning, data-at, end-of-file, extended-segment, start-segment, extended-linear, start-linear, meaning}
-use Rattle.record.specs.Written.{capital-digit, spelt, two-bytes, four-bytes}
+use Rattle.record.specs.Written.{two-bytes, four-bytes}
+use Rattle.digits.specs.Spelling.{capital-digit, spelt}
 use Rattle.record.specs.Record.{meant}
 use Rattle.reader.specs.declared.ReaderOptions.{ReaderOptions}
 use Rattle.reader.specs.declared.Reply.{Reply}

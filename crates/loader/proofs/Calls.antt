@@ -9,7 +9,7 @@ use mathlib.Core.List.{List, [], _∷_}
 use lib.ListN.{length, drop, length-take}
 use lib.Seq.{take-at}
 use borrow.Author.Tests.{le-leb}
-use Rattle.record.specs.Common.{if_then_else_}
+use Rattle.digits.specs.Common.{if_then_else_}
 use Rattle.record.specs.Line.{Said, says, wrong, judge}
 use Rattle.record.specs.Meaning.{Meaning, data-at, end-of-file, extended-segment, start-segment, extended-linear, start-linear, meaning}
 use Rattle.record.specs.Record.{type-of, numbers-of, meant}

@@ -9,10 +9,11 @@ use mathlib.Core.List.{List, []}
 use lib.Dec.{eqb}
 use lib.ListN.{length, getD}
 use borrow.Author.Tests.{eq-eqb, le-ltb}
-use Rattle.record.specs.Common.{if_then_else_}
+use Rattle.digits.specs.Common.{if_then_else_}
 use Rattle.record.specs.Refusals.{Refusal, refusal, number-of, contains-invalid-characters, missing-end-of-file-record, bad-window, outside-window}
-use Rattle.record.specs.Digits.{number}
-use Rattle.record.specs.Line.{wrong, named, judge}
+use Rattle.digits.specs.Digits.{number}
+use Rattle.record.specs.Line.{wrong, judge}
+use Rattle.digits.specs.Reading.{named}
 use Rattle.record.specs.Meaning.{meaning}
 use Rattle.record.specs.Faults.{Fault, no-colon, no-digit, short, long, odd, sum-differs, length-differs, type-unknown, size-differs}
 use Rattle.record.proofs.Standing.{Stands, stands}

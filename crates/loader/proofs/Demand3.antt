@@ -10,7 +10,7 @@ use mathlib.Core.Option.{Option, none, some}
 use mathlib.Core.List.{List}
 use lib.ListN.{length, getD, List·getD-eq-default}
 use lib.Seq.{ext-getD}
-use Rattle.record.specs.Common.{if_then_else_}
+use Rattle.digits.specs.Common.{if_then_else_}
 use Rattle.record.specs.Refusals.{Refusal, bad-window}
 use Rattle.steps.specs.Steps.{Step, Tally, nothing-yet, accepted, decision, verdict}
 use Rattle.steps.specs.Sites.{Loaded, stopping-by, stopping-in, painted, marked, Owed}

@@ -12,10 +12,10 @@ use mathlib.Core.List.{List, [], _∷_, _++_}
 use lib.Dec.{eqb}
 use lib.ListN.{length, drop}
 use borrow.Author.Tests.{eqb-true, ne-eqb}
-use Rattle.record.specs.Common.{if_then_else_, Every}
+use Rattle.digits.specs.Common.{if_then_else_, Every}
 use Rattle.record.specs.Line.{judge}
 use Rattle.record.specs.Noise.{Says-a-record, Slip, no-slip, one-changed, one-lost, one-added, two-swapped}
-use Rattle.record.proofs.Tests.{both-ways}
+use Rattle.digits.proofs.Tests.{both-ways}
 use Rattle.record.proofs.Noise.{odd-length, one-more-character, characters, one-slip}
 use Rattle.reader.specs.Lines.{LF, CR, at-LF, ends-line, first-line, rest}
 use Rattle.reader.proofs.Cutting.{Closed, nothing, closed}

@@ -14,7 +14,7 @@ use Rattle.record.specs.Refusals.{outside-window}
 use Rattle.record.specs.Record.{meant}
 use Rattle.record.specs.declared.Record.{Record}
 use Rattle.record.specs.declared.Record.the-variants.{Data, EndOfFile, ExtendedSegmentAddress, StartSegmentAddress, ExtendedLinearAddress, StartLinearAddress}
-use Rattle.record.proofs.Parts.{part-is}
+use Rattle.digits.proofs.Parts.{part-is}
 use Rattle.reader.specs.Row.{is-end}
 use Rattle.steps.specs.Steps.{Step, accepted, refused, outside, turn, decision, verdict}
 use Rattle.window.specs.declared.Reach.{Reach}

@@ -12,7 +12,7 @@ use native.Mathlib.Decide.{ℕ-discrete}
 use lib.ListN.{length, drop}
 use Rattle.record.specs.Line.{judge}
 use Rattle.record.specs.Meaning.{meaning}
-use Rattle.record.specs.Digits.{number}
+use Rattle.digits.specs.Digits.{number}
 use Rattle.record.specs.Noise.{Slip, no-slip, one-changed, one-lost, one-added, two-swapped}
 use Rattle.record.proofs.Noise.{no-record-goes-on}
 use Rattle.reader.specs.Lines.{LF, first-line, lines}

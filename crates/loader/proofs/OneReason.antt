@@ -7,7 +7,7 @@ use mathlib.Core.Bool.{Bool, true, false, true≢false}
 use mathlib.Core.Option.{none, some}
 use mathlib.Core.List.{List, [], _∷_, _++_, append-assoc, append-nil, nil≢cons, head-eq-of-cons-eq, tail-eq-of-cons-eq}
 use lib.ListN.{length}
-use Rattle.record.specs.Common.{Every}
+use Rattle.digits.specs.Common.{Every}
 use Rattle.record.specs.Refusals.{Refusal, outside-window}
 use Rattle.record.specs.Line.{wrong, judge}
 use Rattle.reader.specs.Lines.{lines}

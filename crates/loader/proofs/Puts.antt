@@ -12,7 +12,7 @@ use mathlib.Core.List.{List, [], _∷_, _++_, append-assoc, append-nil, nil≢co
 use lib.Dec.{eqb}
 use lib.ListN.{length, getD, take}
 use borrow.Author.Tests.{eqb-true, eqb-false}
-use Rattle.record.specs.Common.{if_then_else_, or-else, Every}
+use Rattle.digits.specs.Common.{if_then_else_, or-else, Every}
 use Rattle.record.specs.Meaning.{Meaning, data-at, end-of-file, extended-segment, start-segment, extended-linear, start-linear}
 use Rattle.steps.specs.Steps.{Placement}
 use Rattle.steps.specs.Sites.{last-at}

@@ -8,7 +8,7 @@ use mathlib.Core.Bool.{Bool, true, false}
 use mathlib.Core.Option.{Option, none, some, Option·getD}
 use mathlib.Core.List.{List, [], _∷_, _++_, map, append-assoc, append-nil, nil≢cons}
 use lib.ListN.{length}
-use Rattle.record.specs.Common.{if_then_else_, or-else, Every}
+use Rattle.digits.specs.Common.{if_then_else_, or-else, Every}
 use Rattle.record.specs.Line.{Said, says, wrong, judge}
 use Rattle.record.specs.Meaning.{Meaning, data-at, end-of-file, extended-segment, start-segment, extended-linear, start-linear, meaning}
 use Rattle.record.proofs.Choices.{or-else-none, or-else-assoc, getD-or-else}

@@ -9,7 +9,7 @@ use mathlib.Core.Option.{Option, none, some, Option·map}
 use mathlib.Core.List.{List, [], _∷_, _++_, map, map-append, append-nil}
 use lib.ListN.{length, take, drop, length-drop, take-append-drop, drop-of-length-le}
 use lib.Seq.{length-take-le, take-all}
-use Rattle.record.specs.Common.{or-else}
+use Rattle.digits.specs.Common.{or-else}
 use Rattle.steps.specs.Steps.{Placement, outside}
 use Rattle.steps.specs.Sites.{painted}
 use Rattle.steps.specs.Runs.{run, as-mark}

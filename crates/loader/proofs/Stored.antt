@@ -10,7 +10,7 @@ use mathlib.Core.Option.{Option, none, some, Option·getD}
 use mathlib.Core.List.{List, [], _∷_, _++_}
 use lib.ListN.{length, getD, take, length-append, List·getD-append}
 use lib.Seq.{take-append-seam, take-append-le, getD-append-seam}
-use Rattle.record.specs.Common.{Every}
+use Rattle.digits.specs.Common.{Every}
 use Rattle.record.specs.Refusals.{number-of, outside-window}
 use Rattle.record.specs.Meaning.{Meaning, data-at, end-of-file, extended-segment, start-segment, extended-linear, start-linear}
 use Rattle.record.proofs.Standing.{Stands, stands, fault-few}

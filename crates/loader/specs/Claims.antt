@@ -11,9 +11,10 @@ use mathlib.Core.Option.{Option, none, some, Option·getD}
 use mathlib.Core.List.{List, [], _∷_, _++_, List·Memᴰ}
 use lib.Dec.{eqb}
 use lib.ListN.{length, getD, replicate}
-use Rattle.record.specs.Common.{or-else, Every, text}
+use Rattle.digits.specs.Common.{or-else, Every, text}
 use Rattle.record.specs.Refusals.{Refusal, number-of, contains-invalid-characters, missing-end-of-file-record, bad-window, outside-window}
-use Rattle.record.specs.Line.{Said, says, wrong, named, judge}
+use Rattle.record.specs.Line.{Said, says, wrong, judge}
+use Rattle.digits.specs.Reading.{named}
 use Rattle.record.specs.Meaning.{Meaning, data-at, end-of-file, extended-segment, start-segment, extended-linear, start-linear, meaning}
 use Rattle.reader.specs.Lines.{LF, lines, through}
 use Rattle.reader.specs.Claims.{Offends}

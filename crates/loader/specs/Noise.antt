@@ -6,7 +6,7 @@ use mathlib.Core.Logic.{_≢_}
 use Prim.Native.Nat.{ℕ}
 use mathlib.Core.List.{List, _∷_, _++_}
 use lib.ListN.{set, take, drop, replicate}
-use Rattle.record.specs.Common.{Every}
+use Rattle.digits.specs.Common.{Every}
 use Rattle.record.specs.Refusals.{Refusal, contains-invalid-characters, record-too-short, checksum-mismatch}
 use Rattle.record.specs.Noise.{Slip}
 use Rattle.reader.specs.Lines.{LF, CR}

@@ -8,7 +8,7 @@ use mathlib.Core.Bool.{true, false}
 use mathlib.Core.Option.{some}
 use mathlib.Core.List.{List, [], _∷_, _++_}
 use lib.ListN.{length, getD, take}
-use Rattle.record.specs.Common.{Every, text}
+use Rattle.digits.specs.Common.{Every, text}
 use Rattle.record.specs.Refusals.{outside-window}
 use Rattle.record.specs.Line.{says, wrong}
 use Rattle.record.specs.Meaning.{Meaning, data-at, end-of-file, extended-segment, start-segment, extended-linear, start-linear, meaning}

@@ -11,7 +11,7 @@ use lib.Dec.{leb}
 use lib.ListN.{length, length-append}
 use borrow.Author.Tests.{le-leb, lt-ltb, le-ltb}
 use Rattle.marks.specs.Marks.{flags, first-bad}
-use Rattle.record.specs.Common.{if_then_else_}
+use Rattle.digits.specs.Common.{if_then_else_}
 use Rattle.record.specs.Refusals.{output-full, bad-window, bad-mark}
 use Rattle.record.specs.declared.Record.{Record}
 use Rattle.writer.specs.declared.Written.{Written}

@@ -11,13 +11,13 @@ use lib.Dec.{ltb}
 use lib.ListN.{length, getD, take, length-append}
 use Rattle.marks.specs.Marks.{Marked, flags, first-bad}
 use Rattle.marks.proofs.Flags.{flags-length}
-use Rattle.record.specs.Common.{if_then_else_, Every, Byte}
+use Rattle.digits.specs.Common.{if_then_else_, Every, Byte}
 use Rattle.record.specs.Refusals.{bad-mark}
 use Rattle.record.specs.declared.Record.{Record}
 use Rattle.record.specs.Record.{meant}
 use Rattle.record.specs.Written.{payload-of}
-use Rattle.record.proofs.Tests.{both-ways}
-use Rattle.record.proofs.Parts.{part-length}
+use Rattle.digits.proofs.Tests.{both-ways}
+use Rattle.digits.proofs.Parts.{part-length}
 use Rattle.writer.specs.Told.{wrote}
 use Rattle.writer.specs.Text.{chars, refused, place-behind}
 use Rattle.writer.specs.Line.{ended-line}

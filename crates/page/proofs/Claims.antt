@@ -13,10 +13,10 @@ use borrow.Author.Tests.{leb-true, leb-false, ltb-true, ltb-false}
 use Rattle.marks.specs.Marks.{first-bad}
 use Rattle.marks.specs.Claims.{First-bad}
 use Rattle.marks.proofs.Claims.{bad-found, none-bad, one-first-bad}
-use Rattle.record.specs.Common.{if_then_else_}
+use Rattle.digits.specs.Common.{if_then_else_}
 use Rattle.record.specs.Refusals.{Refusal, refusal, output-full, bad-window, bad-mark}
 use Rattle.record.specs.Written.{written}
-use Rattle.record.proofs.Tests.{branch}
+use Rattle.digits.proofs.Tests.{branch}
 use Rattle.writer.specs.declared.Written.the-variants.{Wrote as WriterWrote}
 use Rattle.writer.specs.Told.{Told, wrote, refuses}
 use Rattle.writer.specs.Text.{Text, chars, refused, place-behind, if-room, put-at, Writes}

@@ -11,15 +11,15 @@ use lib.Seq.{getD-take, getD-drop, ext-getD}
 use borrow.Author.Tests.{le-leb}
 use Rattle.marks.specs.Marks.{flags}
 use Rattle.marks.proofs.Flags.{flags-length, flag-marked}
-use Rattle.record.specs.Common.{if_then_else_, Every, Byte}
+use Rattle.digits.specs.Common.{if_then_else_, Every, Byte}
 use Rattle.record.specs.declared.Record.{Record}
 use Rattle.record.specs.declared.Record.the-variants.{EndOfFile, ExtendedLinearAddress}
 use Rattle.record.specs.Record.{meant}
 use Rattle.record.specs.Line.{judge}
 use Rattle.record.specs.Meaning.{Meaning, data-at}
 use Rattle.record.specs.Written.{Sayable, line-of, rewritten}
-use Rattle.record.proofs.Tests.{both-ways}
-use Rattle.record.proofs.Parts.{part-length}
+use Rattle.digits.proofs.Tests.{both-ways}
+use Rattle.digits.proofs.Parts.{part-length}
 use Rattle.record.proofs.Writing.{reads-back}
 use Rattle.writer.specs.Line.{line-refusal, line}
 use Rattle.writer.specs.Object.{ends, ends-in-end, joined-lines}

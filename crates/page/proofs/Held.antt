@@ -8,8 +8,8 @@ use native.Mathlib.Omega.{arith}
 use native.Mathlib.Nat.{add-zero, zero-add}
 use lib.ListN.{length, getD}
 use borrow.Author.Tests.{eqb-true}
-use Rattle.record.specs.Common.{Every}
-use Rattle.record.proofs.Tests.{branch}
+use Rattle.digits.specs.Common.{Every}
+use Rattle.digits.proofs.Tests.{branch}
 use Rattle.marks.specs.Marks.{mark-at}
 use Rattle.marks.proofs.Places.{marked-inside}
 use Rattle.page.specs.Pieces.{Piece, is-marked, pieces}

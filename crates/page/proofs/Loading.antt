@@ -16,13 +16,13 @@ use Rattle.marks.specs.Marks.{row-length, mark-at, Marked, flags}
 use Rattle.marks.specs.Claims.{Mark, All-good}
 use Rattle.marks.proofs.Places.{marked-inside}
 use Rattle.marks.proofs.Flags.{flags-length, whole-row}
-use Rattle.record.specs.Common.{if_then_else_, Every}
+use Rattle.digits.specs.Common.{if_then_else_, Every}
 use Rattle.record.specs.declared.Record.{Record}
 use Rattle.record.specs.declared.Record.the-variants.{ExtendedLinearAddress}
 use Rattle.record.specs.Record.{meant}
 use Rattle.record.specs.Meaning.{Meaning, extended-linear}
 use Rattle.record.specs.Written.{Sayable}
-use Rattle.record.proofs.Tests.{split}
+use Rattle.digits.proofs.Tests.{split}
 use Rattle.record.proofs.Choices.{or-else-none}
 use Rattle.record.proofs.Writing.{reads-back}
 use Rattle.reader.specs.Row.{Numbered, on}

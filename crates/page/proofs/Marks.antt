@@ -8,7 +8,7 @@ use mathlib.Core.List.{List}
 use lib.ListN.{length, getD}
 use Rattle.marks.specs.Marks.{Marked, Unmarked, flags, NextMarked, NextUnmarked}
 use Rattle.marks.proofs.Flags.{flags-length, flags-say, flag-marked}
-use Rattle.record.proofs.Tests.{split}
+use Rattle.digits.proofs.Tests.{split}
 use Rattle.page.specs.Helpers.{reach, PieceEnd}
 
 -- from one place up to another no flag is 1, and that of the other is, or it is the end

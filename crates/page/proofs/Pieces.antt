@@ -8,7 +8,7 @@ use mathlib.Core.Option.{Option, none, some}
 use mathlib.Core.List.{List, [], _∷_}
 use lib.Dec.{eqb}
 use borrow.Author.Tests.{eqb-true, eqb-false, eq-eqb, not-false}
-use Rattle.record.proofs.Tests.{branch, or-false}
+use Rattle.digits.proofs.Tests.{branch, or-false}
 use Rattle.page.specs.Pieces.{Piece, is-marked, ends-before, one-longer, pieces}
 
 -- ---- the tests, as facts

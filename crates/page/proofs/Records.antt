@@ -10,7 +10,7 @@ use native.Mathlib.Omega.{arith}
 use borrow.Author.Tests.{eqb-true, eqb-false}
 use Rattle.record.specs.declared.Record.{Record}
 use Rattle.record.specs.declared.Record.the-variants.{Data, ExtendedLinearAddress}
-use Rattle.record.proofs.Tests.{branch}
+use Rattle.digits.proofs.Tests.{branch}
 use Rattle.page.specs.Pieces.{Piece, pieces}
 use Rattle.page.specs.File.{upper, data-of, is-latest, extension, records, page-records}
 use Rattle.page.specs.Shape.{data-in, Ahead, nothing, extension-to, data-under, Follows, no-data, first-upper, at-last, other-upper, first-data, more-data, Records-made-so, Records-only-so}

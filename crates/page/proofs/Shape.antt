@@ -8,8 +8,8 @@ use mathlib.Core.List.{List, [], _∷_, _++_}
 use native.Mathlib.Nat.{add-zero}
 use native.Mathlib.Omega.{arith}
 use borrow.Author.Tests.{eq-eqb, ne-eqb}
-use Rattle.record.specs.Common.{Every}
-use Rattle.record.proofs.Tests.{split}
+use Rattle.digits.specs.Common.{Every}
+use Rattle.digits.proofs.Tests.{split}
 use Rattle.page.specs.Pieces.{Piece, one-longer}
 use Rattle.page.specs.Shape.{places, held, marked-places, Sized, Before, Cut-nowhere-else, Made-so, Only-so}
 use Rattle.page.proofs.Pieces.{fresh, Made, nothing-left, last, skipped, started, ended, cut, grown, made}

@@ -8,14 +8,14 @@ use mathlib.Core.Option.{none}
 use mathlib.Core.List.{List, [], _∷_, _++_, map, nil≢cons, List·Memᴰ, List·Memᴰ·cases-cons, List·Memᴰ·not-nil, tail-eq-of-cons-eq, head-eq-of-cons-eq}
 use native.Mathlib.Omega.{arith}
 use lib.ListN.{length}
-use Rattle.record.specs.Common.{if_then_else_, Every, Byte}
+use Rattle.digits.specs.Common.{if_then_else_, Every, Byte}
 use Rattle.record.specs.declared.Record.{Record}
 use Rattle.record.specs.declared.Record.the-variants.{Data, EndOfFile, ExtendedSegmentAddress, StartSegmentAddress, ExtendedLinearAddress, StartLinearAddress}
 use Rattle.record.specs.Record.{meant}
 use Rattle.record.specs.Line.{Said, judge}
 use Rattle.record.specs.Meaning.{Meaning}
 use Rattle.record.specs.Written.{written, Sayable}
-use Rattle.record.proofs.Tests.{both-ways, and-true}
+use Rattle.digits.proofs.Tests.{both-ways, and-true}
 use Rattle.record.proofs.Writing.{reads-back}
 use Rattle.reader.specs.Lines.{LF, CR, with-LF, nothing, more, lines}
 use Rattle.reader.specs.Row.{Numbered, on, sayings, is-end, stops, through-stop, row}

@@ -11,9 +11,9 @@ use lib.Dec.{eqb, ltb}
 use lib.ListN.{length, getD, drop, drop-of-length-le}
 use lib.Seq.{drop-cons}
 use borrow.Author.Tests.{eq-eqb, ne-eqb, lt-ltb}
-use Rattle.record.specs.Common.{if_then_else_}
+use Rattle.digits.specs.Common.{if_then_else_}
 use Rattle.record.specs.declared.Record.the-variants.{Data, EndOfFile, ExtendedLinearAddress}
-use Rattle.record.proofs.Tests.{if-true, if-false, split, both-ways, or-true}
+use Rattle.digits.proofs.Tests.{if-true, if-false, split, both-ways, or-true}
 use Rattle.page.specs.declared.Walk.{Walk}
 use Rattle.page.specs.Pieces.{Piece, ends-before, one-longer, starting, pieces}
 use Rattle.page.specs.File.{upper, data-of, extension, records}

@@ -6,7 +6,7 @@ use mathlib.Core.Logic.{_⊎_}
 use mathlib.Core.Option.{none, some}
 use mathlib.Core.List.{List, [], _∷_, _++_, map}
 use lib.ListN.{length, getD, take, drop, replicate}
-use Rattle.record.specs.Common.{Every, Byte, text}
+use Rattle.digits.specs.Common.{Every, Byte, text}
 use Rattle.record.specs.Refusals.{output-full, bad-window, bad-mark}
 use Rattle.record.specs.declared.Record.{Record}
 use Rattle.record.specs.Line.{judge}

@@ -6,7 +6,7 @@ use mathlib.Core.Bool.{Bool, not, _||_}
 use mathlib.Core.Option.{Option, none, some}
 use mathlib.Core.List.{List, [], _∷_}
 use lib.Dec.{eqb}
-use Rattle.record.specs.Common.{if_then_else_}
+use Rattle.digits.specs.Common.{if_then_else_}
 
 -- the places of one data record: the first, counted from the window's first place, and how many
 pub record Piece : Type 0 where

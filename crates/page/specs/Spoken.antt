@@ -3,7 +3,7 @@
 use Prim.Native.Nat.{ℕ, suc}
 use mathlib.Core.Path.{_≡_}
 use mathlib.Core.List.{List, [], _∷_}
-use Rattle.record.specs.Common.{Every, Byte}
+use Rattle.digits.specs.Common.{Every, Byte}
 use Rattle.record.specs.declared.Record.{Record}
 use Rattle.record.specs.Record.{meant}
 use Rattle.record.specs.Line.{Said, says}

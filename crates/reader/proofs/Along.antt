@@ -9,9 +9,9 @@ use native.Mathlib.Nat.{add-suc, add-zero, mod-eq-of-lt}
 use lib.Dec.{eqb}
 use lib.ListN.{length, take, drop, length-append, take-append-drop}
 use lib.Seq.{drop-at}
-use Rattle.record.specs.Common.{if_then_else_}
+use Rattle.digits.specs.Common.{if_then_else_}
 use Rattle.record.specs.Line.{Said, judge}
-use Rattle.record.proofs.Tests.{if-true, both}
+use Rattle.digits.proofs.Tests.{if-true, both}
 use Rattle.reader.specs.declared.State.{State}
 use Rattle.reader.specs.Lines.{LF, CR, at-LF, first-line, rest, lines, later, Found, a-line, no-line, next-line}
 use Rattle.reader.specs.Row.{Numbered, on, sayings}

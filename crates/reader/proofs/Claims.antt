@@ -5,9 +5,9 @@ use mathlib.Core.Path.{_≡_, refl, sym, _∙_, ap}
 use mathlib.Core.List.{List}
 use lib.Dec.{eqb}
 use lib.ListN.{getD}
-use Rattle.record.specs.Common.{if_then_else_}
+use Rattle.digits.specs.Common.{if_then_else_}
 use Rattle.record.specs.Refusals.{Refusal, refusal}
-use Rattle.record.specs.Digits.{number}
+use Rattle.digits.specs.Digits.{number}
 use Rattle.record.specs.Line.{judge}
 use Rattle.record.specs.Written.{written}
 use Rattle.record.specs.Meaning.{meaning}

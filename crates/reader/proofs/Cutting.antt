@@ -10,8 +10,8 @@ use mathlib.Core.List.{List, [], _∷_, _++_, append-assoc, List·Memᴰ, List·
 use lib.Dec.{eqb}
 use borrow.Author.Tests.{eqb-true, eqb-false, ne-eqb}
 use native.Mathlib.Omega.{arith}
-use Rattle.record.proofs.Tests.{both-ways, both, and-false}
-use Rattle.record.specs.Common.{if_then_else_}
+use Rattle.digits.proofs.Tests.{both-ways, both, and-false}
+use Rattle.digits.specs.Common.{if_then_else_}
 use Rattle.reader.specs.Lines.{LF, CR, at-LF, ends-line, first-line, rest, Ended, with-CRLF, with-LF, with-text, Cut, lines, later, through}
 
 -- ---- first line and rest

@@ -8,8 +8,8 @@ use mathlib.Core.List.{List, [], _∷_, _++_, append-nil, List·Memᴰ, List·Me
 use lib.Dec.{eqb}
 use lib.ListN.{length, getD, take, drop, length-append, length-drop}
 use borrow.Author.Tests.{eq-eqb, ne-eqb}
-use Rattle.record.specs.Common.{if_then_else_}
-use Rattle.record.proofs.Tests.{both-ways}
+use Rattle.digits.specs.Common.{if_then_else_}
+use Rattle.digits.proofs.Tests.{both-ways}
 use lib.Seq.{split-at, drop-cons, take-all, length-take-le, getD-take, getD-append-seam}
 use Rattle.reader.specs.Lines.{LF, CR, rest, with-CRLF, with-LF, with-text, Cut}
 use Rattle.reader.specs.Helpers.{FirstFeed, LineEnd}

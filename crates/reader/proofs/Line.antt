@@ -9,9 +9,9 @@ use mathlib.Core.List.{List, [], _∷_}
 use native.Mathlib.Omega.{arith}
 use lib.ListN.{length, getD, drop, length-drop}
 use borrow.Author.Tests.{lt-ltb, le-ltb, eq-eqb, ne-eqb}
-use Rattle.record.specs.Common.{if_then_else_}
+use Rattle.digits.specs.Common.{if_then_else_}
 use Rattle.record.specs.Refusals.{missing-start-code, record-too-short, record-too-long, record-not-even-length}
-use Rattle.record.specs.Digits.{all-digits, bytes}
+use Rattle.digits.specs.Digits.{all-digits, bytes}
 use Rattle.record.specs.Line.{Said, wrong, invalid, judge-bytes, judge-digits, judge}
 
 pub judge-none : (l : List ℕ) → length l ≡ 0 → judge l ≡ wrong missing-start-code

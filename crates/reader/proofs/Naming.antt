@@ -6,9 +6,10 @@ use mathlib.Core.Bool.{Bool, true, false}
 use mathlib.Core.List.{List, [], _∷_, _++_, List·Memᴰ}
 use native.Mathlib.Omega.{arith}
 use lib.ListN.{length}
-use Rattle.record.specs.Common.{if_then_else_}
+use Rattle.digits.specs.Common.{if_then_else_}
 use Rattle.record.specs.Refusals.{Refusal, number-of, contains-invalid-characters, pool-full}
-use Rattle.record.specs.Line.{Said, says, wrong, named, judge}
+use Rattle.record.specs.Line.{Said, says, wrong, judge}
+use Rattle.digits.specs.Reading.{named}
 use Rattle.record.specs.Faults.{First-offender}
 use Rattle.record.specs.Meaning.{Meaning, data-at, end-of-file, extended-segment, start-segment, extended-linear, start-linear, meaning}
 use Rattle.record.proofs.Claims.{names-the-offender}

@@ -9,7 +9,7 @@ use native.Mathlib.Numerals.{add-one}
 use lib.ListN.{length, getD, take, drop, set, length-drop}
 use lib.Seq.{paste, paste-suc, getD-drop}
 use Rattle.record.specs.declared.Record.the-variants.{EndOfFile, ExtendedSegmentAddress, StartSegmentAddress, ExtendedLinearAddress, StartLinearAddress}
-use Rattle.record.specs.Digits.{number}
+use Rattle.digits.specs.Digits.{number}
 use Rattle.record.specs.Line.{size}
 use Rattle.record.specs.Meaning.{meaning}
 use Rattle.reader.specs.Told.{gives}

@@ -8,12 +8,12 @@ use mathlib.Core.List.{List, [], _∷_}
 use native.Mathlib.Omega.{arith}
 use lib.ListN.{length, take, drop, length-drop}
 use lib.Dec.{eqb}
-use Rattle.record.specs.Common.{if_then_else_, pasted}
+use Rattle.digits.specs.Common.{if_then_else_, pasted}
 use Rattle.record.specs.Refusals.{number-of, pool-full}
 use Rattle.record.specs.Line.{Said, says, wrong, judge}
 use Rattle.record.specs.Meaning.{Meaning, data-at, end-of-file, extended-segment, start-segment, extended-linear, start-linear, meaning}
 use Rattle.record.specs.declared.Record.{Record}
-use Rattle.record.proofs.Tests.{if-true, if-false}
+use Rattle.digits.proofs.Tests.{if-true, if-false}
 use Rattle.reader.specs.declared.Answer.{Answer}
 use Rattle.reader.specs.declared.Answer.the-variants.{Read, Refused}
 use Rattle.reader.specs.declared.ReaderError.{ReaderError}

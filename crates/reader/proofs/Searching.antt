@@ -10,8 +10,8 @@ use denote.Ref.{RefT}
 use lib.Dec.{eqb}
 use lib.ListN.{length, take, drop, length-append, length-drop}
 use lib.Seq.{drop-drop, take-length, take-at}
-use Rattle.record.specs.Common.{if_then_else_}
-use Rattle.record.proofs.Tests.{both}
+use Rattle.digits.specs.Common.{if_then_else_}
+use Rattle.digits.proofs.Tests.{both}
 use Rattle.reader.specs.Lines.{LF, CR, at-LF, first-line, rest, a-line, next-line}
 use Rattle.reader.specs.Text.{FirstLine}
 use Rattle.reader.specs.Helpers.{Ahead}

@@ -9,8 +9,8 @@ use lib.Bits.{bitOr, or-add-and, and-le-l, and-le-r}
 use lib.Dec.{eqb}
 use lib.ListN.{getD}
 use borrow.Author.Tests.{eq-eqb}
-use Rattle.record.specs.Common.{if_then_else_}
-use Rattle.record.proofs.Tests.{split}
+use Rattle.digits.specs.Common.{if_then_else_}
+use Rattle.digits.proofs.Tests.{split}
 use Rattle.reader.specs.Lines.{LF}
 use Rattle.reader.specs.Helpers.{NoFeed}
 

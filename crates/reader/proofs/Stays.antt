@@ -9,11 +9,11 @@ use native.Mathlib.Omega.{arith}
 use native.Mathlib.Nat.{add-suc, suc-add, add-zero}
 use lib.Dec.{leb}
 use lib.ListN.{length, drop, drop-of-length-le}
-use Rattle.record.specs.Common.{if_then_else_, Every}
+use Rattle.digits.specs.Common.{if_then_else_, Every}
 use Rattle.record.specs.Refusals.{pool-full}
 use Rattle.record.specs.Line.{Said, says, wrong, judge}
 use Rattle.record.specs.Meaning.{Meaning, data-at, end-of-file, extended-segment, start-segment, extended-linear, start-linear, meaning}
-use Rattle.record.proofs.Tests.{both-ways}
+use Rattle.digits.proofs.Tests.{both-ways}
 use Rattle.reader.specs.declared.Values.{Values}
 use Rattle.reader.specs.declared.Figures.{Figures}
 use Rattle.reader.specs.declared.ReaderOptions.{ReaderOptions}

@@ -10,9 +10,9 @@ use native.Mathlib.Omega.{arith}
 use native.Mathlib.Nat.{add-suc, suc-add, add-zero}
 use lib.Dec.{eqb}
 use lib.ListN.{length}
-use Rattle.record.specs.Common.{if_then_else_}
+use Rattle.digits.specs.Common.{if_then_else_}
 use Rattle.record.specs.Line.{Said, judge}
-use Rattle.record.proofs.Tests.{both-ways}
+use Rattle.digits.proofs.Tests.{both-ways}
 use Rattle.reader.specs.declared.ReaderOptions.{ReaderOptions}
 use Rattle.reader.specs.declared.State.{State}
 use Rattle.reader.specs.declared.Reply.the-variants as reply

@@ -6,7 +6,7 @@ use mathlib.Core.List.{List, [], _∷_}
 use mathlib.Core.Bool.{Bool}
 use lib.Dec.{leb}
 use lib.ListN.{length, getD}
-use Rattle.record.specs.Common.{if_then_else_, pasted}
+use Rattle.digits.specs.Common.{if_then_else_, pasted}
 use Rattle.record.specs.Refusals.{pool-full}
 use Rattle.record.specs.Line.{Said, says, wrong, judge}
 use Rattle.record.specs.Meaning.{Meaning, data-at, end-of-file, extended-segment, start-segment, extended-linear, start-linear, meaning}

@@ -5,7 +5,7 @@ use mathlib.Core.Path.{_≡_}
 use mathlib.Core.Bool.{false}
 use mathlib.Core.List.{List, [], _∷_}
 use lib.ListN.{length}
-use Rattle.record.specs.Common.{if_then_else_, Every}
+use Rattle.digits.specs.Common.{if_then_else_, Every}
 use Rattle.reader.specs.declared.ReaderOptions.{ReaderOptions}
 use Rattle.reader.specs.declared.State.{State}
 use Rattle.reader.specs.declared.Step.{Step}

@@ -9,9 +9,10 @@ use mathlib.Core.Option.{some}
 use mathlib.Core.List.{List, [], _∷_, _++_, List·Memᴰ}
 use denote.Ref.{RefT}
 use lib.ListN.{length}
-use Rattle.record.specs.Common.{Every, text}
+use Rattle.digits.specs.Common.{Every, text}
 use Rattle.record.specs.Refusals.{Refusal, refusal, number-of, contains-invalid-characters, pool-full}
-use Rattle.record.specs.Line.{Said, wrong, named, judge}
+use Rattle.record.specs.Line.{Said, wrong, judge}
+use Rattle.digits.specs.Reading.{named}
 use Rattle.record.specs.Faults.{First-offender}
 use Rattle.record.specs.Written.{rewritten}
 use Rattle.record.specs.declared.Record.{Record}

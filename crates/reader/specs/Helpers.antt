@@ -7,8 +7,8 @@ use mathlib.Core.List.{List}
 use lib.ListN.{length, getD, take, drop}
 use Rattle.checksum.specs.Checksum.{sum}
 use Rattle.record.specs.declared.Record.{Record}
-use Rattle.record.specs.Digits.{leading}
-use Rattle.record.specs.Line.{named}
+use Rattle.digits.specs.Digits.{leading}
+use Rattle.digits.specs.Reading.{named}
 use Rattle.record.specs.Meaning.{meaning}
 use Rattle.reader.specs.declared.Answer.the-variants.{Read}
 use Rattle.reader.specs.declared.ReaderError.{ReaderError}
@@ -20,7 +20,7 @@ use Rattle.reader.specs.declared.State.{State}
 use Rattle.reader.specs.declared.Step.{Step}
 use Rattle.reader.specs.Told.{Told, told}
 use Rattle.reader.specs.Text.{told-reply, is-full, ends-row, behind}
-use Rattle.record.specs.Common.{if_then_else_}
+use Rattle.digits.specs.Common.{if_then_else_}
 use Rattle.reader.specs.Answer.{given}
 
 -- refusal 2 of a line, whose first byte is the colon

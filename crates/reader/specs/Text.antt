@@ -7,7 +7,7 @@ use mathlib.Core.List.{List}
 use denote.Ref.{RefT}
 use lib.Dec.{eqb}
 use lib.ListN.{length, drop}
-use Rattle.record.specs.Common.{if_then_else_}
+use Rattle.digits.specs.Common.{if_then_else_}
 use Rattle.record.specs.declared.Record.{Record}
 use Rattle.record.specs.Record.{type-of, numbers-of}
 use Rattle.record.specs.Refusals.{number-of, pool-full}

@@ -4,7 +4,7 @@ use Prim.Native.Nat.{ℕ}
 use mathlib.Core.Path.{_≡_, refl}
 use mathlib.Core.Option.{Option, none, some, Option·getD}
 use native.Mathlib.Omega.{arith}
-use Rattle.record.specs.Common.{or-else}
+use Rattle.digits.specs.Common.{or-else}
 
 pub or-else-none : {A : Type 0} (o : Option A) → or-else o none ≡ o
 or-else-none none = refl

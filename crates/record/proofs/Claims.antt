@@ -3,14 +3,12 @@
 use Prim.Native.Nat.{ℕ}
 use mathlib.Core.Path.{_≡_, refl, sym, _∙_, ap, subst}
 use mathlib.Core.List.{List}
-use mathlib.Core.Logic.{inl, inr}
 use native.Mathlib.Omega.{arith}
-use Rattle.record.specs.Digits.{digit}
 use Rattle.record.specs.Refusals.{Refusal, number-of, contains-invalid-characters}
-use Rattle.record.specs.Line.{wrong, named}
-use Rattle.record.specs.Faults.{Is-hex, First-offender, Fault, no-colon, no-digit, short, long, odd, sum-differs, length-differs, type-unknown, size-differs}
-use Rattle.record.specs.Claims.{Admits, Refuses, Named-as, One-offender, Names-the-offender, Values-of-digits, Record-type-unique, Digit-value-unique}
-use Rattle.record.proofs.Spelling.{hex-digit, hex-or-none}
+use Rattle.record.specs.Line.{wrong}
+use Rattle.digits.specs.Reading.{named}
+use Rattle.record.specs.Faults.{First-offender, Fault, no-colon, no-digit, short, long, odd, sum-differs, length-differs, type-unknown, size-differs}
+use Rattle.record.specs.Claims.{Admits, Refuses, One-offender, Names-the-offender, Record-type-unique}
 use Rattle.record.proofs.Offender.{same-place}
 use Rattle.record.proofs.Standing.{Stands, stands, admitted, refused}
 
@@ -22,18 +20,6 @@ refuses line r = (λ e. subst (Stands line) e (stands line), refused)
 
 pub record-type-unique : Record-type-unique
 record-type-unique x r r′ a b = a .answer ∙ sym (b .answer)
-
-pub digit-value-unique : Digit-value-unique
-digit-value-unique c r r′ a b = a .answer ∙ sym (b .answer)
-
-pub values-of-digits : Values-of-digits
-values-of-digits c r v = (λ x h. v .answer ∙ hex-digit h, λ no-hex. v .answer ∙ none no-hex)
-  where
-    none : ¬ Is-hex c → digit c ≡ 16
-    none no-hex = elim (hex-or-none c) [ inl h ↦ absurd (no-hex (digit c, h)) | inr e ↦ e ]
-
-pub named-as : Named-as
-named-as place = (λ h. omega arith, λ h. omega arith)
 
 pub one-offender : One-offender
 one-offender line p q f g = same-place line p q f g

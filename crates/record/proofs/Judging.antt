@@ -12,12 +12,13 @@ use lib.Seq.{take-at, getD-at}
 use borrow.Author.Tests.{lt-ltb, le-ltb, eq-eqb, ne-eqb, eqb-true}
 use Rattle.checksum.specs.Checksum.{sum, negated-sum}
 use Rattle.checksum.proofs.Laws.{sum-snoc}
-use Rattle.record.specs.Common.{if_then_else_}
+use Rattle.digits.specs.Common.{if_then_else_}
 use Rattle.record.specs.Refusals.{checksum-mismatch, payload-length-mismatch, unsupported-record-type, invalid-length-for-type}
 use Rattle.record.specs.Line.{says, wrong, size, fits, judge-fields, judge-bytes, judge-digits, judge}
-use Rattle.record.specs.Format.{Spells, Size, type-00, type-01, type-02, type-03, type-04, type-05, layout}
+use Rattle.record.specs.Format.{Size, type-00, type-01, type-02, type-03, type-04, type-05, layout}
+use Rattle.digits.specs.Hex.{Spells}
 use Rattle.record.specs.Faults.{Sums-up}
-use Rattle.record.proofs.Spelling.{spells-digits, spells-bytes, spells-length, last-small}
+use Rattle.digits.proofs.Hex.{spells-digits, spells-bytes, spells-length, last-small}
 
 -- ---- sizes
 

@@ -1,12 +1,8 @@
-pub mod Tests
 pub mod Choices
-pub mod Parts
-pub mod Spelling
 pub mod Offender
 pub mod Judging
 pub mod Standing
 pub mod Writing
-pub mod Pasting
 pub mod Claims
 pub mod Respelling
 pub mod Noise

@@ -10,18 +10,20 @@ use lib.ListN.{length, getD, length-append}
 use lib.Seq.{getD-append-seam}
 use Rattle.checksum.specs.Checksum.{sum, negated-sum}
 use Rattle.checksum.proofs.Laws.{sum-snoc}
-use Rattle.record.specs.Common.{Every}
+use Rattle.digits.specs.Common.{Every}
 use Rattle.record.specs.Refusals.{Refusal, contains-invalid-characters, checksum-mismatch}
-use Rattle.record.specs.Digits.{digit, bytes}
+use Rattle.digits.specs.Digits.{digit, bytes}
 use Rattle.record.specs.Line.{Said, says, wrong, judge}
-use Rattle.record.specs.Format.{Hex, decimal, capital, small, Spells, none, more, layout, Format}
-use Rattle.record.specs.Faults.{Is-hex, First-offender, no-digit, sum-differs}
+use Rattle.record.specs.Format.{layout, Format}
+use Rattle.digits.specs.Hex.{Hex, decimal, capital, small, Spells, none, more, Is-hex}
+use Rattle.record.specs.Faults.{First-offender, no-digit, sum-differs}
 use Rattle.record.specs.Noise.{Says-a-record, Two-cases, lowered, raised, Answer-to-wrong, colon-gone, digit-gone, other-value, other-case, One-wrong-character, One-answer-to-wrong, no-slip, one-changed, one-lost, one-added, two-swapped, One-slip, One-more-character, No-record-goes-on}
-use Rattle.record.proofs.Parts.{none-left, every-front, every-after}
-use Rattle.record.proofs.Spelling.{hex-digit, hex-small, hex-or-none, spells-digits, every-hex, spells-length, spells-bytes, first-small}
+use Rattle.digits.proofs.Parts.{none-left, every-front, every-after}
+use Rattle.digits.proofs.Hex.{hex-digit, hex-small, hex-or-none, spells-digits, every-hex, spells-length, spells-bytes, first-small}
 use Rattle.record.proofs.Judging.{ending, judge-other}
 use Rattle.record.proofs.Standing.{admitted, refused}
-use Rattle.record.proofs.Claims.{admits, named-as}
+use Rattle.record.proofs.Claims.{admits}
+use Rattle.digits.proofs.Claims.{named-as}
 use Rattle.record.proofs.Respelling.{not-both, Respelt, own, respelt, swapped}
 
 -- ---- bytes that do not sum to zero: refusal 6

@@ -8,9 +8,9 @@ use mathlib.Core.List.{List, [], _∷_, _++_}
 use native.Mathlib.Omega.{arith}
 use lib.ListN.{length}
 use Rattle.checksum.specs.Checksum.{sum}
-use Rattle.record.specs.Digits.{digit}
-use Rattle.record.specs.Format.{Hex, Spells, more}
-use Rattle.record.proofs.Spelling.{hex-digit, hex-small, spells-length}
+use Rattle.digits.specs.Digits.{digit}
+use Rattle.digits.specs.Hex.{Hex, Spells, more}
+use Rattle.digits.proofs.Hex.{hex-digit, hex-small, spells-length}
 
 -- ---- two sums
 

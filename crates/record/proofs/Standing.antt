@@ -12,12 +12,14 @@ use lib.ListN.{length, length-append}
 use borrow.Author.Tests.{lt-ltb, le-ltb, eq-eqb, ne-eqb, eqb-true, eqb-false, ltb-true, ltb-false}
 use Rattle.checksum.specs.Checksum.{negated-sum}
 use Rattle.record.specs.Refusals.{Refusal, number-of, missing-start-code, contains-invalid-characters, checksum-mismatch}
-use Rattle.record.specs.Digits.{all-digits, leading, bytes}
-use Rattle.record.specs.Line.{Said, says, wrong, fits, named, invalid, judge-fields, judge-bytes, judge-digits, judge}
-use Rattle.record.specs.Format.{Spells, Size, layout, Format}
+use Rattle.digits.specs.Digits.{all-digits, leading, bytes}
+use Rattle.record.specs.Line.{Said, says, wrong, fits, invalid, judge-fields, judge-bytes, judge-digits, judge}
+use Rattle.digits.specs.Reading.{named}
+use Rattle.record.specs.Format.{Size, layout, Format}
+use Rattle.digits.specs.Hex.{Spells}
 use Rattle.record.specs.Faults.{Sums-up, Fault, no-colon, no-digit, short, long, odd, sum-differs, length-differs, type-unknown, size-differs}
-use Rattle.record.proofs.Tests.{branch}
-use Rattle.record.proofs.Spelling.{spells-length, first-small, every-hex, hex-every, digits-spell}
+use Rattle.digits.proofs.Tests.{branch}
+use Rattle.digits.proofs.Hex.{spells-length, first-small, every-hex, hex-every, digits-spell}
 use Rattle.record.proofs.Offender.{first-offender, offended}
 use Rattle.record.proofs.Judging.{resize, size-fits, fits-size, fields-mislaid, fields-unknown, fields-misfit, fields-fit, judge-layout, check-sums, parts, judge-colon, judge-other, judge-spelt, judged}
 

@@ -1,14 +1,14 @@
 -- What is claimed of the definitions, and proved in `proofs/Claims.antt` and `proofs/Writing.antt`.
 -- Assumes nothing.
-use Prim.Native.Nat.{ℕ, _≤_}
+use Prim.Native.Nat.{ℕ}
 use mathlib.Core.Path.{_≡_}
 use mathlib.Core.Logic.{_↔_}
 use mathlib.Core.List.{List}
-use Rattle.record.specs.Digits.{DigitValue}
 use Rattle.record.specs.Refusals.{Refusal, number-of, contains-invalid-characters}
-use Rattle.record.specs.Line.{says, wrong, named, judge}
-use Rattle.record.specs.Format.{Hex, Format}
-use Rattle.record.specs.Faults.{Is-hex, First-offender, Fault}
+use Rattle.record.specs.Line.{says, wrong, judge}
+use Rattle.digits.specs.Reading.{named}
+use Rattle.record.specs.Format.{Format}
+use Rattle.record.specs.Faults.{First-offender, Fault}
 use Rattle.record.specs.Meaning.{Meaning, meaning}
 use Rattle.record.specs.Written.{written, In-capitals, Writable, Sayable, kind-of, address-of, payload-of, line-of}
 use Rattle.record.specs.declared.Record.{Record}
@@ -24,10 +24,6 @@ Admits =
 abbrev pub Refuses : Type 0
 Refuses = (line : List ℕ) (r : Refusal) → (judge line ≡ wrong r) ↔ Fault line r
 
--- a refusal names a place as it is, and any beyond 65,535 as that
-abbrev pub Named-as : Type 0
-Named-as = (place : ℕ) → (place ≤ 65535 → named place ≡ place) × (65535 ≤ place → named place ≡ 65535)
-
 -- there is one first offender at most, and refusal 2 comes exactly where there is one, and names its place
 abbrev pub One-offender : Type 0
 One-offender = (line : List ℕ) (p q : ℕ) → First-offender line p → First-offender line q → p ≡ q
@@ -36,10 +32,6 @@ abbrev pub Names-the-offender : Type 0
 Names-the-offender =
     (line : List ℕ) (r : Refusal)
     → ((judge line ≡ wrong r) × (number-of r ≡ 2)) ↔ ((place : ℕ) × First-offender line place × (r ≡ contains-invalid-characters (named place)))
-
--- the value of a digit of the format is the one that the format gives it, and that of any other byte is 16
-abbrev pub Values-of-digits : Type 0
-Values-of-digits = (c r : ℕ) → DigitValue c r → ((x : ℕ) → Hex c x → r ≡ x) × (¬ Is-hex c → r ≡ 16)
 
 -- what is written is in the format, for exactly that type, address and payload
 abbrev pub Written-in-format : Type 0
@@ -74,6 +66,3 @@ Said-is-sayable =
 -- no second answer meets a contract
 abbrev pub Record-type-unique : Type 0
 Record-type-unique = (x : Record) (r r′ : ℕ) → RecordType x r → RecordType x r′ → r ≡ r′
-
-abbrev pub Digit-value-unique : Type 0
-Digit-value-unique = (c r r′ : ℕ) → DigitValue c r → DigitValue c r′ → r ≡ r′

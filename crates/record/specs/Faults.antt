@@ -6,14 +6,11 @@ use mathlib.Core.Logic.{_≢_}
 use mathlib.Core.List.{List, [], _∷_, _++_}
 use lib.ListN.{length, getD}
 use Rattle.checksum.specs.Checksum.{sum, negated-sum}
-use Rattle.record.specs.Common.{Every}
+use Rattle.digits.specs.Common.{Every}
+use Rattle.digits.specs.Hex.{Is-hex, Spells}
 use Rattle.record.specs.Refusals.{Refusal, missing-start-code, contains-invalid-characters, record-too-short, record-too-long, record-not-even-length, checksum-mismatch, payload-length-mismatch, unsupported-record-type, invalid-length-for-type}
-use Rattle.record.specs.Line.{named}
-use Rattle.record.specs.Format.{Hex, Spells, Size, layout}
-
--- the character is a hexadecimal digit
-abbrev pub Is-hex : ℕ → Type 0
-Is-hex c = (x : ℕ) × Hex c x
+use Rattle.digits.specs.Reading.{named}
+use Rattle.record.specs.Format.{Size, layout}
 
 -- the place of the first character behind a colon that is no digit, the colon's being 0: the least such place
 pub record First-offender (line : List ℕ) (place : ℕ) : Type 0 where

@@ -1,21 +1,11 @@
 -- Intel's format, as a relation: which lines say which records. Nothing here computes, and no order of refusals is in it.
 -- Assumes nothing.
-use Prim.Native.Nat.{ℕ, _+_, _*_, _%_, _<_, _≤_}
+use Prim.Native.Nat.{ℕ, _+_, _*_, _%_}
 use mathlib.Core.Path.{_≡_}
 use mathlib.Core.List.{List, [], _∷_, _++_}
 use lib.ListN.{length}
 use Rattle.checksum.specs.Checksum.{sum}
-
--- the character c is the hexadecimal digit of value x: 0 to 9, A to F, a to f
-pub data Hex (c x : ℕ) : Type 0 where
-  decimal : c ≡ 48 + x → x < 10 → Hex c x
-  capital : c + 10 ≡ 65 + x → 10 ≤ x → x < 16 → Hex c x
-  small : c + 10 ≡ 97 + x → 10 ≤ x → x < 16 → Hex c x
-
--- the characters spell the bytes, two to a byte, high digit first
-pub data Spells : (digits bytes : List ℕ) → Type 0 where
-  none : Spells [] []
-  more : {a b x y byte : ℕ} {cs bytes : List ℕ} → Hex a x → Hex b y → byte ≡ x * 16 + y → Spells cs bytes → Spells (a ∷ b ∷ cs) (byte ∷ bytes)
+use Rattle.digits.specs.Hex.{Spells}
 
 -- a record of the type may have a payload of n bytes
 pub data Size (kind n : ℕ) : Type 0 where

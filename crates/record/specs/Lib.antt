@@ -1,6 +1,4 @@
-pub mod Common
 pub mod Refusals
-pub mod Digits
 pub mod Line
 pub mod Format
 pub mod Faults

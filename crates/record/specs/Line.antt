@@ -1,14 +1,15 @@
 -- What a line says: a type, an address and a payload, or the first thing that is wrong with it.
 -- Assumes nothing.
-use Prim.Native.Nat.{ℕ, suc, _+_, _-_, _*_, _%_, min}
+use Prim.Native.Nat.{ℕ, suc, _+_, _-_, _*_, _%_}
 use mathlib.Core.Bool.{Bool, _||_}
 use mathlib.Core.List.{List, [], _∷_}
 use lib.Dec.{ltb, eqb}
 use lib.ListN.{length, getD, take, drop}
 use Rattle.checksum.specs.Checksum.{negated-sum}
-use Rattle.record.specs.Common.{if_then_else_}
+use Rattle.digits.specs.Common.{if_then_else_}
+use Rattle.digits.specs.Reading.{named}
 use Rattle.record.specs.Refusals.{Refusal, missing-start-code, contains-invalid-characters, record-too-short, record-too-long, record-not-even-length, checksum-mismatch, payload-length-mismatch, unsupported-record-type, invalid-length-for-type}
-use Rattle.record.specs.Digits.{all-digits, leading, bytes}
+use Rattle.digits.specs.Digits.{all-digits, leading, bytes}
 
 pub data Said : Type 0 where
   says : (kind address : ℕ) (payload : List ℕ) → Said
@@ -46,10 +47,6 @@ judge-bytes bs =
     if eqb (negated-sum body) stated
     then judge-fields (getD bs 0 0) (getD bs 1 0 * 256 + getD bs 2 0) (getD bs 3 0) (drop 4 body)
     else wrong (checksum-mismatch (negated-sum body) stated)
-
--- a place of a line as a refusal names it, the colon's being 0: 65,535 for any place beyond that
-abbrev pub named : (place : ℕ) → ℕ
-named place = min place 65535
 
 -- what is said of characters behind the colon of which not all are digits: where the first stands that is none
 abbrev pub invalid : List ℕ → Said

@@ -4,8 +4,8 @@ use Prim.Native.Nat.{ℕ}
 use mathlib.Core.List.{List}
 use lib.Dec.{eqb}
 use lib.ListN.{take, drop}
-use Rattle.record.specs.Common.{if_then_else_}
-use Rattle.record.specs.Digits.{big-endian}
+use Rattle.digits.specs.Common.{if_then_else_}
+use Rattle.digits.specs.Digits.{big-endian}
 
 pub data Meaning : Type 0 where
   data-at : (offset : ℕ) (bytes : List ℕ) → Meaning

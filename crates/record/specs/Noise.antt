@@ -9,8 +9,7 @@ use lib.ListN.{length}
 use Rattle.checksum.specs.Checksum.{negated-sum}
 use Rattle.record.specs.Refusals.{Refusal, missing-start-code, contains-invalid-characters, checksum-mismatch}
 use Rattle.record.specs.Line.{says, wrong, judge}
-use Rattle.record.specs.Format.{Hex, Spells}
-use Rattle.record.specs.Faults.{Is-hex}
+use Rattle.digits.specs.Hex.{Hex, Spells, Is-hex}
 
 -- the line says a record
 abbrev pub Says-a-record : (line : List ℕ) → Type 0

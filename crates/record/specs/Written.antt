@@ -1,26 +1,16 @@
 -- The line that the writer writes for a record: a colon, then capitals, two to a byte, the checksum last.
 -- Assumes nothing.
-use Prim.Native.Nat.{ℕ, _+_, _/_, _%_, _<_, _≤_}
+use Prim.Native.Nat.{ℕ, _/_, _%_, _<_, _≤_}
 use mathlib.Core.Path.{_≡_}
-use mathlib.Core.Logic.{_⊎_}
 use mathlib.Core.Option.{Option, none, some}
 use mathlib.Core.List.{List, [], _∷_, _++_}
-use lib.Dec.{ltb}
 use lib.ListN.{length}
 use Rattle.checksum.specs.Checksum.{negated-sum}
-use Rattle.record.specs.Common.{if_then_else_, Every, Byte}
+use Rattle.digits.specs.Spelling.{spelt, Capital}
+use Rattle.digits.specs.Common.{Every, Byte}
 use Rattle.record.specs.Line.{Said, says, wrong}
 use Rattle.record.specs.Format.{Size}
 use Rattle.record.specs.Meaning.{Meaning, data-at, end-of-file, extended-segment, start-segment, extended-linear, start-linear, meaning}
-
--- the capital digit of a value below 16
-unfoldable pub capital-digit : ℕ → ℕ
-capital-digit x = if ltb x 10 then 48 + x else 55 + x
-
-unfoldable pub spelt : List ℕ → List ℕ
-unfolding capital-digit
-spelt [] = []
-spelt (b ∷ bs) = capital-digit (b / 16) ∷ capital-digit (b % 16) ∷ spelt bs
 
 -- all bytes of a record but the checksum
 abbrev pub body : (kind address : ℕ) (payload : List ℕ) → List ℕ
@@ -88,11 +78,7 @@ Sayable (start-segment cs ip) = (cs < 65536) × (ip < 65536)
 Sayable (extended-linear n) = n < 65536
 Sayable (start-linear n) = n < 4294967296
 
--- a digit that is not a small letter: 0 to 9, or A to F
-abbrev pub Capital : ℕ → Type 0
-Capital c = ((48 ≤ c) × (c ≤ 57)) ⊎ ((65 ≤ c) × (c ≤ 70))
-
--- a line that has only such digits after its colon
+-- a line that has only capital digits after its colon
 pub record In-capitals (line : List ℕ) : Type 0 where
   pub digits : List ℕ
   pub starts : line ≡ 58 ∷ digits

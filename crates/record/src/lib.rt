@@ -1,5 +1,4 @@
-// The six records of Intel's hexadecimal format, their types, the numbers of refusals, and the value of a digit.
-ghost use Rattle.record.specs.Digits.{DigitValue};
+// The six records of Intel's hexadecimal format, their types, the numbers of refusals, and the numbers and characters of a line.
 ghost use Rattle.record.specs.Record.{RecordType};
 
 pub enum Record {
@@ -144,24 +143,4 @@ impl Record {
             Record::StartLinearAddress(_) => types::START_LINEAR_ADDRESS,
         }
     }
-}
-
-// The value of a hexadecimal digit, 0 to 15 in either letter case; 16 for any other byte. Differences wrap: what stands ahead of `0` is beyond 9,
-// and the six letters ahead of `G` or of `g` are 250 to 255, whose lower four bits are the value.
-pub fn digit_value(c: u8) -> u8
-    ensures { λ r. ⌜ DigitValue c r ⌝ }
-{
-    let decimal = std::num::wrapping_sub_u8(c, b'0');
-    if decimal < 10 {
-        return decimal;
-    }
-    let capital = std::num::wrapping_sub_u8(c, b'G');
-    if capital >= 250 {
-        return capital % 16;
-    }
-    let small = std::num::wrapping_sub_u8(c, b'g');
-    if small >= 250 {
-        return small % 16;
-    }
-    16
 }

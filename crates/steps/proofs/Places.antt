@@ -12,7 +12,7 @@ use mathlib.Core.List.{List, [], _∷_, _++_, List·Memᴰ, List·Memᴰ·head, 
 use lib.ListN.{length, getD}
 use lib.Dec.{eqb}
 use borrow.Author.Tests.{eqb-true, eqb-false, eq-eqb}
-use Rattle.record.specs.Common.{if_then_else_, or-else}
+use Rattle.digits.specs.Common.{if_then_else_, or-else}
 use Rattle.record.proofs.Choices.{or-else-none, or-else-assoc, getD-or-else}
 use Rattle.steps.specs.Steps.{Placement}
 use Rattle.steps.specs.Sites.{last-at, mark, byte-shown, mark-shown, painted, marked, Last-stated, Place, Owed}

@@ -10,7 +10,7 @@ use mathlib.Core.List.{List, [], _∷_, _++_, map}
 use lib.Dec.{eqb}
 use lib.ListN.{length, getD, replicate}
 use borrow.Author.Tests.{eq-eqb, ne-eqb}
-use Rattle.record.specs.Common.{if_then_else_, or-else}
+use Rattle.digits.specs.Common.{if_then_else_, or-else}
 use Rattle.steps.specs.Steps.{Placement, outside}
 use Rattle.steps.specs.Sites.{last-at, mark, byte-shown, mark-shown, painted, marked}
 use Rattle.steps.specs.Runs.{run, as-mark, clear-at, cleared, Marks-by-ones}

@@ -9,7 +9,7 @@ use mathlib.Core.Option.{Option, none, some, Option·getD}
 use mathlib.Core.List.{List, [], _∷_, _++_, List·Memᴰ}
 use lib.Dec.{eqb}
 use lib.ListN.{length, getD}
-use Rattle.record.specs.Common.{if_then_else_, or-else, Every}
+use Rattle.digits.specs.Common.{if_then_else_, or-else, Every}
 use Rattle.record.specs.Refusals.{Refusal}
 use Rattle.reader.specs.Lines.{through}
 use Rattle.steps.specs.Steps.{Placement, Step, Tally, nothing-yet, Verdict, accepted, refused, Decision, by, decision, verdict, stated}

@@ -10,7 +10,7 @@ use mathlib.Core.List.{List, [], _∷_}
 use lib.Dec.{eqb, leb, ltb}
 use lib.ListN.{length}
 use borrow.Author.Tests.{eq-eqb, eqb-true, le-leb, lt-leb, lt-ltb, le-ltb, leb-true, ltb-true, ltb-false, not-false}
-use Rattle.record.proofs.Tests.{both, or-false}
+use Rattle.digits.proofs.Tests.{both, or-false}
 use Rattle.steps.specs.Steps.{outside}
 use Rattle.steps.specs.Runs.{run}
 use Rattle.steps.proofs.Runs.{run-inside, run-outside}

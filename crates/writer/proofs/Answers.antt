@@ -8,9 +8,9 @@ use native.Mathlib.Omega.{arith}
 use lib.ListN.{length, take, drop}
 use lib.Seq.{take-at}
 use borrow.Author.Tests.{le-leb, lt-leb}
-use Rattle.record.specs.Common.{pasted}
+use Rattle.digits.specs.Common.{pasted}
 use Rattle.record.specs.Refusals.{Refusal, output-full}
-use Rattle.record.proofs.Tests.{split}
+use Rattle.digits.proofs.Tests.{split}
 use Rattle.writer.specs.declared.WriterError.{WriterError}
 use Rattle.writer.specs.declared.WriterError.the-variants.{OutputFull}
 use Rattle.writer.specs.declared.Written.{Written}
@@ -18,7 +18,7 @@ use Rattle.writer.specs.declared.Written.the-variants.{Wrote, Refused}
 use Rattle.writer.specs.Told.{wrote, refuses, refusal-of, told}
 use Rattle.writer.specs.Text.{Text, chars, refused, unless, place-behind, Writes}
 use Rattle.writer.specs.Claims.{Refusal-changes-nothing, Rest-untouched}
-use Rattle.record.proofs.Pasting.{pasted-before, pasted-behind}
+use Rattle.digits.proofs.Pasting.{pasted-before, pasted-behind}
 
 -- a text that was measured: it is there, and as long as the answer
 pub there : (f : Option Refusal) (cs : List ℕ) (n : ℕ) → wrote n ≡ place-behind (unless f cs) 0 → (f ≡ none) × (n ≡ length cs)

@@ -7,21 +7,20 @@ use mathlib.Core.List.{List, [], _∷_, _++_, append-assoc, map}
 use native.Mathlib.Omega.{arith}
 use lib.ListN.{length, take, drop, length-append}
 use borrow.Author.Tests.{le-leb}
-use Rattle.record.specs.Common.{Every, Byte}
+use Rattle.digits.specs.Common.{Every, Byte}
 use Rattle.record.specs.declared.Record.{Record}
 use Rattle.record.specs.declared.Record.the-variants.{Data, EndOfFile, ExtendedSegmentAddress, StartSegmentAddress, ExtendedLinearAddress, StartLinearAddress}
 use Rattle.record.specs.Record.{Inside, meant}
 use Rattle.record.specs.Meaning.{Meaning}
 use Rattle.record.specs.Line.{says, judge}
 use Rattle.record.specs.Written.{written, kind-of, address-of, payload-of, line-of, Sayable}
-use Rattle.record.proofs.Parts.{every-front}
+use Rattle.digits.proofs.Parts.{every-front, part-length}
 use Rattle.record.proofs.Writing.{written-in-format, written-in-capitals, only-in-capitals, written-plain, writable, reads-back, said-is-sayable, fields-again}
 use Rattle.record.proofs.Claims.{admits}
-use Rattle.record.proofs.Spelling.{spells-small}
+use Rattle.digits.proofs.Hex.{spells-small}
 use Rattle.writer.specs.Line.{line-refusal, line, ended-line, line-text}
 use Rattle.writer.specs.Object.{joined-lines, object}
 use Rattle.writer.specs.Claims.{In-range, Line-in-format, Line-for, Writes-line, One-line, Canonical, Line-injective, Line-plain, Text-for, no-line, then-line, Writes-text, One-text, Object-injective, Examples}
-use Rattle.record.proofs.Parts.{part-length}
 use Rattle.writer.proofs.Answers.{stands-there}
 use Rattle.writer.proofs.Records.{fine-data}
 use Rattle.writer.proofs.Objects.{unless-chars, object-whole}

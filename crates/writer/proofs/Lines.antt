@@ -6,11 +6,11 @@ use mathlib.Core.List.{List, [], _∷_, _++_}
 use native.Mathlib.Omega.{arith}
 use lib.ListN.{length, take, drop, set, length-drop}
 use Rattle.checksum.specs.Checksum.{sum, negated-sum}
-use Rattle.record.specs.Common.{pasted}
-use Rattle.record.specs.Written.{spelt, written}
-use Rattle.record.proofs.Writing.{spelt-length, spelt-append}
-use Rattle.record.proofs.Pasting.{pasted-one, pasted-more}
-use Rattle.digits.specs.Spelling.{Spell}
+use Rattle.digits.specs.Common.{pasted}
+use Rattle.record.specs.Written.{written}
+use Rattle.digits.proofs.Spelt.{spelt-length, spelt-append}
+use Rattle.digits.proofs.Pasting.{pasted-one, pasted-more}
+use Rattle.digits.specs.Spelling.{Spell, spelt}
 use Rattle.digits.proofs.Parts.{rest-is, rest-pasted}
 use Rattle.writer.specs.Helpers.{front, Head, Fitting}
 

@@ -11,7 +11,7 @@ use Rattle.record.specs.Refusals.{payload-outside-pool, data-exceeds-maximum-le
 use Rattle.record.specs.declared.Record.the-variants.{Data, EndOfFile, ExtendedSegmentAddress, StartSegmentAddress, ExtendedLinearAddress, StartLinearAddress}
 use Rattle.record.specs.Record.{meant}
 use Rattle.record.specs.Written.{kind-of, address-of, payload-of}
-use Rattle.record.proofs.Parts.{part-length}
+use Rattle.digits.proofs.Parts.{part-length}
 use Rattle.record.proofs.Writing.{written-length}
 use Rattle.writer.specs.Told.{wrote, refuses}
 use Rattle.writer.specs.Text.{place-behind}

@@ -9,10 +9,10 @@ use native.Mathlib.Omega.{arith}
 use lib.Dec.{ltb}
 use lib.ListN.{length}
 use borrow.Author.Tests.{ltb-false}
-use Rattle.record.specs.Common.{if_then_else_, or-else, Every}
+use Rattle.digits.specs.Common.{if_then_else_, or-else, Every}
 use Rattle.record.specs.Refusals.{Refusal, missing-end-of-file-record, multiple-end-of-file-records}
 use Rattle.record.specs.declared.Record.{Record}
-use Rattle.record.proofs.Tests.{branch}
+use Rattle.digits.proofs.Tests.{branch}
 use Rattle.record.proofs.Choices.{or-else-none, or-else-assoc, or-else-both}
 use Rattle.writer.specs.Text.{chars, refused, unless}
 use Rattle.writer.specs.Line.{line-refusal, ended-line}

@@ -12,16 +12,16 @@ use native.Mathlib.Nat.{add-zero, zero-add}
 use lib.Dec.{leb, ltb}
 use lib.ListN.{length, length-append}
 use borrow.Author.Tests.{le-leb, lt-leb, leb-true, leb-false, lt-ltb, ltb-true, ltb-false}
-use Rattle.record.specs.Common.{if_then_else_, or-else, Every}
+use Rattle.digits.specs.Common.{if_then_else_, or-else, Every}
 use Rattle.record.specs.Refusals.{Refusal, missing-end-of-file-record, multiple-end-of-file-records}
 use Rattle.record.specs.declared.Record.{Record}
 use Rattle.record.specs.declared.Record.the-variants.{Data, EndOfFile, ExtendedSegmentAddress, StartSegmentAddress, ExtendedLinearAddress, StartLinearAddress}
 use Rattle.record.specs.Record.{meant}
 use Rattle.record.specs.Format.{type-01, type-02, type-03, type-04, type-05}
 use Rattle.record.specs.Written.{payload-of}
-use Rattle.record.proofs.Tests.{branch}
+use Rattle.digits.proofs.Tests.{branch}
 use Rattle.record.proofs.Choices.{or-else-both}
-use Rattle.record.proofs.Parts.{part-length}
+use Rattle.digits.proofs.Parts.{part-length}
 use Rattle.record.proofs.Judging.{size-is, ending}
 use Rattle.writer.specs.Told.{Told, wrote}
 use Rattle.writer.specs.Text.{refused, unless, place-behind, if-room}

@@ -10,13 +10,13 @@ use native.Mathlib.Omega.{arith}
 use lib.Dec.{leb}
 use lib.ListN.{length, take, drop}
 use borrow.Author.Tests.{leb-true}
-use Rattle.record.specs.Common.{if_then_else_, pasted}
+use Rattle.digits.specs.Common.{if_then_else_, pasted}
 use Rattle.record.specs.Refusals.{Refusal}
 use Rattle.record.specs.declared.Record.{Record}
 use Rattle.record.specs.declared.Record.the-variants.{Data}
 use Rattle.record.specs.Record.{meant}
 use Rattle.record.specs.Written.{written, payload-of, two-bytes}
-use Rattle.record.proofs.Parts.{part-is}
+use Rattle.digits.proofs.Parts.{part-is}
 use Rattle.writer.specs.Line.{line-refusal, line}
 use Rattle.writer.specs.Helpers.{Fitting, Ready}
 use Rattle.writer.proofs.Measuring.{line-length}

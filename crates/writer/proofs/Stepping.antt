@@ -10,7 +10,7 @@ use native.Mathlib.Omega.{arith}
 use lib.Dec.{leb}
 use lib.ListN.{length, length-append}
 use borrow.Author.Tests.{le-leb, leb-true}
-use Rattle.record.specs.Common.{if_then_else_, pasted}
+use Rattle.digits.specs.Common.{if_then_else_, pasted}
 use Rattle.record.specs.Refusals.{Refusal, output-full}
 use Rattle.record.specs.declared.Record.{Record}
 use Rattle.writer.specs.declared.Written.{Written}
@@ -22,7 +22,7 @@ use Rattle.writer.specs.Object.{first-refusal, joined-lines, object, Wri
 use Rattle.writer.specs.Survey.{begun}
 use Rattle.writer.specs.Claims.{Steps, no-step, then-step, Object-written}
 use Rattle.record.proofs.Choices.{or-else-both}
-use Rattle.record.proofs.Pasting.{pasted-none, pasted-length, pasted-on}
+use Rattle.digits.proofs.Pasting.{pasted-none, pasted-length, pasted-on}
 use Rattle.writer.proofs.Objects.{first-refusal-snoc, lines-snoc, parts}
 use Rattle.writer.proofs.Surveying.{answered}
 

@@ -10,10 +10,10 @@ use native.Mathlib.Omega.{arith}
 use lib.Dec.{ltb}
 use lib.ListN.{length, length-append}
 use borrow.Author.Tests.{le-leb, lt-leb}
-use Rattle.record.specs.Common.{if_then_else_, or-else}
+use Rattle.digits.specs.Common.{if_then_else_, or-else}
 use Rattle.record.specs.Refusals.{Refusal, missing-end-of-file-record, multiple-end-of-file-records}
 use Rattle.record.specs.declared.Record.{Record}
-use Rattle.record.proofs.Tests.{split}
+use Rattle.digits.proofs.Tests.{split}
 use Rattle.writer.specs.declared.Survey.{Survey}
 use Rattle.writer.specs.Told.{Told, wrote, refuses, told}
 use Rattle.writer.specs.Text.{refused, unless, place-behind, if-room}

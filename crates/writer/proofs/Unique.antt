@@ -6,7 +6,7 @@ use mathlib.Core.Bool.{Bool}
 use mathlib.Core.List.{List}
 use lib.Dec.{eqb}
 use lib.ListN.{getD}
-use Rattle.record.specs.Common.{if_then_else_}
+use Rattle.digits.specs.Common.{if_then_else_}
 use Rattle.record.specs.Refusals.{Refusal, refusal}
 use Rattle.writer.specs.declared.WriterError.{WriterError}
 use Rattle.writer.specs.declared.WriterError.the-variants.{DataExceedsMaximumLength, MissingEndOfFileRecord, MultipleEndOfFileRecords, PayloadOutsidePool, OutputFull}

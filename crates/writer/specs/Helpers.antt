@@ -6,9 +6,9 @@ use mathlib.Core.Option.{none}
 use mathlib.Core.List.{List, [], _∷_}
 use lib.ListN.{length}
 use Rattle.checksum.specs.Checksum.{sum}
-use Rattle.record.specs.Common.{pasted}
+use Rattle.digits.specs.Common.{pasted}
 use Rattle.record.specs.declared.Record.{Record}
-use Rattle.record.specs.Written.{spelt}
+use Rattle.digits.specs.Spelling.{spelt}
 use Rattle.writer.specs.Line.{line-refusal, line}
 
 -- the bytes of a line before its payload

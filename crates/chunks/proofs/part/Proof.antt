@@ -5,7 +5,7 @@ use denote.Ref.{now}
 use lib.ListN.{length}
 use borrow.Author.Tests.{le-leb, lt-leb}
 use borrow.Author.Needs.{needs}
-use Rattle.record.proofs.Parts.{part-is}
+use Rattle.digits.proofs.Parts.{part-is}
 use Rattle.chunks.proofs.Carry.{no-part, whole-part}
 use Rattle.chunks.proofs.part.Statement.{statement}
 use Rattle.chunks.proofs.part.Tie as tie

@@ -3,7 +3,7 @@
 use Prim.Native.Nat.{_%_}
 use borrow.Author.Needs.{needs}
 use borrow.Author.Tests.{lt-ltb, le-ltb}
-use Rattle.record.specs.Written.{capital-digit}
+use Rattle.digits.specs.Spelling.{capital-digit}
 use Rattle.digits.proofs.capital_digit.Statement.{statement}
 use Rattle.digits.proofs.capital_digit.Tie as tie
 

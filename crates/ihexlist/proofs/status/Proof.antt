@@ -1,7 +1,7 @@
 -- `ihexlist::status` meets its contract: the status of the listing, where that was written.
 -- Assumes nothing.
 use mathlib.Core.Path.{sym, _∙_}
-use Rattle.record.proofs.Tests.{if-true, if-false}
+use Rattle.digits.proofs.Tests.{if-true, if-false}
 use borrow.Author.Needs.{needs}
 use Rattle.ihexlist.proofs.status.Statement.{statement}
 use Rattle.ihexlist.proofs.status.Tie as tie

@@ -7,7 +7,7 @@ use native.Mathlib.Omega.{arith}
 use borrow.Author.Needs.{needs}
 use denote.Ref.{now}
 use lib.ListN.{length, length-append}
-use Rattle.record.specs.Written.{capital-digit}
+use Rattle.digits.specs.Spelling.{capital-digit}
 use Rattle.listing.specs.Listing.{decimal}
 use Rattle.listing.proofs.Putting.{put-then, put-as}
 use Rattle.listing.proofs.Decimal.{decimal-small, decimal-more}

@@ -7,7 +7,7 @@ use native.Mathlib.Omega.{arith}
 use denote.Ref.{now}
 use lib.ListN.{length, length-append}
 use borrow.Author.Tests.{leb-true, leb-false, not-true, not-false}
-use Rattle.record.specs.Common.{text}
+use Rattle.digits.specs.Common.{text}
 use Rattle.listing.specs.Listing.{ended, heading, count-line, entries, answers}
 use Rattle.listing.proofs.Putting.{put-then}
 use Rattle.listing.proofs.Sizes.{answers-room}

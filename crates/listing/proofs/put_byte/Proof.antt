@@ -5,7 +5,7 @@ use mathlib.Core.Path.{_≡_, _∙_, ap, ap₂}
 use mathlib.Core.List.{[], _∷_}
 use native.Mathlib.Omega.{arith}
 use denote.Ref.{now}
-use Rattle.record.specs.Written.{capital-digit, spelt}
+use Rattle.digits.specs.Spelling.{capital-digit, spelt}
 use Rattle.listing.proofs.Putting.{put-then, put-as}
 use borrow.Author.Needs.{needs}
 use Rattle.listing.proofs.put_byte.Statement.{statement}

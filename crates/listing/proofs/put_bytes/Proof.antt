@@ -5,7 +5,7 @@ use mathlib.Core.Path.{_≡_, refl, _∙_}
 use native.Mathlib.Omega.{arith}
 use denote.Ref.{now}
 use lib.ListN.{length, take}
-use Rattle.record.specs.Written.{spelt}
+use Rattle.digits.specs.Spelling.{spelt}
 use Rattle.listing.specs.Helpers.{Puts}
 use Rattle.listing.proofs.Putting.{put-none, bytes-more, bytes-place, bytes-last}
 use borrow.Author.Needs.{needs}

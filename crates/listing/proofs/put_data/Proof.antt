@@ -2,7 +2,7 @@
 -- Assumes nothing.
 use native.Mathlib.Omega.{arith}
 use denote.Ref.{now}
-use Rattle.record.specs.Written.{spelt}
+use Rattle.digits.specs.Spelling.{spelt}
 use Rattle.listing.proofs.Putting.{put-then, put-as}
 use Rattle.listing.proofs.Entry.{data-length, data-none, data-some, payload-length}
 use borrow.Author.Needs.{needs}

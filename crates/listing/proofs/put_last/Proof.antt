@@ -4,7 +4,7 @@ use mathlib.Core.Path.{sym}
 use mathlib.Core.List.{[], _∷_, append-assoc}
 use native.Mathlib.Omega.{arith}
 use denote.Ref.{now}
-use Rattle.record.specs.Common.{text}
+use Rattle.digits.specs.Common.{text}
 use Rattle.listing.specs.Listing.{decimal}
 use Rattle.listing.proofs.Putting.{put-then, put-as}
 use Rattle.listing.proofs.Whole.{count-line-length}

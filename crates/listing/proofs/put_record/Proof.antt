@@ -8,7 +8,7 @@ use lib.ListN.{length, take, drop}
 use Rattle.record.specs.declared.Record.{Record}
 use Rattle.record.specs.Record.{meant, Inside}
 use Rattle.record.specs.Meaning.{data-at}
-use Rattle.record.specs.Written.{spelt}
+use Rattle.digits.specs.Spelling.{spelt}
 use Rattle.listing.specs.Listing.{record-entry}
 use Rattle.listing.specs.Helpers.{numbered}
 use Rattle.listing.proofs.Putting.{put-as}

@@ -6,7 +6,7 @@ use mathlib.Core.List.{List, _++_}
 use native.Mathlib.Omega.{arith}
 use denote.Ref.{now}
 use lib.ListN.{length}
-use Rattle.record.specs.Common.{text}
+use Rattle.digits.specs.Common.{text}
 use Rattle.reader.specs.declared.ReaderError.{ReaderError}
 use Rattle.reader.specs.declared.Figures.{Figures}
 use Rattle.reader.specs.Told.{refusal-of, FiguresOf}

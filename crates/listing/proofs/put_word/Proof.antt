@@ -2,7 +2,7 @@
 -- Assumes nothing.
 use native.Mathlib.Omega.{arith}
 use denote.Ref.{now}
-use Rattle.record.specs.Written.{spelt}
+use Rattle.digits.specs.Spelling.{spelt}
 use Rattle.listing.proofs.Putting.{put-then}
 use borrow.Author.Needs.{needs}
 use Rattle.listing.proofs.put_word.Statement.{statement}

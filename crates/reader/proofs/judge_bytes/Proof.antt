@@ -7,7 +7,7 @@ use native.Mathlib.Omega.{arith}
 use denote.Ref.{now}
 use lib.ListN.{length, getD, take, drop}
 use Rattle.record.specs.Line.{Said, size, judge-bytes, judge-fields}
-use Rattle.record.proofs.Parts.{part-length}
+use Rattle.digits.proofs.Parts.{part-length}
 use Rattle.record.proofs.Judging.{fields-mislaid, fields-unknown, fields-misfit, fields-fit}
 use Rattle.reader.specs.declared.ReaderError.the-variants.{ChecksumMismatch, PayloadLengthMismatch, UnsupportedRecordType, InvalidLengthForType}
 use Rattle.reader.specs.Answer.{word}

@@ -4,7 +4,7 @@ use mathlib.Core.Path.{refl}
 use native.Mathlib.Omega.{arith}
 use denote.Ref.{now}
 use lib.ListN.{take, drop}
-use Rattle.record.proofs.Parts.{part-length}
+use Rattle.digits.proofs.Parts.{part-length}
 use Rattle.reader.specs.Answer.{word}
 use Rattle.reader.proofs.Answers.{full, placed}
 use borrow.Author.Needs.{needs}

@@ -9,11 +9,11 @@ use denote.Ref.{now}
 use lib.ListN.{length, take, drop, length-drop}
 use borrow.Author.Tests.{not-true, not-false}
 use Rattle.checksum.specs.Checksum.{sum}
-use Rattle.record.specs.Digits.{leading, all-digits, bytes}
+use Rattle.digits.specs.Digits.{leading, all-digits, bytes}
 use Rattle.reader.specs.declared.ReaderError.the-variants.{MissingStartCode, RecordTooShort, RecordTooLong, RecordNotEvenLength, ContainsInvalidCharacters}
 use Rattle.record.specs.Refusals.{contains-invalid-characters}
-use Rattle.record.specs.Line.{Said, wrong, named, judge, judge-bytes}
-use Rattle.digits.specs.Reading.{pairs, Decoded}
+use Rattle.record.specs.Line.{Said, wrong, judge, judge-bytes}
+use Rattle.digits.specs.Reading.{pairs, Decoded, named}
 use Rattle.digits.proofs.Leading.{leading-most}
 use Rattle.digits.proofs.Decoding.{pairs-all, decoded-all}
 use Rattle.reader.specs.Helpers.{invalid-at}

@@ -2,7 +2,7 @@
 -- Assumes nothing.
 use denote.Ref.{now}
 use borrow.Author.Needs.{needs}
-use Rattle.record.proofs.Parts.{part-is}
+use Rattle.digits.proofs.Parts.{part-is}
 use Rattle.window.proofs.Storing.{put-part}
 use Rattle.window.proofs.put_run.Statement.{statement}
 use Rattle.window.proofs.put_run.Tie as tie

@@ -6,7 +6,7 @@ use mathlib.Core.Path.{ap}
 use mathlib.Core.List.{[], _∷_}
 use denote.Ref.{now}
 use lib.ListN.{length, take, drop}
-use Rattle.record.proofs.Parts.{part-is, part-length}
+use Rattle.digits.proofs.Parts.{part-is, part-length}
 use Rattle.writer.proofs.Records.{fine-data, fitting, put-part, put-two, put-four}
 use borrow.Author.Needs.{needs}
 use Rattle.writer.proofs.put_record.Statement.{statement}

@@ -9,7 +9,7 @@ use Rattle.writer.specs.Told.{told}
 use Prim.Native.Nat.{_+_}
 use mathlib.Core.List.{[], _∷_}
 use Rattle.writer.specs.Line.{line-refusal, line, ended-line}
-use Rattle.record.proofs.Pasting.{pasted-one, pasted-more}
+use Rattle.digits.proofs.Pasting.{pasted-one, pasted-more}
 use Rattle.writer.proofs.Answers.{there, not-there, full, written-there}
 use borrow.Author.Needs.{needs}
 use Rattle.writer.proofs.write_step.Statement.{statement}

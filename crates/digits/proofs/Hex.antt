@@ -9,11 +9,10 @@ use native.Mathlib.Omega.{arith}
 use lib.Dec.{leb}
 use lib.ListN.{length}
 use borrow.Author.Tests.{lt-ltb, le-leb, lt-leb, ltb-true}
-use Rattle.record.specs.Common.{Every, Byte}
-use Rattle.record.specs.Digits.{between, digit, is-digit, all-digits, bytes}
-use Rattle.record.specs.Format.{Hex, decimal, capital, small, Spells, none, more}
-use Rattle.record.specs.Faults.{Is-hex}
-use Rattle.record.proofs.Tests.{split, both, and-false}
+use Rattle.digits.specs.Common.{Every, Byte}
+use Rattle.digits.specs.Digits.{between, digit, is-digit, all-digits, bytes}
+use Rattle.digits.specs.Hex.{Hex, decimal, capital, small, Spells, none, more, Is-hex}
+use Rattle.digits.proofs.Tests.{split, both, and-false}
 
 -- ---- one digit
 

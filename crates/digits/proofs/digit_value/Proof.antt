@@ -1,14 +1,14 @@
--- `record::digit_value` meets its contract: each range has the digits that the format gives their values, and outside of them there is none.
+-- `digits::digit_value` meets its contract: each range has the digits that the format gives their values, and outside of them there is none.
 -- Assumes nothing.
 use Prim.Native.Nat.{ℕ, _+_, _%_, _<_, _≤_}
 use mathlib.Core.Path.{_≡_, sym}
 use mathlib.Core.Logic.{inl, inr}
 use native.Mathlib.Omega.{arith}
 use borrow.Author.Needs.{needs}
-use Rattle.record.specs.Format.{decimal, capital, small}
-use Rattle.record.proofs.Spelling.{hex-digit, hex-or-none}
-use Rattle.record.proofs.digit_value.Statement.{statement}
-use Rattle.record.proofs.digit_value.Tie as tie
+use Rattle.digits.specs.Hex.{decimal, capital, small}
+use Rattle.digits.proofs.Hex.{hex-digit, hex-or-none}
+use Rattle.digits.proofs.digit_value.Statement.{statement}
+use Rattle.digits.proofs.digit_value.Tie as tie
 
 wrapping-sub-u8-requires : tie.Need-wrapping-sub-u8-requires
 wrapping-sub-u8-requires c κs = search needs

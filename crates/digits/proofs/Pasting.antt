@@ -8,7 +8,7 @@ use native.Mathlib.Nat.{add-zero}
 use native.Mathlib.Numerals.{add-one}
 use lib.ListN.{length, take, drop, set, length-append, length-drop, length-set, take-append-drop}
 use lib.Seq.{set-split, take-at, drop-at, length-take-le, drop-append-add, drop-drop}
-use Rattle.record.specs.Common.{pasted}
+use Rattle.digits.specs.Common.{pasted}
 
 pub pasted-none : (out : List ℕ) (at : ℕ) → pasted out at [] ≡ out
 pasted-none out at = rw (append-nil, add-zero) (take-append-drop at out)
