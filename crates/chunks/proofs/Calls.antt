@@ -20,7 +20,7 @@ use Rattle.digits.proofs.Tests.{branch, split, if-true, if-false, or-false}
 use Rattle.record.proofs.Standing.{Stands, stands, fault-few}
 use Rattle.record.proofs.Writing.{said-is-sayable}
 use Rattle.reader.specs.Told.{Told, gives, refuses, done}
-use Rattle.reader.specs.Answer.{room, given, kept, answered, poured}
+use Rattle.reader.specs.Answer.{fits-pool, given, kept, answered, poured}
 use Rattle.reader.specs.Text.{is-full, ends-row}
 use Rattle.reader.proofs.Reading.{full-keeps}
 use Rattle.reader.proofs.Room.{never-full}
@@ -46,7 +46,7 @@ unfolding answered told-number given
 never-18 line n at e = go (judge line) refl (ap told-number e)
   where
     meant : (m : Meaning) → told-number (given m n at) ≢ 18
-    meant (data-at offset bytes) e = by-room (room n at bytes) e
+    meant (data-at offset bytes) e = by-room (fits-pool n at bytes) e
       where
         by-room : (b : Bool) → told-number (if b then gives 0 (offset ∷ at ∷ length bytes ∷ []) else refuses pool-full) ≢ 18
         by-room true e = omega arith
@@ -78,9 +78,9 @@ full-line line n at f = go (judge line) refl f
     no e = let z : _≡_ {A = ℕ} 0 1 = cc in absurd (omega arith)
 
     meant : (kind address : ℕ) (payload : List ℕ) → judge line ≡ says kind address payload → (m : Meaning) → meaning kind address payload ≡ m → Sayable m → is-full (given m n at) ≡ true → Full-line line n at
-    meant kind address payload q (data-at o bs) e h f = by-room (room n at bs) refl
+    meant kind address payload q (data-at o bs) e h f = by-room (fits-pool n at bs) refl
       where
-        by-room : (b : Bool) → room n at bs ≡ b → Full-line line n at
+        by-room : (b : Bool) → fits-pool n at bs ≡ b → Full-line line n at
         by-room true r = no (rw r at f)
         by-room false r =
             record {

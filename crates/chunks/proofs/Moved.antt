@@ -20,7 +20,7 @@ use Rattle.digits.proofs.Leading.{leads, leading-on, leading-in}
 use Rattle.record.proofs.Claims.{names-the-offender}
 use Rattle.reader.specs.declared.Answer.{Answer}
 use Rattle.reader.specs.Told.{Told, gives, refuses, told}
-use Rattle.reader.specs.Answer.{Reads, room, given, answered, poured}
+use Rattle.reader.specs.Answer.{Reads, fits-pool, given, answered, poured}
 use Rattle.chunks.specs.Begun.{Kept, behind-digits, stands-for}
 use Rattle.chunks.specs.Helpers.{refusal-in-line, told-in-line}
 use Rattle.chunks.proofs.Brief.{judge-over, digits-append, all-behind, leading-behind, full, full-stands, taken-apart}
@@ -30,7 +30,7 @@ use Rattle.chunks.proofs.Brief.{judge-over, digits-append, all-behind, 
 record-unmoved : (m : ℕ) (x : Meaning) (n at : ℕ) → told-in-line m (given x n at) ≡ given x n at
 unfolding given
 record-unmoved m (data-at offset bytes) n at =
-    both-ways (λ t. let told : Told = if t then gives 0 (offset ∷ at ∷ length bytes ∷ []) else refuses pool-full in told-in-line m told ≡ told) (room n at bytes) refl refl
+    both-ways (λ t. let told : Told = if t then gives 0 (offset ∷ at ∷ length bytes ∷ []) else refuses pool-full in told-in-line m told ≡ told) (fits-pool n at bytes) refl refl
 record-unmoved m end-of-file n at = refl
 record-unmoved m (extended-segment number) n at = refl
 record-unmoved m (start-segment cs ip) n at = refl

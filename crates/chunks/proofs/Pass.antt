@@ -13,7 +13,7 @@ use borrow.Author.Tests.{ne-eqb}
 use Rattle.reader.specs.Lines.{LF}
 use Rattle.chunks.specs.Begun.{Kept, Begun, add, seek}
 use Rattle.chunks.specs.Next.{kept-in}
-use Rattle.chunks.specs.Helpers.{held, Grown, Passed}
+use Rattle.chunks.specs.Helpers.{held, Grown, Up-to-LF}
 use Rattle.chunks.proofs.Carry.{same, onward}
 
 pub record Passing (chunk : List ℕ) (position : ℕ) (carry₀ : List ℕ) (used : ℕ) (b₀ : Begun) (i n k : ℕ) (w : Bool) (carry : List ℕ) : Type 0 where
@@ -52,5 +52,5 @@ module _ (chunk : List ℕ) (position : ℕ) (carry₀ : List ℕ) (used : ℕ) 
         size = l ∙ p .size;
       }
 
-  pub pass-last : (i < length chunk → getD chunk i 0 ≡ LF) → Passed chunk position b₀ i (held carry n k w)
+  pub pass-last : (i < length chunk → getD chunk i 0 ≡ LF) → Up-to-LF chunk position b₀ i (held carry n k w)
   pass-last h = record { goes-on = p .goes-on; from = p .from; inside = p .inside; feed = h }

@@ -23,14 +23,14 @@ use Rattle.chunks.specs.declared.ChunkReply.the-variants.{UsedUp}
 use Rattle.chunks.specs.declared.ChunkStep.{ChunkStep}
 use Rattle.chunks.specs.Begun.{Begun, nothing, is-empty, brief, stands-for, counted, Sought, ended, unended, seek}
 use Rattle.chunks.specs.Next.{word-of, is-record, number-behind, kept-in, begun, place, at-place, in-carry, of-sought, Meets}
-use Rattle.chunks.specs.Helpers.{held, Grown, Passed, seek-at, WholeLine, OpenLine, Settles, Plain}
+use Rattle.chunks.specs.Helpers.{held, Grown, Up-to-LF, seek-at, WholeLine, OpenLine, Settles, Plain}
 use Rattle.chunks.proofs.Brief.{judge-brief, brief-short, stands-itself}
 use Rattle.chunks.proofs.InPlace.{settled, at-LF}
 use Rattle.chunks.proofs.Outcomes.{met, record-short, full-kept, record-kept}
 
 -- ---- what was found
 
-module _ (chunk : List ℕ) (position : ℕ) (b : Begun) (position′ : ℕ) (b′ : Begun) (start : Option (List ℕ)) (empties : ℕ) (p : Passed chunk position b position′ b′) where
+module _ (chunk : List ℕ) (position : ℕ) (b : Begun) (position′ : ℕ) (b′ : Begun) (start : Option (List ℕ)) (empties : ℕ) (p : Up-to-LF chunk position b position′ b′) where
   passed-feed : (position′ ≡ length chunk → ⊥) → seek start empties b (drop position chunk) ≡ settled start empties (b′ .kept) (drop (position′ + 1) chunk)
   passed-feed h =
       let l : position′ < length chunk = omega (arith, p .inside) in
@@ -67,14 +67,14 @@ used-up-met s used chunk pool at f empties n k w r carry′ e h l =
     })
 
 pub older-open : (s : Chunks) (chunk : List ℕ) (position : ℕ) (carry pool : List ℕ) (at position′ n k : ℕ) (w : Bool) (r : ChunkStep) (carry′ : List ℕ)
-    → Passed chunk position (begun s carry) position′ (held carry′ n k w) → position′ ≡ length chunk → n ≤ length carry′ → Plain UsedUp (open-state s (s .empties) n k w) r
+    → Up-to-LF chunk position (begun s carry) position′ (held carry′ n k w) → position′ ≡ length chunk → n ≤ length carry′ → Plain UsedUp (open-state s (s .empties) n k w) r
     → Meets (of-sought s (take (s .used) carry) chunk pool at (seek none (s .empties) (begun s carry) (drop position chunk))) chunk r carry′ pool
 older-open s chunk position carry pool at position′ n k w r carry′ p e h l =
     used-up-met s (take (s .used) carry) chunk pool at (seek none (s .empties) (begun s carry) (drop position chunk)) (s .empties) n k w r carry′
     (passed-all chunk position (begun s carry) position′ (held carry′ n k w) none (s .empties) p e) h l
 
 pub fresh-open : (s : Chunks) (chunk : List ℕ) (position empties from empties′ : ℕ) (carry pool : List ℕ) (at position′ n k : ℕ) (w : Bool) (r : ChunkStep) (carry′ : List ℕ)
-    → OpenLine chunk position empties from empties′ → Passed chunk from (held carry 0 0 false) position′ (held carry′ n k w) → n ≤ length carry′ → Plain UsedUp (open-state s empties′ n k w) r
+    → OpenLine chunk position empties from empties′ → Up-to-LF chunk from (held carry 0 0 false) position′ (held carry′ n k w) → n ≤ length carry′ → Plain UsedUp (open-state s empties′ n k w) r
     → Meets (of-sought s [] chunk pool at (seek-at chunk position empties)) chunk r carry′ pool
 fresh-open s chunk position empties from empties′ carry pool at position′ n k w r carry′ o p h l =
     used-up-met s [] chunk pool at (seek-at chunk position empties) empties′ n k w r carry′
@@ -127,7 +127,7 @@ some-ended start empties (suc n) k [] rest z h = absurd (omega arith)
 some-ended start empties (suc n) k (c ∷ carry) rest z h = refl
 
 module _ (s : Chunks) (chunk : List ℕ) (position : ℕ) (carry pool : List ℕ) (at position′ n k : ℕ) (w : Bool) (carry′ : List ℕ)
-    (p : Passed chunk position (begun s carry) position′ (held carry′ n k w)) (g : Grown carry (s .used) (kept-in carry′ n k) n k carry′) (ne : position′ ≡ length chunk → ⊥) where
+    (p : Up-to-LF chunk position (begun s carry) position′ (held carry′ n k w)) (g : Grown carry (s .used) (kept-in carry′ n k) n k carry′) (ne : position′ ≡ length chunk → ⊥) where
   pub older-line : (a : Answer) (line : ℕ) (r : ChunkStep) (pool′ : List ℕ) → (n ≡ 0 → ⊥) → s .used ≤ length carry → n ≤ length carry′
       → Reads (judge (stands-for (kept-in carry′ n k))) pool at a pool′ → line ≡ number-behind s (s .empties) → Settles s (told a) (position′ + 1) line false (InCarry n) r
       → Meets (of-sought s (take (s .used) carry) chunk pool at (seek none (s .empties) (begun s carry) (drop position chunk))) chunk r carry′ pool′

@@ -19,7 +19,7 @@ use Rattle.reader.proofs.Cutting.{cut}
 use Rattle.reader.proofs.Searching.{tail-is, behind-inside, rest-behind, Cut-off}
 use Rattle.chunks.specs.Begun.{Kept, Begun, push, with-CR, add, seek}
 use Rattle.chunks.specs.Next.{kept-in}
-use Rattle.chunks.specs.Helpers.{held, Grown, Passed, ends-in-CR}
+use Rattle.chunks.specs.Helpers.{held, Grown, Up-to-LF, ends-in-CR}
 use Rattle.chunks.proofs.Brief.{push-more, short-kept}
 use Rattle.chunks.proofs.Pass.{step-over}
 use Rattle.chunks.proofs.Waiting.{waiting, whole}
@@ -195,7 +195,7 @@ module _ (chunk : List ℕ) (position : ℕ) (carry : List ℕ) (used skipped : 
         ∙ short-kept line (kept-in carry used skipped) (omega (arith, used-is))
         ∙ ap (λ (l : List ℕ). record { bytes = l; skipped = skipped }) (sym (taken (length line) (omega arith) ∙ ap (λ (l : List ℕ). take used carry ++ l) (take-length line)))
 
-    pub gathered-line : Passed chunk position (held carry used skipped false) (position + n - 1) (held carry′ (used + length line) skipped false)
+    pub gathered-line : Up-to-LF chunk position (held carry used skipped false) (position + n - 1) (held carry′ (used + length line) skipped false)
         × Grown carry used (kept-in carry′ (used + length line) skipped) (used + length line) skipped carry′
     gathered-line = (
       record {
@@ -224,7 +224,7 @@ module _ (chunk : List ℕ) (position : ℕ) (carry : List ℕ) (used skipped : 
     none-behind : drop (position + n) chunk ≡ []
     none-behind = drop-of-length-le chunk {i = position + n} (omega (arith, at-end))
 
-    open-passed : (m : ℕ) (w : Bool) → foldl add (held carry used skipped false) line ≡ held carry′ m skipped w → Passed chunk position (held carry used skipped false) (position + n) (held carry′ m skipped w)
+    open-passed : (m : ℕ) (w : Bool) → foldl add (held carry used skipped false) line ≡ held carry′ m skipped w → Up-to-LF chunk position (held carry used skipped false) (position + n) (held carry′ m skipped w)
     open-passed m w e =
         record {
           goes-on = λ start empties.
@@ -239,7 +239,7 @@ module _ (chunk : List ℕ) (position : ℕ) (carry : List ℕ) (used skipped : 
     fits-in : length (take used carry) + length line ≤ 522
     fits-in = omega (arith, used-is)
 
-    pub gathered-plain : ends-in-CR line ≡ false → Passed chunk position (held carry used skipped false) (position + n) (held carry′ (used + length line) skipped false)
+    pub gathered-plain : ends-in-CR line ≡ false → Up-to-LF chunk position (held carry used skipped false) (position + n) (held carry′ (used + length line) skipped false)
         × Grown carry used (kept-in carry′ (used + length line) skipped) (used + length line) skipped carry′
     unfolding b₀
     gathered-plain e = (
@@ -249,7 +249,7 @@ module _ (chunk : List ℕ) (position : ℕ) (carry : List ℕ) (used skipped : 
       grown (length line) (omega arith) (used + length line) refl,
     )
 
-    pub gathered-CR : ends-in-CR line ≡ true → Passed chunk position (held carry used skipped false) (position + n) (held carry′ (used + length line - 1) skipped true)
+    pub gathered-CR : ends-in-CR line ≡ true → Up-to-LF chunk position (held carry used skipped false) (position + n) (held carry′ (used + length line - 1) skipped true)
         × Grown carry used (kept-in carry′ (used + length line - 1) skipped) (used + length line - 1) skipped carry′
     unfolding b₀
     gathered-CR e =

@@ -40,7 +40,7 @@ pub record Grown (carry : List ℕ) (used : ℕ) (kept : Kept) (used′ skipped�
   pub earlier : used′ < 522 → take used carry′ ≡ take used carry
 
 -- the chunk was passed up to a LF or its end
-pub record Passed (chunk : List ℕ) (position : ℕ) (b : Begun) (position′ : ℕ) (b′ : Begun) : Type 0 where
+pub record Up-to-LF (chunk : List ℕ) (position : ℕ) (b : Begun) (position′ : ℕ) (b′ : Begun) : Type 0 where
   pub goes-on : (start : Option (List ℕ)) (empties : ℕ) → seek start empties b (drop position chunk) ≡ seek start empties b′ (drop position′ chunk)
   pub from : position ≤ position′
   pub inside : position′ ≤ length chunk

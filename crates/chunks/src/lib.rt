@@ -20,7 +20,7 @@ ghost use Rattle.reader.specs.Answer.{Reads};
 ghost use Rattle.reader.specs.Text.{default-options};
 ghost use Rattle.chunks.specs.Begun.{seek, stands-for, push as pushed, with-CR, add as added};
 ghost use Rattle.chunks.specs.Next.{kept-in, left-out, begun, past-line, over, number-behind, of-sought, Meets, NextChunk, Finish, NewChunks, PartOf, Shown};
-ghost use Rattle.chunks.specs.Helpers.{held, has-line, Grown, Passed, ends-in-CR, seek-at, CutAt, place-in-line, refusal-in-line, told-in-line, Settles, Plain, Within};
+ghost use Rattle.chunks.specs.Helpers.{held, has-line, Grown, Up-to-LF, ends-in-CR, seek-at, CutAt, place-in-line, refusal-in-line, told-in-line, Settles, Plain, Within};
 
 // The last place of the carry that a line uses, and the same as a refusal names it.
 const LAST_KEPT: usize = 521;
@@ -216,7 +216,7 @@ fn gather_bytes(
     cr: bool,
 ) -> Gathered
     requires { ⌜ (position ≤ length (now chunk)) × (used ≤ 522) × (522 ≤ length (now carry)) ⌝ }
-    ensures { λ r. ⌜ Passed (now (chunk .entry)) position (held (now (carry .entry)) used skipped cr) (r .position) (held (now (carry .exit)) (r .used) (r .skipped) (r .cr)) ⌝ }
+    ensures { λ r. ⌜ Up-to-LF (now (chunk .entry)) position (held (now (carry .entry)) used skipped cr) (r .position) (held (now (carry .exit)) (r .used) (r .skipped) (r .cr)) ⌝ }
     ensures { λ r. ⌜ Grown (now (carry .entry)) used (kept-in (now (carry .exit)) (r .used) (r .skipped)) (r .used) (r .skipped) (now (carry .exit)) ⌝ }
 {
     let mut i = position;
@@ -278,7 +278,7 @@ fn gather(
     cr: bool,
 ) -> Gathered
     requires { ⌜ (position ≤ length (now chunk)) × (used ≤ 522) × (522 ≤ length (now carry)) ⌝ }
-    ensures { λ r. ⌜ Passed (now (chunk .entry)) position (held (now (carry .entry)) used skipped cr) (r .position) (held (now (carry .exit)) (r .used) (r .skipped) (r .cr)) ⌝ }
+    ensures { λ r. ⌜ Up-to-LF (now (chunk .entry)) position (held (now (carry .entry)) used skipped cr) (r .position) (held (now (carry .exit)) (r .used) (r .skipped) (r .cr)) ⌝ }
     ensures { λ r. ⌜ Grown (now (carry .entry)) used (kept-in (now (carry .exit)) (r .used) (r .skipped)) (r .used) (r .skipped) (now (carry .exit)) ⌝ }
 {
     if cr {

@@ -24,9 +24,9 @@ use Rattle.reader.specs.declared.ReaderError.the-variants.{MissingStartCode, Re
 use Rattle.reader.specs.declared.Reply.{Reply}
 use Rattle.reader.specs.declared.Reply.the-variants.{Read, Refused, Done}
 use Rattle.reader.specs.Told.{Told, gives, refuses, done, refusal-of}
-use Rattle.reader.specs.Answer.{room, given, answered}
+use Rattle.reader.specs.Answer.{fits-pool, given, answered}
 use Rattle.reader.specs.Text.{told-reply, is-full}
-use Rattle.writer.specs.Told.{Told as Told-written, wrote, refuses as refuses-to-write}
+use Rattle.writer.specs.Told.{Told-written, wrote, refuses as refuses-to-write}
 use Rattle.chunks.specs.Next.{Word, tells, used-up, is-record}
 use Rattle.steps.specs.Steps.{Tally, Verdict, accepted, refused}
 use Rattle.codes.specs.Codes.{OK, DONE, POOL-FULL, CARRY-TOO-SMALL, value, reading, reading-chunk, writing, loading}
@@ -95,7 +95,7 @@ clear-line line n at = go (judge line) (stands line)
   where
     meant : (m : Meaning) → Clear-told (given m n at)
     meant (data-at offset bytes) =
-        both-ways (λ b. Clear-told (if b then gives 0 (offset ∷ at ∷ length bytes ∷ []) else refuses pool-full)) (room n at bytes) (λ h. absurd (omega arith), refl) (λ h. refl, refl)
+        both-ways (λ b. Clear-told (if b then gives 0 (offset ∷ at ∷ length bytes ∷ []) else refuses pool-full)) (fits-pool n at bytes) (λ h. absurd (omega arith), refl) (λ h. refl, refl)
     meant end-of-file = (λ h. absurd (omega arith), refl)
     meant (extended-segment number) = (λ h. absurd (omega arith), refl)
     meant (start-segment cs ip) = (λ h. absurd (omega arith), refl)

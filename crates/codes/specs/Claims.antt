@@ -15,9 +15,9 @@ use Rattle.chunks.specs.declared.Chunks.{Chunks}
 use Rattle.chunks.specs.declared.Place.{Place}
 use Rattle.chunks.specs.Next.{word-of}
 use Rattle.loader.specs.declared.Loading.{Loading}
-use Rattle.loader.specs.Told.{told as told-loading}
+use Rattle.loader.specs.Told.{told-loading}
 use Rattle.page.specs.declared.Paged.{Paged}
-use Rattle.page.specs.Told.{told as told-page}
+use Rattle.page.specs.Told.{told-page}
 use Rattle.codes.specs.declared.Coded.{Coded}
 use Rattle.codes.specs.declared.Spot.{Spot}
 use Rattle.codes.specs.Codes.{Message, Coded-as, reading, reading-chunk, writing, loading, LineAt}

@@ -7,7 +7,7 @@ use mathlib.Core.List.{List, [], _∷_}
 use lib.ListN.{getD}
 use Rattle.record.specs.Refusals.{Refusal, refusal, pool-full, carry-too-small}
 use Rattle.reader.specs.Told.{Told, gives, refuses, done}
-use Rattle.writer.specs.Told.{Told as Told-written, wrote, refuses as refuses-to-write}
+use Rattle.writer.specs.Told.{Told-written, wrote, refuses as refuses-to-write}
 use Rattle.chunks.specs.Next.{Word, tells, used-up}
 use Rattle.steps.specs.Steps.{Verdict, accepted, refused}
 use Rattle.codes.specs.declared.Coded.{Coded}

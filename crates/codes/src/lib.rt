@@ -22,11 +22,11 @@ ghost use mathlib.Core.Option.{some};
 ghost use Prim.Native.Nat.{_+_};
 ghost use Rattle.reader.specs.Told.{told, refusal-of};
 ghost use Rattle.reader.specs.Text.{told-reply};
-ghost use Rattle.writer.specs.Told.{told as told-written, refusal-of as writer-refusal};
+ghost use Rattle.writer.specs.Told.{told-written, writer-refusal};
 ghost use Rattle.entries.specs.Attempts.{told-attempt};
 ghost use Rattle.chunks.specs.Next.{word-of};
-ghost use Rattle.loader.specs.Told.{told as told-loading, refusal-by};
-ghost use Rattle.page.specs.Told.{told as told-page, refusal-of as page-refusal};
+ghost use Rattle.loader.specs.Told.{told-loading, loader-refusal};
+ghost use Rattle.page.specs.Told.{told-page, page-refusal};
 ghost use Rattle.codes.specs.Codes.{Coded-as, refused-with, reading, reading-chunk, writing, loading, LineAt};
 ghost use Rattle.codes.specs.States.{Flag, StateFrom, FlagsFrom, ChunksFrom, ChunkFlagsFrom, Spot-as, PlaceFrom};
 
@@ -160,7 +160,7 @@ pub fn code_attempt(attempt: Attempt) -> Coded
 }
 
 fn code_loader_error(e: LoaderError) -> Coded
-    ensures { λ r. ⌜ Coded-as (refused-with (refusal-by e)) r ⌝ }
+    ensures { λ r. ⌜ Coded-as (refused-with (loader-refusal e)) r ⌝ }
 {
     match e {
         LoaderError::Line(why) => code_error(why),

@@ -45,9 +45,9 @@ bytes (a ∷ []) = []
 bytes [] = []
 
 -- a number of several bytes, high byte first, behind `high` of it that is read already
-unfoldable pub number : (high : ℕ) → List ℕ → ℕ
-number high [] = high
-number high (b ∷ bs) = number (high * 256 + b) bs
+unfoldable pub number-after : (high : ℕ) → List ℕ → ℕ
+number-after high [] = high
+number-after high (b ∷ bs) = number-after (high * 256 + b) bs
 
 abbrev pub big-endian : List ℕ → ℕ
-big-endian bs = number 0 bs
+big-endian bs = number-after 0 bs

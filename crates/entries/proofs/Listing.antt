@@ -67,22 +67,22 @@ stays bytes i zero e = let n : 0 + i ≡ i = omega arith in rw n e
 stays bytes i (suc k) e = let n : suc k + i ≡ suc (k + i) = omega arith in rw (n, stays bytes i k e)
 
 -- the records of all entries before a place
-pub record Passed (bytes : List ℕ) (p : ℕ) (rs : List Record) : Type 0 where
+pub record Read-so-far (bytes : List ℕ) (p : ℕ) (rs : List Record) : Type 0 where
   pub even : length bytes % 24 ≡ 0
   pub i : ℕ
   pub place : p ≡ 24 * i
   pub within : p ≤ length bytes
   pub read : first-records bytes i ≡ some rs
 
-pub passed-none : (bytes : List ℕ) → length bytes % 24 ≡ 0 → Passed bytes 0 []
+pub passed-none : (bytes : List ℕ) → length bytes % 24 ≡ 0 → Read-so-far bytes 0 []
 unfolding first-records
 passed-none bytes h = record { even = h; i = 0; place = refl; within = omega arith; read = refl }
 
-pub passed-room : {bytes : List ℕ} {p : ℕ} {rs : List Record} → Passed bytes p rs → p < length bytes → p + 24 ≤ length bytes
+pub passed-room : {bytes : List ℕ} {p : ℕ} {rs : List Record} → Read-so-far bytes p rs → p < length bytes → p + 24 ≤ length bytes
 passed-room x h = omega (arith, x .even, x .place, x .within)
 
 pub passed-more : (bytes : List ℕ) (p : ℕ) (rs : List Record) (r : Record)
-    → Passed bytes p rs → p < length bytes → record-at bytes p ≡ some r → Passed bytes (p + 24) (rs ++ (r ∷ []))
+    → Read-so-far bytes p rs → p < length bytes → record-at bytes p ≡ some r → Read-so-far bytes (p + 24) (rs ++ (r ∷ []))
 unfolding first-records
 passed-more bytes p rs r x h e =
     record {
@@ -93,13 +93,13 @@ passed-more bytes p rs r x h e =
       read = rw (x .read, ← x .place, e);
     }
 
-pub passed-all : (bytes : List ℕ) (p : ℕ) (rs : List Record) → Passed bytes p rs → length bytes ≤ p → records-of bytes ≡ some rs
+pub passed-all : (bytes : List ℕ) (p : ℕ) (rs : List Record) → Read-so-far bytes p rs → length bytes ≤ p → records-of bytes ≡ some rs
 passed-all bytes p rs x h =
     let n : length bytes / 24 ≡ x .i = omega (arith, x .place, x .within) in
     even-list bytes (x .even) ∙ ap (first-records bytes) n ∙ x .read
 
 pub passed-bad : (bytes : List ℕ) (p : ℕ) (rs : List Record)
-    → Passed bytes p rs → p < length bytes → record-at bytes p ≡ none → records-of bytes ≡ none
+    → Read-so-far bytes p rs → p < length bytes → record-at bytes p ≡ none → records-of bytes ≡ none
 unfolding first-records
 passed-bad bytes p rs x h e =
     let next : first-records bytes (suc (x .i)) ≡ none = rw (x .read, ← x .place, e) in
@@ -109,7 +109,7 @@ passed-bad bytes p rs x h e =
 
 -- an entry of a list is a record
 pub passed-good : (bytes : List ℕ) (p : ℕ) (rs whole : List Record)
-    → Passed bytes p rs → p < length bytes → records-of bytes ≡ some whole → Good bytes p
+    → Read-so-far bytes p rs → p < length bytes → records-of bytes ≡ some whole → Good bytes p
 passed-good bytes p rs whole x h e = good (record-at bytes p) refl
   where
     good : (o : Option Record) → record-at bytes p ≡ o → Good bytes p
@@ -120,12 +120,12 @@ passed-good bytes p rs whole x h e = good (record-at bytes p) refl
 
 pub record Surveying (bytes pool : List ℕ) (s : Survey) (p : ℕ) : Type 0 where
   pub rs : List Record
-  pub passed : Passed bytes p rs
+  pub passed : Read-so-far bytes p rs
   pub surveys : Surveys pool rs s
 
 pub record Stepping (bytes pool out : List ℕ) (start : Written) (out′ : List ℕ) (done : Written) (p : ℕ) : Type 0 where
   pub rs : List Record
-  pub passed : Passed bytes p rs
+  pub passed : Read-so-far bytes p rs
   pub steps : Steps pool out start rs done out′
   pub same : length out′ ≡ length out
 

@@ -6,7 +6,7 @@ use mathlib.Core.Option.{Option, none, some, Option·map}
 use mathlib.Core.List.{List}
 use lib.ListN.{length}
 use Rattle.record.specs.declared.Record.{Record}
-use Rattle.writer.specs.Told.{Told, told}
+use Rattle.writer.specs.Told.{Told-written, told-written}
 use Rattle.writer.specs.Text.{Text, place-behind, if-room, put-at}
 use Rattle.writer.specs.Line.{line-text}
 use Rattle.writer.specs.Object.{object}
@@ -15,7 +15,7 @@ use Rattle.entries.specs.declared.Attempt.the-variants.{Made, BadRecord}
 use Rattle.entries.specs.Entry.{record-of, records-of}
 
 -- what is answered for a text that is to be written from the output's start on; there is none where what was given is not a record
-abbrev pub told-of : Option Text → (room : ℕ) → Option Told
+abbrev pub told-of : Option Text → (room : ℕ) → Option Told-written
 told-of none room = none
 told-of (some t) room = some (if-room (place-behind t 0) room)
 
@@ -25,8 +25,8 @@ output-with none out = out
 output-with (some t) out = put-at t out 0
 
 -- what an attempt tells
-abbrev pub told-attempt : Attempt → Option Told
-told-attempt (Made answer) = some (told answer)
+abbrev pub told-attempt : Attempt → Option Told-written
+told-attempt (Made answer) = some (told-written answer)
 told-attempt BadRecord = none
 
 -- a text, if there is one, was written

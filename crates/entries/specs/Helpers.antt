@@ -9,8 +9,8 @@ use Rattle.record.specs.declared.Record.{Record}
 use Rattle.writer.specs.declared.Written.{Written}
 use Rattle.writer.specs.declared.Survey.{Survey}
 use Rattle.writer.specs.Claims.{Surveys, Steps}
-use Rattle.entries.specs.declared.Surveyed.{Surveyed}
-use Rattle.entries.specs.declared.Surveyed.the-variants.{Of, Bad}
+use Rattle.entries.specs.declared.ListSurvey.{ListSurvey}
+use Rattle.entries.specs.declared.ListSurvey.the-variants.{Of, Bad}
 use Rattle.entries.specs.Entry.{record-at, records-of}
 
 -- an entry that is a record
@@ -25,13 +25,13 @@ pub record Is-list (bytes : List ℕ) : Type 0 where
   pub read : records-of bytes ≡ some records
 
 -- a survey of the bytes' records
-pub record Surveyed-whole (bytes pool : List ℕ) (s : Survey) : Type 0 where
+pub record ListSurvey-whole (bytes pool : List ℕ) (s : Survey) : Type 0 where
   pub listed : Is-list bytes
   pub surveys : Surveys pool (listed .records) s
 
-abbrev pub Surveyed-as : (bytes pool : List ℕ) → Surveyed → Type 0
-Surveyed-as bytes pool (Of s) = Surveyed-whole bytes pool s
-Surveyed-as bytes pool Bad = records-of bytes ≡ none
+abbrev pub ListSurvey-as : (bytes pool : List ℕ) → ListSurvey → Type 0
+ListSurvey-as bytes pool (Of s) = ListSurvey-whole bytes pool s
+ListSurvey-as bytes pool Bad = records-of bytes ≡ none
 
 -- the bytes' records were written one by one
 abbrev pub Stepped : (bytes pool out : List ℕ) (start r : Written) (out′ : List ℕ) → Type 0

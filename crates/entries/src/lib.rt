@@ -8,7 +8,7 @@ ghost use mathlib.Core.Option.{some};
 ghost use Prim.Native.Nat.{_+_, _*_, _≤_};
 ghost use lib.ListN.{length};
 ghost use Rattle.entries.specs.Entry.{two-at, four-at, eight-at, record-of, record-at, entry-of};
-ghost use Rattle.entries.specs.Helpers.{Is-list, Good, Surveyed-as, Stepped};
+ghost use Rattle.entries.specs.Helpers.{Is-list, Good, ListSurvey-as, Stepped};
 ghost use Rattle.entries.specs.Attempts.{WriteRecord, WriteList};
 
 // What comes of an attempt to write: the writer's answer, unless what is given is not a record or a list of records.
@@ -140,27 +140,27 @@ fn record_in(list: &[u8], p: usize) -> Record
 }
 
 // The survey of a list, unless its bytes are no list of records.
-enum Surveyed {
+enum ListSurvey {
     Of(Survey),
     Bad,
 }
 
-fn survey_list(list: &[u8], pool: &[u8]) -> Surveyed
-    ensures { λ r. ⌜ Surveyed-as (now (list .entry)) (now (pool .entry)) r ⌝ }
+fn survey_list(list: &[u8], pool: &[u8]) -> ListSurvey
+    ensures { λ r. ⌜ ListSurvey-as (now (list .entry)) (now (pool .entry)) r ⌝ }
 {
     if list.len() % ENTRY != 0 {
-        return Surveyed::Bad;
+        return ListSurvey::Bad;
     }
     let mut s = Survey::new();
     let mut p = 0;
     while p < list.len() {
         let Entry::Is(x) = entry_at(list, p) else {
-            return Surveyed::Bad;
+            return ListSurvey::Bad;
         };
         s = s.add(x, pool);
         p += ENTRY;
     }
-    Surveyed::Of(s)
+    ListSurvey::Of(s)
 }
 
 // Each record of a list, from a start on.
@@ -184,8 +184,8 @@ pub fn write_list(list: &[u8], pool: &[u8], out: &mut [u8]) -> Attempt
 {
     let surveyed = survey_list(list, pool);
     match surveyed {
-        Surveyed::Bad => Attempt::BadRecord,
-        Surveyed::Of(s) => {
+        ListSurvey::Bad => Attempt::BadRecord,
+        ListSurvey::Of(s) => {
             let start = s.begin(out.len());
             Attempt::Made(write_each(list, pool, out, start))
         }

@@ -14,7 +14,7 @@ use Rattle.marks.specs.Marks.{first-bad}
 use Rattle.digits.specs.Common.{if_then_else_}
 use Rattle.record.specs.Refusals.{output-full}
 use Rattle.digits.proofs.Tests.{branch}
-use Rattle.writer.specs.Told.{Told, wrote, refuses}
+use Rattle.writer.specs.Told.{Told-written, wrote, refuses}
 use Rattle.writer.specs.Text.{Text, chars, refused, place-behind, if-room}
 use Rattle.steps.specs.Steps.{Verdict}
 use Rattle.loader.specs.Load.{load}
@@ -22,11 +22,11 @@ use Rattle.page.specs.declared.PageError.the-variants.{BadWindow, BadMark, Outp
 use Rattle.page.specs.declared.Paged.{Paged}
 use Rattle.page.specs.declared.Paged.the-variants.{Wrote, Refused}
 use Rattle.page.specs.File.{file, page-text}
-use Rattle.page.specs.Told.{told, WritePage}
+use Rattle.page.specs.Told.{told-page, WritePage}
 use Rattle.page.specs.Claims.{Why}
 use Rattle.page.proofs.Calls.{restores-so, loaded-back, equal-answers, length-of-lengths}
 use Rattle.page.proofs.Claims.{text-cases, reasons, one-reason}
-use Rattle.page.proofs.Room.{room}
+use Rattle.page.proofs.Room.{room-enough}
 use Rattle.codes.specs.Codes.{OK, value, writing, loading}
 use Rattle.ihex.specs.Entries.{IhexWritePage}
 use Rattle.ihex.specs.Claims.{Page-loads-back}
@@ -48,16 +48,16 @@ page-loads-back first page marks out n out′ old-page old-marks r l a b page′
 -- ---- what the library's functions answer
 
 -- an answer of `write_page` with this room, and one of `page_file_length`
-paged : (first : ℕ) (page marks : List ℕ) (room : ℕ) → (r : Paged) × (told r ≡ if-room (place-behind (page-text first page marks) 0) room)
+paged : (first : ℕ) (page marks : List ℕ) (room : ℕ) → (r : Paged) × (told-page r ≡ if-room (place-behind (page-text first page marks) 0) room)
 paged first page marks room =
-    text-cases first page marks (λ t. (r : Paged) × (told r ≡ if-room (place-behind t 0) room))
+    text-cases first page marks (λ t. (r : Paged) × (told-page r ≡ if-room (place-behind t 0) room))
     (λ w. (Refused BadWindow, refl)) (λ w f. (Refused (BadMark (first-bad marks)), refl))
-    (λ p. branch (λ (t : Told). (r : Paged) × (told r ≡ t)) (leb (0 + length (file first page marks)) room) _ _
+    (λ p. branch (λ (t : Told-written). (r : Paged) × (told-page r ≡ t)) (leb (0 + length (file first page marks)) room) _ _
     (λ e. (Wrote (0 + length (file first page marks)), refl)) (λ e. (Refused OutputFull, refl)))
 
-measured : (first : ℕ) (page marks : List ℕ) → (r : Paged) × (told r ≡ place-behind (page-text first page marks) 0)
+measured : (first : ℕ) (page marks : List ℕ) → (r : Paged) × (told-page r ≡ place-behind (page-text first page marks) 0)
 measured first page marks =
-    text-cases first page marks (λ t. (r : Paged) × (told r ≡ place-behind t 0))
+    text-cases first page marks (λ t. (r : Paged) × (told-page r ≡ place-behind t 0))
     (λ w. (Refused BadWindow, refl)) (λ w f. (Refused (BadMark (first-bad marks)), refl)) (λ p. (Wrote (0 + length (file first page marks)), refl))
 
 -- ---- the claims of `specs/Pages.antt`
@@ -74,7 +74,7 @@ pub ihex-page-room : Ihex-page-room
 ihex-page-room first page marks v x =
     text-cases first page marks (λ t. OK ≡ writing (some (place-behind t 0)) .code → v ≡ value (writing (some (place-behind t 0))) 0 → (v ≤ 7 * length page + 58) × (v ≤ 458810))
     (λ w c e. absurd (omega (arith, c))) (λ w f c e. absurd (omega (arith, c)))
-    (λ p c e. let most = room first page marks (p .window) in (omega (arith, e, most), omega (arith, e, most, p .window .small)))
+    (λ p c e. let most = room-enough first page marks (p .window) in (omega (arith, e, most), omega (arith, e, most, p .window .small)))
     (x .code-is) (x .value-is)
 
 pub ihex-length-of-lengths : Ihex-length-of-lengths
@@ -82,9 +82,9 @@ ihex-length-of-lengths first page₁ page₂ marks r₁ v₁ r₂ v₂ l x y =
     let (a₁, e₁) = measured first page₁ marks in
     let (a₂, e₂) = measured first page₂ marks in
     let same : place-behind (page-text first page₁ marks) 0 ≡ place-behind (page-text first page₂ marks) 0 =
-    sym e₁ ∙ ap told (length-of-lengths first page₁ page₂ marks a₁ a₂ l (record { answer = e₁ }) (record { answer = e₂ })) ∙ e₂ in (
-      x .code-is ∙ ap (λ (t : Told). writing (some t) .code) same ∙ sym (y .code-is),
-      x .value-is ∙ ap (λ (t : Told). value (writing (some t)) 0) same ∙ sym (y .value-is),
+    sym e₁ ∙ ap told-page (length-of-lengths first page₁ page₂ marks a₁ a₂ l (record { answer = e₁ }) (record { answer = e₂ })) ∙ e₂ in (
+      x .code-is ∙ ap (λ (t : Told-written). writing (some t) .code) same ∙ sym (y .code-is),
+      x .value-is ∙ ap (λ (t : Told-written). value (writing (some t)) 0) same ∙ sym (y .value-is),
     )
 
 pub ihex-unmarked-bytes : Ihex-unmarked-bytes
@@ -92,9 +92,9 @@ ihex-unmarked-bytes first page₁ page₂ marks out r₁ v₁ o₁ r₂ v₂ o�
     let (a₁, e₁) = paged first page₁ marks (length out) in
     let (a₂, e₂) = paged first page₂ marks (length out) in
     let (a, o) = equal-answers first page₁ page₂ marks out a₁ a₂ o₁ o₂ l h (record { answer = e₁; left = x .left }) (record { answer = e₂; left = y .left }) in
-    let same : if-room (place-behind (page-text first page₁ marks) 0) (length out) ≡ if-room (place-behind (page-text first page₂ marks) 0) (length out) = sym e₁ ∙ ap told a ∙ e₂ in (
-      x .code-is ∙ ap (λ (t : Told). writing (some t) .code) same ∙ sym (y .code-is),
-      x .value-is ∙ ap (λ (t : Told). value (writing (some t)) 0) same ∙ sym (y .value-is),
+    let same : if-room (place-behind (page-text first page₁ marks) 0) (length out) ≡ if-room (place-behind (page-text first page₂ marks) 0) (length out) = sym e₁ ∙ ap told-page a ∙ e₂ in (
+      x .code-is ∙ ap (λ (t : Told-written). writing (some t) .code) same ∙ sym (y .code-is),
+      x .value-is ∙ ap (λ (t : Told-written). value (writing (some t)) 0) same ∙ sym (y .value-is),
       o,
     )
 

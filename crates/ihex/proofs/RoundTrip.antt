@@ -29,7 +29,7 @@ use Rattle.writer.specs.Object.{object}
 use Rattle.writer.proofs.Answers.{stands-there}
 use Rattle.writer.proofs.Objects.{object-whole}
 use Rattle.page.specs.Spoken.{said-of, spoken}
-use Rattle.page.proofs.Spoken.{every-sayable, said-in, same-row}
+use Rattle.page.proofs.Spoken.{every-sayable, said-in, spoken-row}
 use Rattle.ihex.specs.RoundTrip.{Again, Round-trip, Has-room, Written-reads-back, Room-for}
 
 -- ---- the calls
@@ -68,7 +68,7 @@ again last n (r ∷ rs) pool (call ∷ calls) (h, hs) (l, ls) =
 pub round-trip : Round-trip
 round-trip rs pool cs i b e small calls givens l c =
     let w = object-whole rs pool cs e in
-    let q : givens ≡ one-by-one 0 (spoken 1 rs pool) calls = in-order default-options cs small calls givens l c ∙ ap (λ (x : List Numbered). one-by-one 0 x calls) (same-row rs pool cs i b e) in
+    let q : givens ≡ one-by-one 0 (spoken 1 rs pool) calls = in-order default-options cs small calls givens l c ∙ ap (λ (x : List Numbered). one-by-one 0 x calls) (spoken-row rs pool cs i b e) in
     subst (λ (gs : List Given). Again rs pool calls gs) (sym q)
     (again 0 1 rs pool calls (every-sayable rs pool i b (w .fine)) (subst Never-full q l))
 

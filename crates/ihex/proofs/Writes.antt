@@ -12,7 +12,7 @@ use Rattle.digits.specs.Common.{if_then_else_, pasted}
 use Rattle.record.specs.Refusals.{output-full}
 use Rattle.record.specs.declared.Record.{Record}
 use Rattle.writer.specs.declared.Written.the-variants.{Wrote}
-use Rattle.writer.specs.Told.{Told, wrote, refuses}
+use Rattle.writer.specs.Told.{Told-written, wrote, refuses}
 use Rattle.writer.specs.Text.{Text, chars, refused, place-behind, if-room, Writes}
 use Rattle.writer.specs.Line.{line-text}
 use Rattle.writer.specs.Object.{object}
@@ -47,8 +47,8 @@ refusal-keeps-output (some (chars cs)) out r v out′ x h = go (leb (0 + length 
 -- ---- reasons
 
 -- what is returned for a text that is there, by a reason for it that no other answer has
-reasoned : (Why : Told → Type 0) (t : Text) (out : List ℕ) (r v : ℕ) (out′ : List ℕ) → Wrote-text (some t) out r v out′
-    → Why (if-room (place-behind t 0) (length out)) → ((a b : Told) → Why a → Why b → a ≡ b) → Write-reasoned Why r v
+reasoned : (Why : Told-written → Type 0) (t : Text) (out : List ℕ) (r v : ℕ) (out′ : List ℕ) → Wrote-text (some t) out r v out′
+    → Why (if-room (place-behind t 0) (length out)) → ((a b : Told-written) → Why a → Why b → a ≡ b) → Write-reasoned Why r v
 reasoned Why t out r v out′ x why one =
     let a = if-room (place-behind t 0) (length out) in
     record { answer = a; why = why; code-is = x .code-is; value-is = x .value-is; only = λ b because. one b a because why }

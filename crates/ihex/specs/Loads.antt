@@ -9,7 +9,7 @@ use lib.ListN.{length, getD}
 use Rattle.reader.specs.Lines.{through}
 use Rattle.steps.specs.Steps.{Verdict, by}
 use Rattle.loader.specs.Load.{stopping, placements}
-use Rattle.steps.specs.Sites.{Place}
+use Rattle.steps.specs.Sites.{Owed-at}
 use Rattle.loader.specs.Claims.{Why}
 use Rattle.codes.specs.Codes.{OK, value, loading, line-at}
 use Rattle.ihex.specs.Entries.{IhexLoad}
@@ -33,7 +33,7 @@ Ihex-non-interference =
 abbrev pub Ihex-what-is-stored : Type 0
 Ihex-what-is-stored =
     (text : List ℕ) (first : ℕ) (page marks : List ℕ) (l a b : ℕ) (p m : List ℕ) → IhexLoad text first page marks OK l a b p m
-    → (i : ℕ) → i < length page → Place (placements text) (first + i) (getD page i 0) (getD m i 0) (getD p i 0)
+    → (i : ℕ) → i < length page → Owed-at (placements text) (first + i) (getD page i 0) (getD m i 0) (getD p i 0)
 
 -- a refusal changes no byte of the page and no mark
 abbrev pub Ihex-load-keeps : Type 0

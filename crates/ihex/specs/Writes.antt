@@ -8,7 +8,7 @@ use mathlib.Core.Option.{Option, some}
 use mathlib.Core.List.{List}
 use lib.ListN.{length, take, drop}
 use Rattle.record.specs.declared.Record.{Record}
-use Rattle.writer.specs.Told.{Told}
+use Rattle.writer.specs.Told.{Told-written}
 use Rattle.writer.specs.Text.{Text, chars}
 use Rattle.writer.specs.Reasons.{Why-line, Why-object}
 use Rattle.codes.specs.Codes.{OK, value, writing}
@@ -28,12 +28,12 @@ Refusal-keeps-output = (t : Option Text) (out : List ℕ) (r v : ℕ) (out′ : 
 -- ---- why a writer returns what it returns
 
 -- what is returned has a reason, and nothing else has one
-pub record Write-reasoned (Why : Told → Type 0) (r v : ℕ) : Type 0 where
-  pub answer : Told
+pub record Write-reasoned (Why : Told-written → Type 0) (r v : ℕ) : Type 0 where
+  pub answer : Told-written
   pub why : Why answer
   pub code-is : r ≡ writing (some answer) .code
   pub value-is : v ≡ value (writing (some answer)) 0
-  pub only : (t : Told) → Why t → t ≡ answer
+  pub only : (t : Told-written) → Why t → t ≡ answer
 
 -- a record, where the numbers are one: 11, 12, then 15
 abbrev pub Ihex-to-record-string-reasons : Type 0

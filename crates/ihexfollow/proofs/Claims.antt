@@ -18,7 +18,7 @@ use Rattle.record.proofs.Standing.{Stands, stands, fault-few}
 use Rattle.reader.specs.declared.Reply.{Reply}
 use Rattle.reader.specs.declared.Reply.the-variants as reply
 use Rattle.reader.specs.Told.{Told, gives, refuses, done}
-use Rattle.reader.specs.Answer.{room, given, answered, poured}
+use Rattle.reader.specs.Answer.{fits-pool, given, answered, poured}
 use Rattle.reader.specs.Lines.{lines}
 use Rattle.reader.specs.Row.{Numbered, on, sayings, stops, through-stop, row}
 use Rattle.reader.specs.Text.{told-reply, is-full}
@@ -216,7 +216,7 @@ number-told done = 0
 
 given-few : (m : Meaning) (n at : ℕ) → number-told (given m n at) < 18
 unfolding given number-told
-given-few (data-at offset bytes) n at = branch (λ (t : Told). number-told t < 18) (room n at bytes) _ _ (λ _. omega arith) (λ _. omega arith)
+given-few (data-at offset bytes) n at = branch (λ (t : Told). number-told t < 18) (fits-pool n at bytes) _ _ (λ _. omega arith) (λ _. omega arith)
 given-few end-of-file n at = omega arith
 given-few (extended-segment number) n at = omega arith
 given-few (start-segment cs ip) n at = omega arith

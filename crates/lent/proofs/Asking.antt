@@ -43,11 +43,11 @@ use denote.Triple.Clauses.{Lasts, ensured, lasts}
 use Rattle.reader.specs.Held.{Asked}
 use Rattle.reader.specs.declared.Reader.{Reader}
 use Rattle.reader.specs.declared.Reply.{Reply}
-use Rattle.reader.specs.declared.Step.{Step}
+use Rattle.reader.specs.declared.Replied.{Replied}
 use Rattle.reader.proofs.Reply as Rp
 use Rattle.reader.proofs.Reply.Laws as Rp′
-use Rattle.reader.proofs.Step as N
-use Rattle.reader.proofs.Step.Laws as N′
+use Rattle.reader.proofs.Replied as N
+use Rattle.reader.proofs.Replied.Laws as N′
 use Rattle.reader.proofs.Reader as T
 use Rattle.reader.proofs.Reader.Laws as T′
 use Rattle.reader.proofs.Reader.next as next
@@ -76,7 +76,7 @@ module _ (κ : Lft) where
   abbrev pub mach : Reader → Val
   mach h = LL.val D L h
 
-abbrev pub machN : Step → Val
+abbrev pub machN : Replied → Val
 machN r = LL.val N.the-type N′.the-laws r
 
 -- the lifetimes of a call, the name under which the reader is lent, and the pool's
@@ -97,7 +97,7 @@ pub record Heard (h : Reader) (ys : List ℕ) (put n : ℕ) (u : Val) : Type 0 w
 
 -- the step of what was said, and where the reader stands then
 module _ {h : Reader} {ys : List ℕ} {put n : ℕ} {u : Val} (e : Heard h ys put n u) where
-  abbrev pub stepped : Step
+  abbrev pub stepped : Replied
   stepped = record { reply = e .reply; state = e .left .state }
 
   pub stepped-is : (κ : Lft) → Is (R κ) (e .left) (mach κ (e .left) ∷ []) → Is N.the-row stepped (machN stepped ∷ [])

@@ -4,7 +4,7 @@ use Prim.Native.Nat.{ℕ, zero, suc}
 use mathlib.Core.Path.{_≡_, refl, sym, _∙_, ap, subst}
 use mathlib.Core.List.{List, [], _∷_}
 use Rattle.reader.specs.declared.State.{State}
-use Rattle.reader.specs.declared.Step.{Step}
+use Rattle.reader.specs.declared.Replied.{Replied}
 use Rattle.reader.specs.Text.{told-reply, new-state, default-options, Outcome, outcome, Meets}
 use Rattle.reader.specs.Lines.{lines}
 use Rattle.reader.specs.Row.{sayings}
@@ -58,7 +58,7 @@ first-record-unique text pool at r₁ r₂ p₁ p₂ x y =
     let s = outcome (new-state default-options) text pool at .state in
     let u = next-unique (new-state default-options) text pool at (step r₁ s) (step r₂ s) p₁ p₂
     (record { answer = x .answer; state = refl; left = x .left }) (record { answer = y .answer; state = refl; left = y .left }) in
-    (ap (λ (s : Step). s .reply) (u .0), u .1)
+    (ap (λ (s : Replied). s .reply) (u .0), u .1)
 
 pub next-of-unique : Next-of-unique
 next-of-unique = next-unique
@@ -74,7 +74,7 @@ nth-of-unique options text pool at n r₁ r₂ p₁ p₂ x y =
     let (s, last, e) = last-ask n (new-state options) text pool at in
     next-unique s text last at r₁ r₂ p₁ p₂ (met e x) (met e y)
   where
-    met : {o : Outcome} {r : Step} {p : List ℕ} → asked n (new-state options) text pool at ≡ o → NthOf options text pool at n r p → Meets o r p
+    met : {o : Outcome} {r : Replied} {p : List ℕ} → asked n (new-state options) text pool at ≡ o → NthOf options text pool at n r p → Meets o r p
     met {r = r} {p} e x = subst (λ (o : Outcome). Meets o r p) e (record { answer = x .answer; state = x .state; left = x .left })
 
 pub object-of-unique : Object-of-unique

@@ -8,7 +8,7 @@ use lib.ListN.{length}
 use Rattle.reader.specs.declared.ReaderOptions.{ReaderOptions}
 use Rattle.reader.specs.declared.State.{State}
 use Rattle.reader.specs.declared.Reply.{Reply}
-use Rattle.reader.specs.declared.Step.{Step}
+use Rattle.reader.specs.declared.Replied.{Replied}
 use Rattle.reader.specs.Lines.{lines}
 use Rattle.reader.specs.Row.{sayings}
 use Rattle.reader.specs.Text.{told-reply, default-options, new-state, Outcome, outcome}
@@ -30,7 +30,7 @@ asked zero s text pool at = outcome s text pool at
 asked (suc n) s text pool at = let o = outcome s text pool at in asked n (o .state) text (o .pool) at
 
 -- of `nth_of`
-pub record NthOf (options : ReaderOptions) (text pool : List ℕ) (at n : ℕ) (r : Step) (pool′ : List ℕ) : Type 0 where
+pub record NthOf (options : ReaderOptions) (text pool : List ℕ) (at n : ℕ) (r : Replied) (pool′ : List ℕ) : Type 0 where
   pub answer : told-reply (r .reply) ≡ asked n (new-state options) text pool at .told
   pub state : r .state ≡ asked n (new-state options) text pool at .state
   pub left : pool′ ≡ asked n (new-state options) text pool at .pool
@@ -52,7 +52,7 @@ pub data In-turn (at : ℕ) : (n : ℕ) (pool : List ℕ) → List Call → List
 -- `nth_of` returns what the last of n + 1 such calls is given by the lines of the text, and nothing else
 abbrev pub Nth-of-says : Type 0
 Nth-of-says =
-    (options : ReaderOptions) (text pool : List ℕ) (at n : ℕ) → length text < 2 ^ 64 → (r : Step) (pool′ : List ℕ) → NthOf options text pool at n r pool′
+    (options : ReaderOptions) (text pool : List ℕ) (at n : ℕ) → length text < 2 ^ 64 → (r : Replied) (pool′ : List ℕ) → NthOf options text pool at n r pool′
     → (last : Given) → ((calls : List Call) × In-turn at n pool calls (replies options 0 (sayings 1 (lines text)) calls) last)
     ↔ (last ≡ record { told = told-reply (r .reply); pool = pool′; line = r .state .line })
 
@@ -68,7 +68,7 @@ Next-of-unique = Next-unique
 
 abbrev pub Nth-of-unique : Type 0
 Nth-of-unique =
-    (options : ReaderOptions) (text pool : List ℕ) (at n : ℕ) (r₁ r₂ : Step) (p₁ p₂ : List ℕ)
+    (options : ReaderOptions) (text pool : List ℕ) (at n : ℕ) (r₁ r₂ : Replied) (p₁ p₂ : List ℕ)
     → NthOf options text pool at n r₁ p₁ → NthOf options text pool at n r₂ p₂ → (r₁ ≡ r₂) × (p₁ ≡ p₂)
 
 abbrev pub Object-of-unique : Type 0

@@ -1,9 +1,9 @@
 // The two lent forms, a reader that holds its text and an object from a lent list, called with values. Their callers need no proof by hand.
 use reader::Reader;
 use reader::ReaderOptions;
+use reader::Replied;
 use reader::Reply;
 use reader::State;
-use reader::Step;
 use record::Record;
 use writer::Written;
 ghost use Prim.Native.Nat.{_≤_};
@@ -24,19 +24,19 @@ pub fn first_record(text: &[u8], pool: &mut [u8], at: usize) -> Reply
 }
 
 // The next answer of a text from a state on, by a reader that holds the text.
-pub fn next_of(text: &[u8], state: State, pool: &mut [u8], at: usize) -> Step
+pub fn next_of(text: &[u8], state: State, pool: &mut [u8], at: usize) -> Replied
     ensures { λ r. ⌜ Next state (now (text .entry)) (now (pool .entry)) at r (now (pool .exit)) ⌝ }
 {
     let mut reader = Reader { text, state };
     let reply = reader.next(pool, at);
-    Step {
+    Replied {
         reply,
         state: reader.state,
     }
 }
 
 // The answer of a text after n others, and where the reading stands then. One reader is asked n times and once more, with the same pool and position.
-pub fn nth_of(text: &[u8], options: ReaderOptions, pool: &mut [u8], at: usize, n: usize) -> Step
+pub fn nth_of(text: &[u8], options: ReaderOptions, pool: &mut [u8], at: usize, n: usize) -> Replied
     ensures { λ r. ⌜ NthOf options (now (text .entry)) (now (pool .entry)) at n r (now (pool .exit)) ⌝ }
 {
     let mut reader = Reader::new_with_options(text, options);
@@ -44,7 +44,7 @@ pub fn nth_of(text: &[u8], options: ReaderOptions, pool: &mut [u8], at: usize, n
     loop {
         let reply = reader.next(pool, at);
         if i >= n {
-            return Step {
+            return Replied {
                 reply,
                 state: reader.state,
             };

@@ -9,7 +9,7 @@ use Rattle.reader.specs.Row.{row}
 use Rattle.listing.specs.declared.Listed.{Listed}
 use Rattle.listing.specs.declared.Listed.the-variants.{Wrote, NoRoom}
 use Rattle.listing.specs.Listing.{listing}
-use Rattle.listing.specs.Listed.{Told, wrote, no-room, told, Writes}
+use Rattle.listing.specs.Listed.{Told-listed, wrote, no-room, told-listed, Writes}
 use Rattle.listing.specs.Claims.{Example, Example-place, List-unique, List-reply-unique, List-first-unique, List-last-unique, Shown-as-listed, Room-for-each, Listing-options-unique, Verdict-after-unique, Exit-status-unique, Text-status-unique}
 use Rattle.listing.proofs.Turning.{spoken}
 
@@ -21,11 +21,11 @@ pub example-place : Example-place
 unfolding listing row judge
 example-place = refl
 
-untold : Told → Listed
+untold : Told-listed → Listed
 untold (wrote n) = Wrote n
 untold no-room = NoRoom
 
-untold-told : (r : Listed) → untold (told r) ≡ r
+untold-told : (r : Listed) → untold (told-listed r) ≡ r
 unfolding untold
 untold-told (Wrote n) = refl
 untold-told NoRoom = refl

@@ -19,7 +19,7 @@ use Rattle.reader.specs.declared.Reply.the-variants.{Read, Refused, Done}
 use Rattle.digits.proofs.Tests.{split, both}
 use Rattle.reader.specs.Told.{refusal-of}
 use Rattle.listing.specs.Listing.{decimal, values-shown, record-entry, refusal-entry, count-line}
-use Rattle.listing.specs.Listed.{text-room, room, record-room, reply-room}
+use Rattle.listing.specs.Listed.{text-room, line-room, record-room, reply-room}
 use Rattle.listing.specs.Helpers.{Fits-in}
 use Rattle.listing.proofs.Decimal.{decimal-length}
 use Rattle.listing.proofs.Entry.{data-length, payload-most}
@@ -27,21 +27,21 @@ use Rattle.listing.proofs.Whole.{count-line-length}
 
 -- ---- whether there is room
 
-pub room-half : (given out : ℕ) → 32 ≤ out → leb given ((out - 32) / 2) ≡ room given out
+pub room-half : (given out : ℕ) → 32 ≤ out → leb given ((out - 32) / 2) ≡ line-room given out
 room-half given out h =
     split given ((out - 32) / 2)
     (λ k. le-leb given ((out - 32) / 2) k ∙ sym (le-leb (2 * given + 32) out (omega arith)))
     (λ k. lt-leb given ((out - 32) / 2) k ∙ sym (lt-leb (2 * given + 32) out (omega arith)))
 
 -- a text takes one byte more for each of its bytes
-pub room-behind : (given out : ℕ) → given ≤ out → room given (out - given) ≡ text-room given out
+pub room-behind : (given out : ℕ) → given ≤ out → line-room given (out - given) ≡ text-room given out
 room-behind given out h =
     split (3 * given + 32) out
     (λ k. le-leb (2 * given + 32) (out - given) (omega arith) ∙ sym (le-leb (3 * given + 32) out k))
     (λ k. lt-leb (2 * given + 32) (out - given) (omega arith) ∙ sym (lt-leb (3 * given + 32) out k))
 
 module _ (offset at len pool out : ℕ) where
-  pub data-inside : at + len ≤ pool → record-room (Data offset at len) pool out ≡ room len out
+  pub data-inside : at + len ≤ pool → record-room (Data offset at len) pool out ≡ line-room len out
   data-inside h = rw (le-leb (at + len) pool h)
 
   pub data-outside : pool < at + len → record-room (Data offset at len) pool out ≡ false

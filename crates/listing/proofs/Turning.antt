@@ -22,7 +22,7 @@ use Rattle.reader.specs.declared.Answer.the-variants as answer
 use Rattle.reader.specs.declared.Reply.{Reply}
 use Rattle.reader.specs.declared.Reply.the-variants.{Read, Refused, Done}
 use Rattle.reader.specs.declared.State.{State}
-use Rattle.reader.specs.declared.Step.{Step}
+use Rattle.reader.specs.declared.Replied.{Replied}
 use Rattle.reader.specs.Told.{refuses, done, told, refusal-of}
 use Rattle.reader.specs.Answer.{given, kept, answered, poured}
 use Rattle.reader.specs.Row.{Numbered, on, is-end, stops, through-stop, row}
@@ -154,7 +154,7 @@ pub record Shown (input : List ℕ) (s : State) (reply : Reply) (s′ : State) (
   pub on-way : (pool : List ℕ) → length pool ≡ 256 → Under-way input pool s′
 
 module _ (input : List ℕ) (s : State) (pool : List ℕ) (way : Under-way input pool s)
-    (step : Step) (pool′ : List ℕ) (met : Meets (outcome s input pool 0) step pool′) where
+    (step : Replied) (pool′ : List ℕ) (met : Meets (outcome s input pool 0) step pool′) where
   heard-said : (n : ℕ) (said : Said) (more : List Numbered) → unread s input ≡ on n said ∷ more → Shown input s (step .reply) (step .state) pool′
   unfolding through-stop
   heard-said n said more u =

@@ -12,7 +12,7 @@ use Rattle.digits.proofs.Tests.{split}
 use Rattle.listing.specs.declared.Listed.{Listed}
 use Rattle.listing.specs.declared.Listed.the-variants.{Wrote, NoRoom}
 use Rattle.listing.specs.Listing.{decimal, ended, heading, count-line, entries, answers, listing}
-use Rattle.listing.specs.Listed.{wrote, no-room, told, text-room, Writes, Lists}
+use Rattle.listing.specs.Listed.{wrote, no-room, told-listed, text-room, Writes, Lists}
 use Rattle.listing.specs.Helpers.{Puts}
 use Rattle.listing.specs.Claims.{Fits}
 use Rattle.listing.proofs.Decimal.{decimal-length}
@@ -63,7 +63,7 @@ module _ (input out : List ℕ) where
 
 -- what was written lies within the output
 pub wrote-inside : (input out : List ℕ) (r : Listed) (out′ : List ℕ) (n : ℕ) → Lists input out r out′ → r ≡ Wrote n → n ≤ length out
-wrote-inside input out r out′ n l e = go (text-room (length input) (length out)) refl (ap told (sym e) ∙ l .answer)
+wrote-inside input out r out′ n l e = go (text-room (length input) (length out)) refl (ap told-listed (sym e) ∙ l .answer)
   where
     go : (b : Bool) → text-room (length input) (length out) ≡ b → wrote n ≡ (if b then wrote (length (listing input)) else no-room) → n ≤ length out
     go true t q = let k : n ≡ length (listing input) = cc in omega (arith, fits input, leb-true (3 * length input + 32) (length out) t)

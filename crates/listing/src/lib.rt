@@ -15,7 +15,7 @@ ghost use Rattle.digits.specs.Spelling.{spelt};
 ghost use Rattle.record.specs.Meaning.{data-at};
 ghost use Rattle.reader.specs.Told.{refusal-of};
 ghost use Rattle.listing.specs.Listing.{decimal, spaced, record-entry, refusal-entry, shown, heading, count-line, answers};
-ghost use Rattle.listing.specs.Listed.{text-room, room, record-room, reply-room, Lists, ListsReply, ListsFirst, ListsLast};
+ghost use Rattle.listing.specs.Listed.{text-room, line-room, record-room, reply-room, Lists, ListsReply, ListsFirst, ListsLast};
 ghost use Rattle.listing.specs.Helpers.{Puts, Printable, Fits-in, is-done, numbered, values-put, EntriesPut, HasRoom};
 ghost use Rattle.listing.specs.Status.{no-line, verdict-from, ListingOptions, VerdictAfter, ExitStatus, TextStatus};
 
@@ -291,7 +291,7 @@ fn put_last(count: usize, out: &mut [u8], at: usize) -> usize
 
 // Whether an output has room for a line with a payload of so many bytes: two characters for each, and less than 32 for the rest.
 fn has_room(given: usize, out: usize) -> bool
-    ensures { λ r. ⌜ r ≡ room given out ⌝ }
+    ensures { λ r. ⌜ r ≡ line-room given out ⌝ }
 {
     if out < 32 {
         return false;

@@ -22,7 +22,7 @@ use Rattle.reader.specs.declared.ReaderError.{ReaderError}
 use Rattle.reader.specs.declared.Reply.the-variants.{Read, Refused, Done}
 use Rattle.reader.specs.declared.ReaderOptions.{ReaderOptions}
 use Rattle.reader.specs.declared.State.{State}
-use Rattle.reader.specs.declared.Step.{Step as Reading}
+use Rattle.reader.specs.declared.Replied.{Replied}
 use Rattle.reader.specs.Told.{Told, gives, refuses, done, refusal-of, told}
 use Rattle.reader.specs.Answer.{given, kept, answered, poured}
 use Rattle.reader.specs.Lines.{Found, a-line, no-line, next-line}
@@ -98,7 +98,7 @@ finishes-so s text pool = go (s .finished) refl (next-line 0 (drop (s .position)
         used (answered (judge line) (length pool) 0) (is-full (answered (judge line) (length pool) 0)) refl
         (length text - length left) (next-number s n) (poured (judge line) pool 0)
 
-module _ (s : State) (text pool : List ℕ) (r : Reading) (pool′ : List ℕ) (o : s .options ≡ default-options) (c : Countable s text) (room : length pool ≡ 255) (next : Next s text pool 0 r pool′) where
+module _ (s : State) (text pool : List ℕ) (r : Replied) (pool′ : List ℕ) (o : s .options ≡ default-options) (c : Countable s text) (room : length pool ≡ 255) (next : Next s text pool 0 r pool′) where
   -- the pool has room for whatever a line says
   fits : (line : List ℕ) (said : Said) → judge line ≡ said → is-full (answered said (length pool) 0) ≡ false
   fits line said j = subst (λ (y : Said). is-full (answered y (length pool) 0) ≡ false) j (never-full line (length pool) 0 (omega arith))

@@ -11,7 +11,7 @@ use lib.ListN.{length, getD}
 use borrow.Author.Tests.{eq-eqb, le-ltb}
 use Rattle.digits.specs.Common.{if_then_else_}
 use Rattle.record.specs.Refusals.{Refusal, refusal, number-of, contains-invalid-characters, missing-end-of-file-record, bad-window, outside-window}
-use Rattle.digits.specs.Digits.{number}
+use Rattle.digits.specs.Digits.{number-after}
 use Rattle.record.specs.Line.{wrong, judge}
 use Rattle.digits.specs.Reading.{named}
 use Rattle.record.specs.Meaning.{meaning}
@@ -40,13 +40,13 @@ use Rattle.window.proofs.Tests.{good-window, no-window}
 use Rattle.loader.specs.declared.Tally.{Tally as CodeTally}
 use Rattle.loader.specs.Placing.{intel-by}
 use Rattle.loader.specs.Load.{room-of, placements, steps-of, stopping, load}
-use Rattle.loader.specs.Told.{refusal-by, told}
+use Rattle.loader.specs.Told.{loader-refusal, told-loading}
 use Rattle.loader.specs.Claims.{in-force, data-records, Stops, the-end, no-record, first-outside, Decided, Why, bad-one, no-end, at-line, Reasons, Load-names-the-offender, Among, Total, Told-apart, Load-unique, Examples}
 use Rattle.loader.proofs.Demand3.{load-answer}
 use Rattle.loader.proofs.Reasons.{Walked, walked}
 
 pub examples : Examples
-unfolding load stopping placements intel-by judge meaning number
+unfolding load stopping placements intel-by judge meaning number-after
 examples = record { sixth-place = refl; below-it = refl; wraps = refl }
 
 -- ---- reasons
@@ -137,7 +137,7 @@ of-line : (e : ReaderError) → Line (reader-error (untold (refuses (refusal-of 
 unfolding reader-error
 of-line e = ap (λ (a : Answer). Line (reader-error a)) (untold-told (AnswerRefused e))
 
-again : (e : LoaderError) → error (refusal-by e) ≡ e
+again : (e : LoaderError) → error (loader-refusal e) ≡ e
 unfolding error
 again (Line MissingStartCode) = of-line MissingStartCode
 again (Line RecordTooShort) = of-line RecordTooShort
@@ -157,7 +157,7 @@ untold-load : Verdict → Loading
 untold-load (accepted t) = Accepted (record { records = t .records })
 untold-load (refused r n) = Refused (error r) n
 
-told-again : (l : Loading) → untold-load (told l) ≡ l
+told-again : (l : Loading) → untold-load (told-loading l) ≡ l
 unfolding untold-load
 told-again (Accepted n) = refl
 told-again (Refused e n) = ap (λ (x : LoaderError). Refused x n) (again e)

@@ -23,7 +23,7 @@ use Rattle.window.proofs.Storing.{shows}
 use Rattle.marks.proofs.Places.{split}
 use Rattle.loader.specs.Placing.{intel}
 use Rattle.loader.specs.Load.{room-of, steps-of, placements, stopping, load}
-use Rattle.loader.specs.Claims.{Alike, Non-interference, What-is-stored, Place-unique, Refusal-changes-nothing, Sizes-kept}
+use Rattle.loader.specs.Claims.{Alike, Non-interference, What-is-stored, Owed-at-unique, Refusal-changes-nothing, Sizes-kept}
 
 -- ---- the answer
 
@@ -111,8 +111,8 @@ what-is-stored text first page marks k e i h =
     let w = accepted-window first page marks (steps-of text) k (sym (load-answer text first page marks) ∙ e) in
     rw (shows first (length page) i h) at (general.what-is-stored _ intel (room-of first page marks) text page marks k e i h (omega (arith, w .even)))
 
-pub place-unique : Place-unique
-place-unique ps a old m m′ b b′ x y = general.owed-unique (some a) ps old 0 m m′ b b′ x y
+pub owed-at-unique : Owed-at-unique
+owed-at-unique ps a old m m′ b b′ x y = general.owed-unique (some a) ps old 0 m m′ b b′ x y
 
 pub refusal-changes-nothing : Refusal-changes-nothing
 unfolding load

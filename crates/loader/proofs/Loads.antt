@@ -31,7 +31,7 @@ use Rattle.loader.specs.declared.Further.the-variants as further
 use Rattle.loader.specs.declared.Walk.{Walk}
 use Rattle.loader.specs.Placing.{intel}
 use Rattle.loader.specs.Load.{room-of, placements, steps-of, stopping, load}
-use Rattle.loader.specs.Told.{refusal-by, tallied, told, Load}
+use Rattle.loader.specs.Told.{loader-refusal, tallied, told-loading, Load}
 use Rattle.loader.specs.Helpers.{ahead-of, Under-way, Few, Onward, Judged, is-accepted, Same-painting, Written-on, Wrote}
 use Rattle.loader.proofs.Demand3.{fit-stopping, accepted-load}
 use Rattle.loader.proofs.Passes.{start, start-under-way, start-few, start-ahead}
@@ -61,7 +61,7 @@ module _ (inside : ℕ → Bool) (text pool : List ℕ) where
         let o = onward w′ tally′ e in
         record { under-way = o .under-way; few = o .few; room = l ∙ j .room; same = o .same ∙ j .same }
 
-    pub judging-end : (l : Loading) → t ≡ Stop l → told l ≡ verdict (decision inside nothing-yet (steps-of text))
+    pub judging-end : (l : Loading) → t ≡ Stop l → told-loading l ≡ verdict (decision inside nothing-yet (steps-of text))
     judging-end l e = subst (Judged inside text w tally) e h ∙ ap verdict (j .same)
 
 -- ---- the second pass
@@ -122,7 +122,7 @@ all-cleared first size i (m ∷ marks) h = rw (shows first size i (omega arith))
 
 module _ (text : List ℕ) (first : ℕ) (page marks : List ℕ) where
   -- what a load returns and leaves is its contract
-  as-loaded : (a : Loading) (p m : List ℕ) → load text first page marks ≡ record { answer = told a; page = p; marks = m } → Load text first page marks a p m
+  as-loaded : (a : Loading) (p m : List ℕ) → load text first page marks ≡ record { answer = told-loading a; page = p; marks = m } → Load text first page marks a p m
   as-loaded a p m l =
       record { answer = ap (λ (x : Loaded). x .answer) (sym l); page = ap (λ (x : Loaded). x .page) (sym l); marks = ap (λ (x : Loaded). x .marks) (sym l) }
 
@@ -135,15 +135,15 @@ module _ (text : List ℕ) (first : ℕ) (page marks : List ℕ) where
   unfolding stopping one-window stopping-by verdict
   load-unfit e = as-loaded (Refused BadWindow 0) page marks (refused-load bad-window 0 (rw e))
 
-  module _ (fit : unfit first (length page) (length marks) ≡ false) (a : Loading) (h : told a ≡ verdict (decision (within first (length page)) nothing-yet (steps-of text))) where
-    judged-so : verdict (stopping text first page marks) ≡ told a
+  module _ (fit : unfit first (length page) (length marks) ≡ false) (a : Loading) (h : told-loading a ≡ verdict (decision (within first (length page)) nothing-yet (steps-of text))) where
+    judged-so : verdict (stopping text first page marks) ≡ told-loading a
     unfolding stopping stopping-by
     judged-so = ap verdict (fit-stopping first page marks (steps-of text) fit) ∙ sym h
 
     pub load-refused : is-accepted a ≡ false → Load text first page marks a page marks
     load-refused f =
         let (e, n, q) = turned-away a f in
-        as-loaded a page marks (rw q (refused-load (refusal-by e) n (judged-so ∙ ap told q)))
+        as-loaded a page marks (rw q (refused-load (loader-refusal e) n (judged-so ∙ ap told-loading q)))
 
     pub load-accepted : is-accepted a ≡ true → (marks₀ page′ marks′ : List ℕ) → marks₀ ≡ replicate (length marks) 0
         → Painted first (placements text) page marks₀ page′ marks′ → Load text first page marks a page′ marks′
@@ -153,4 +153,4 @@ module _ (text : List ℕ) (first : ℕ) (page marks : List ℕ) where
         let m : marks′ ≡ marked (window first (length page)) 0 (placements text) marks
         = p .marks ∙ ap (painted (window first (length page)) 0 (map as-mark (placements text))) (c ∙ sym (all-cleared first (length page) 0 marks (omega arith)))
         ∙ sym (marks-by-ones (window first (length page)) (placements text) marks) in
-        as-loaded a page′ marks′ (rw (p .page, m, q) (accepted-load text first page marks (tallied k) (judged-so ∙ ap told q)))
+        as-loaded a page′ marks′ (rw (p .page, m, q) (accepted-load text first page marks (tallied k) (judged-so ∙ ap told-loading q)))

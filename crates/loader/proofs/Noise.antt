@@ -12,7 +12,7 @@ use native.Mathlib.Decide.{ℕ-discrete}
 use lib.ListN.{length, drop}
 use Rattle.record.specs.Line.{judge}
 use Rattle.record.specs.Meaning.{meaning}
-use Rattle.digits.specs.Digits.{number}
+use Rattle.digits.specs.Digits.{number-after}
 use Rattle.record.specs.Noise.{Slip, no-slip, one-changed, one-lost, one-added, two-swapped}
 use Rattle.record.proofs.Noise.{no-record-goes-on}
 use Rattle.reader.specs.Lines.{LF, first-line, lines}
@@ -252,5 +252,5 @@ damage-is-noticed text text′ d first page marks r p m tally l e r′ p′ m′
 -- ---- examples
 
 pub examples : Examples
-unfolding load intel-by judge meaning number
+unfolding load intel-by judge meaning number-after
 examples = record { small-letter = refl; other-digit = refl; joined = refl; CR-added = refl; swapped = refl; LF-cut-off = refl; digit-cut-off = refl }

@@ -16,7 +16,7 @@ use Rattle.record.specs.Record.{meant}
 use Rattle.record.specs.declared.Record.{Record}
 use Rattle.reader.specs.declared.ReaderError.{ReaderError}
 use Rattle.reader.specs.declared.State.{State}
-use Rattle.reader.specs.declared.Step.{Step as Reading}
+use Rattle.reader.specs.declared.Replied.{Replied}
 use Rattle.reader.specs.Told.{refusal-of}
 use Rattle.reader.specs.Lines.{lines}
 use Rattle.reader.specs.Row.{Numbered, on, is-end, through-stop, row}
@@ -77,7 +77,7 @@ stated-step n base (start-segment cs ip) row row′ h g = rw (h refl)
 stated-step n base (extended-linear x) row row′ h g = rw (h refl)
 stated-step n base (start-linear x) row row′ h g = rw (h refl)
 
-module _ (text : List ℕ) (w : Walk) (pool : List ℕ) (r : Reading) (pool′ : List ℕ) (under : Under-way text w) (room : length pool ≡ 255) (next : Next (w .state) text pool 0 r pool′) where
+module _ (text : List ℕ) (w : Walk) (pool : List ℕ) (r : Replied) (pool′ : List ℕ) (under : Under-way text w) (room : length pool ≡ 255) (next : Next (w .state) text pool 0 r pool′) where
   abbrev Here : Record → Type 0
   Here x = One (w .state) text pool r pool′ (under .options) (under .countable) room next x
 

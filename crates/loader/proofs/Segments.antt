@@ -12,7 +12,7 @@ use mathlib.Core.List.{List, [], _∷_, _++_}
 use lib.ListN.{length, getD}
 use Rattle.digits.specs.Common.{if_then_else_, Every}
 use Rattle.record.specs.Refusals.{Refusal}
-use Rattle.digits.specs.Digits.{number}
+use Rattle.digits.specs.Digits.{number-after}
 use Rattle.record.specs.Line.{Said, says, wrong, judge}
 use Rattle.record.specs.Meaning.{Meaning, data-at, end-of-file, extended-segment, start-segment, extended-linear, start-linear, meaning}
 use Rattle.record.specs.Written.{Sayable}
@@ -256,5 +256,5 @@ load-unchanged text first page marks h =
     ∙ ap (λ (s : List Step). load-steps (room-of first page marks) s page marks) (text-unchanged text .1 h) ∙ sym (by-row (λ base. base) (room-of first page marks) text page marks)
 
 pub examples : Examples
-unfolding along flat act base-after row judge meaning number stated
+unfolding along flat act base-after row judge meaning number-after stated
 examples = record { beyond-flat = refl }

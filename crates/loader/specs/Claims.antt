@@ -20,12 +20,12 @@ use Rattle.reader.specs.Lines.{LF, lines, through}
 use Rattle.reader.specs.Claims.{Offends}
 use Rattle.loader.specs.declared.Loading.{Loading}
 use Rattle.steps.specs.Steps.{Placement, Tally, Verdict, accepted, refused, by}
-use Rattle.steps.specs.Sites.{Loaded, Place}
+use Rattle.steps.specs.Sites.{Loaded, Owed-at}
 use Rattle.window.specs.Window.{within}
 use Rattle.window.specs.Claims.{Window}
 use Rattle.loader.specs.Placing.{Base, from-start, segment, linear, stated-by}
 use Rattle.loader.specs.Load.{stopping, placements, load}
-use Rattle.loader.specs.Told.{told, Load}
+use Rattle.loader.specs.Told.{told-loading, Load}
 
 -- ---- two loads
 
@@ -53,13 +53,13 @@ What-is-stored =
     (text : List ℕ) (first : ℕ) (page marks : List ℕ) (tally : Tally)
     → let l = load text first page marks in
     l .answer ≡ accepted tally → (i : ℕ) → i < length page
-    → Place (placements text) (first + i) (getD page i 0) (getD (l .marks) i 0) (getD (l .page) i 0)
+    → Owed-at (placements text) (first + i) (getD page i 0) (getD (l .marks) i 0) (getD (l .page) i 0)
 
 -- which leaves nothing open
-abbrev pub Place-unique : Type 0
-Place-unique =
+abbrev pub Owed-at-unique : Type 0
+Owed-at-unique =
     (ps : List Placement) (address old mark mark′ byte byte′ : ℕ)
-    → Place ps address old mark byte → Place ps address old mark′ byte′ → (mark ≡ mark′) × (byte ≡ byte′)
+    → Owed-at ps address old mark byte → Owed-at ps address old mark′ byte′ → (mark ≡ mark′) × (byte ≡ byte′)
 
 abbrev pub Refusal-changes-nothing : Type 0
 Refusal-changes-nothing =
@@ -203,7 +203,7 @@ Total = (text : List ℕ) (first : ℕ) (page marks : List ℕ) → Among ((load
 
 -- what is told says which answer it was
 abbrev pub Told-apart : Type 0
-Told-apart = (a b : Loading) → told a ≡ told b → a ≡ b
+Told-apart = (a b : Loading) → told-loading a ≡ told-loading b → a ≡ b
 
 -- no second answer, and no second page or marks, meets the contract
 abbrev pub Load-unique : Type 0

@@ -32,7 +32,7 @@ use Rattle.loader.specs.declared.Further.{Further}
 use Rattle.loader.specs.declared.Further.the-variants as further
 use Rattle.loader.specs.Placing.{Base, segment, linear, byte-address, placed, base-behind, does, along}
 unfoldable pub use Rattle.loader.specs.Placing.{stated-by}
-use Rattle.loader.specs.Told.{tallied, told}
+use Rattle.loader.specs.Told.{tallied, told-loading}
 
 -- ---- one record
 
@@ -96,7 +96,7 @@ pub record Passed (inside : ℕ → Bool) (w : Walk) (tally : CodeTally) (m : Me
 
 abbrev pub Met : (inside : ℕ → Bool) (w : Walk) (tally : CodeTally) (m : Meaning) → Turn → Type 0
 Met inside w tally m (On w′ tally′) = Passed inside w tally m w′ tally′
-Met inside w tally m (Stop l) = (rest : List Step) → told l ≡ verdict (decision inside (tallied tally) (does-on (w .state .line) (based (w .base)) m ++ rest))
+Met inside w tally m (Stop l) = (rest : List Step) → told-loading l ≡ verdict (decision inside (tallied tally) (does-on (w .state .line) (based (w .base)) m ++ rest))
 
 -- so it is, wherever the record's payload lies
 abbrev pub Meets : (inside : ℕ → Bool) (w : Walk) (tally : CodeTally) (x : Record) → Turn → Type 0
@@ -111,7 +111,7 @@ pub record Onward (inside : ℕ → Bool) (text : List ℕ) (w : Walk) (tally : 
 
 abbrev pub Judged : (inside : ℕ → Bool) (text : List ℕ) (w : Walk) (tally : CodeTally) → Turn → Type 0
 Judged inside text w tally (On w′ tally′) = Onward inside text w tally w′ tally′
-Judged inside text w tally (Stop l) = told l ≡ verdict (decision inside (tallied tally) (ahead-of w text))
+Judged inside text w tally (Stop l) = told-loading l ≡ verdict (decision inside (tallied tally) (ahead-of w text))
 
 -- ---- the second pass
 

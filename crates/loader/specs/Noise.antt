@@ -14,7 +14,7 @@ use Rattle.loader.specs.declared.Loading.{Loading}
 use Rattle.steps.specs.Steps.{Tally, Verdict, accepted, refused}
 use Rattle.steps.specs.Sites.{Loaded}
 use Rattle.loader.specs.Load.{load}
-use Rattle.loader.specs.Told.{told, Load}
+use Rattle.loader.specs.Told.{told-loading, Load}
 use Rattle.loader.specs.Claims.{example}
 
 -- ---- damage
@@ -48,9 +48,9 @@ pub data Refused-or-same (page marks : List ℕ) (same : Verdict) (p m : List �
 abbrev pub Damage-is-noticed : Type 0
 Damage-is-noticed =
     (text text′ : List ℕ) → Damaged text text′
-    → (first : ℕ) (page marks : List ℕ) (r : Loading) (p m : List ℕ) (tally : Tally) → Load text first page marks r p m → told r ≡ accepted tally
+    → (first : ℕ) (page marks : List ℕ) (r : Loading) (p m : List ℕ) (tally : Tally) → Load text first page marks r p m → told-loading r ≡ accepted tally
     → (r′ : Loading) (p′ m′ : List ℕ) → Load text′ first page marks r′ p′ m′
-    → Refused-or-same page marks (told r) p m (told r′) p′ m′
+    → Refused-or-same page marks (told-loading r) p m (told-loading r′) p′ m′
 
 -- ---- examples: both ways out are taken
 

@@ -13,21 +13,21 @@ use Rattle.steps.specs.Steps.{Tally, Verdict, accepted, refused}
 use Rattle.loader.specs.declared.Tally.{Tally as CodeTally}
 use Rattle.loader.specs.Load.{load}
 
-abbrev pub refusal-by : LoaderError → Refusal
-refusal-by (Line e) = refusal-of e
-refusal-by MissingEndOfFileRecord = missing-end-of-file-record
-refusal-by BadWindow = bad-window
-refusal-by (OutsideWindow address) = outside-window address
+abbrev pub loader-refusal : LoaderError → Refusal
+loader-refusal (Line e) = refusal-of e
+loader-refusal MissingEndOfFileRecord = missing-end-of-file-record
+loader-refusal BadWindow = bad-window
+loader-refusal (OutsideWindow address) = outside-window address
 
 abbrev pub tallied : CodeTally → Tally
 tallied t = record { records = t .records }
 
-abbrev pub told : Loading → Verdict
-told (Accepted tally) = accepted (tallied tally)
-told (Refused e line) = refused (refusal-by e) line
+abbrev pub told-loading : Loading → Verdict
+told-loading (Accepted tally) = accepted (tallied tally)
+told-loading (Refused e line) = refused (loader-refusal e) line
 
 -- the contract of `load`
 pub record Load (text : List ℕ) (first : ℕ) (page₀ marks₀ : List ℕ) (r : Loading) (page′ marks′ : List ℕ) : Type 0 where
-  pub answer : told r ≡ (load text first page₀ marks₀) .answer
+  pub answer : told-loading r ≡ (load text first page₀ marks₀) .answer
   pub page : page′ ≡ (load text first page₀ marks₀) .page
   pub marks : marks′ ≡ (load text first page₀ marks₀) .marks

@@ -14,7 +14,7 @@ ghost use Rattle.window.specs.Window.{within};
 ghost use Rattle.window.specs.Contracts.{Painted};
 ghost use Rattle.loader.specs.Placing.{byte-address, placed};
 ghost use Rattle.loader.specs.Load.{placements, steps-of};
-ghost use Rattle.loader.specs.Told.{told, Load};
+ghost use Rattle.loader.specs.Told.{told-loading, Load};
 ghost use Rattle.loader.specs.Helpers.{based, Surveyed, stated-by, Short, Lies-in, Behind, Under-way, Few, Meets, Judged, is-accepted, Wrote};
 
 // The most bytes that a record can have.
@@ -218,7 +218,7 @@ fn begin() -> Walk
 
 // The first pass: the answer to a text for a window that is not refused. Nothing is written.
 fn judge_text(text: &[u8], first: u32, size: usize) -> Loading
-    ensures { λ r. ⌜ told r ≡ verdict (decision (within first size) nothing-yet (steps-of (now (text .entry)))) ⌝ }
+    ensures { λ r. ⌜ told-loading r ≡ verdict (decision (within first size) nothing-yet (steps-of (now (text .entry)))) ⌝ }
 {
     let mut pool = [0u8; MOST_BYTES];
     let mut w = begin();

@@ -16,8 +16,7 @@ use Rattle.record.specs.Refusals.{output-full, bad-window, bad-mark}
 use Rattle.record.specs.declared.Record.{Record}
 use Rattle.writer.specs.declared.Written.{Written}
 use Rattle.writer.specs.declared.Survey.{Survey}
-use Rattle.writer.specs.Told.{wrote, refuses}
-use Rattle.writer.specs.Told as writer
+use Rattle.writer.specs.Told.{wrote, refuses, told-written}
 use Rattle.writer.specs.Text.{Text, chars, refused, place-behind, if-room, Writes}
 use Rattle.writer.specs.Line.{line, ended-line}
 use Rattle.writer.specs.Object.{joined-lines}
@@ -30,10 +29,10 @@ use Rattle.page.specs.declared.PageError.{PageError}
 use Rattle.page.specs.declared.Paged.{Paged}
 use Rattle.page.specs.declared.Paged.the-variants.{Refused}
 use Rattle.page.specs.File.{page-records, file, page-text}
-use Rattle.page.specs.Told.{refusal-of, PageFileLength, WritePage}
-use Rattle.page.specs.Helpers.{Surveyed-whole, May-be-full, As-written}
+use Rattle.page.specs.Told.{page-refusal, PageFileLength, WritePage}
+use Rattle.page.specs.Helpers.{PageSurvey-whole, May-be-full, As-written}
 use Rattle.page.proofs.Files.{file-is-object}
-use Rattle.page.proofs.Room.{room}
+use Rattle.page.proofs.Room.{room-enough}
 
 -- ---- the text
 
@@ -62,20 +61,20 @@ no-more-records (r ∷ rs) pool =
 fits : (n space : ℕ) → n ≤ space → if-room (wrote n) space ≡ wrote n
 fits n space l = rw (le-leb n space l)
 
-module _ (first : ℕ) (page marks : List ℕ) (s : Survey) (w : Surveyed-whole first page marks s) where
+module _ (first : ℕ) (page marks : List ℕ) (s : Survey) (w : PageSurvey-whole first page marks s) where
   few : length (page-records first (flags (length page) marks)) ≤ length (file first page marks)
   unfolding file
   few = no-more-records (page-records first (flags (length page) marks)) page
 
   short : length (file first page marks) ≤ most
-  short = omega (arith, room first page marks (w .window), w .window .small)
+  short = omega (arith, room-enough first page marks (w .window), w .window .small)
 
   short-lines : length (joined-lines (page-records first (flags (length page) marks)) page) ≤ most
   unfolding file
   short-lines = short
 
   -- the survey answers the file's length
-  pub surveyed-length : (a : Written) → SurveyAnswer s most a → writer.told a ≡ wrote (length (file first page marks))
+  pub surveyed-length : (a : Written) → SurveyAnswer s most a → told-written a ≡ wrote (length (file first page marks))
   surveyed-length a h =
       survey-answers (page-records first (flags (length page) marks)) page s most a (omega (arith, few, short)) (inr short-lines) (w .surveys) h
       ∙ ap (λ (t : Text). if-room (place-behind t 0) most) (file-is-object first page marks (w .window))
@@ -99,20 +98,20 @@ only-full cs out t a out′ e w r h =
     go false z = cc
 
 -- what is surely written is not refused
-pub never-refused : (a : Written) (n : ℕ) → writer.told a ≡ wrote n → May-be-full a
+pub never-refused : (a : Written) (n : ℕ) → told-written a ≡ wrote n → May-be-full a
 never-refused a n e r h = cc
 
 -- ---- the contracts
 
 module _ (first : ℕ) (page marks : List ℕ) where
-  pub length-refused : (e : PageError) → page-text first page marks ≡ refused (refusal-of e) → PageFileLength first page marks (Refused e)
+  pub length-refused : (e : PageError) → page-text first page marks ≡ refused (page-refusal e) → PageFileLength first page marks (Refused e)
   length-refused e h = record { answer = rw h }
 
-  pub length-told : (a : Written) (r : Paged) → page-text first page marks ≡ chars (file first page marks) → writer.told a ≡ wrote (length (file first page marks)) → As-written a r
+  pub length-told : (a : Written) (r : Paged) → page-text first page marks ≡ chars (file first page marks) → told-written a ≡ wrote (length (file first page marks)) → As-written a r
       → PageFileLength first page marks r
   length-told a r t h k = record { answer = k ∙ h ∙ rw (t, zero-add (length (file first page marks))) }
 
-  pub page-refused : (out : List ℕ) (e : PageError) → page-text first page marks ≡ refused (refusal-of e) → WritePage first page marks out (Refused e) out
+  pub page-refused : (out : List ℕ) (e : PageError) → page-text first page marks ≡ refused (page-refusal e) → WritePage first page marks out (Refused e) out
   page-refused out e h = record { answer = rw h; left = rw h }
 
   pub page-told : (out : List ℕ) (a : Written) (r : Paged) (out′ : List ℕ) → Writes (page-text first page marks) out 0 a out′ → As-written a r → WritePage first page marks out r out′

@@ -26,7 +26,7 @@ use Rattle.steps.specs.Steps.{Verdict, accepted}
 use Rattle.window.specs.Window.{unfit}
 use Rattle.steps.specs.Sites.{Loaded}
 use Rattle.loader.specs.Load.{load}
-use Rattle.loader.specs.Told.{told}
+use Rattle.loader.specs.Told.{told-loading}
 use Rattle.page.specs.declared.Paged.the-variants.{Wrote}
 use Rattle.page.specs.Pieces.{Piece, pieces}
 use Rattle.page.specs.File.{page-records, file, page-text}
@@ -35,7 +35,7 @@ use Rattle.page.specs.Claims.{Page, Restores, Why, no-window, ill-marked
 use Rattle.page.proofs.Held.{Good, all-good}
 use Rattle.page.proofs.Files.{every-record, equal-files}
 use Rattle.page.proofs.Loading.{loads-back}
-use Rattle.page.proofs.Room.{ended-length, room}
+use Rattle.page.proofs.Room.{ended-length, room-enough}
 use Rattle.page.proofs.Claims.{text-cases, reasons, rest-untouched, told-apart, write-page-unique}
 
 -- what is written is a page that neither 16 nor 19 refuses
@@ -63,7 +63,7 @@ loaded-back first page marks out n out′ old-page old-marks b lp lm w =
 pub written-loads-back : Written-loads-back
 written-loads-back first page marks out n out′ old-page old-marks r page′ marks′ b lp lm w l =
     let k = loaded-back first page marks out n out′ old-page old-marks b lp lm w in
-    (l .answer ∙ k .0, restores-so page marks old-page page′ marks′ (load (take n out′) first old-page old-marks) (told r) (l .page) (l .marks) (k .1))
+    (l .answer ∙ k .0, restores-so page marks old-page page′ marks′ (load (take n out′) first old-page old-marks) (told-loading r) (l .page) (l .marks) (k .1))
 
 -- of two pages that are alike at marked places the same text is written, or the same refusal stands in its place
 same-page-text : (first : ℕ) (page₁ page₂ marks : List ℕ) → length page₁ ≡ length page₂
@@ -85,7 +85,7 @@ length-reasons first page marks r space l h =
     rw (l .answer)
     (text-cases first page marks (λ t. Why first page marks space (place-behind t 0))
     no-window (λ v f. ill-marked (first-bad marks) v f)
-    (λ p. rw (zero-add (length (file first page marks))) (all-written p (omega (arith, room first page marks (p .window))))))
+    (λ p. rw (zero-add (length (file first page marks))) (all-written p (omega (arith, room-enough first page marks (p .window))))))
 
 -- ---- the length
 

@@ -18,7 +18,7 @@ use Rattle.record.specs.Refusals.{Refusal, refusal, output-full, bad-window, ba
 use Rattle.record.specs.Written.{written}
 use Rattle.digits.proofs.Tests.{branch}
 use Rattle.writer.specs.declared.Written.the-variants.{Wrote as WriterWrote}
-use Rattle.writer.specs.Told.{Told, wrote, refuses}
+use Rattle.writer.specs.Told.{Told-written, wrote, refuses}
 use Rattle.writer.specs.Text.{Text, chars, refused, place-behind, if-room, put-at, Writes}
 use Rattle.writer.proofs.Answers as writer
 use Rattle.window.specs.Window.{unfit}
@@ -29,7 +29,7 @@ use Rattle.page.specs.declared.PageError.the-variants.{BadWindow, BadMar
 use Rattle.page.specs.declared.Paged.{Paged}
 use Rattle.page.specs.declared.Paged.the-variants.{Wrote, Refused}
 use Rattle.page.specs.File.{file, page-text}
-use Rattle.page.specs.Told.{refusal-of, told}
+use Rattle.page.specs.Told.{page-refusal, told-page}
 use Rattle.page.specs.Claims.{Page, Why, no-window, ill-marked, no-room, all-written, Reasons, One-reason, Length-as-written, Refusal-changes-nothing, Rest-untouched, Told-apart, Page-file-length-unique, Write-page-unique, Examples}
 
 -- ---- reasons
@@ -85,11 +85,11 @@ one-reason first page marks room _ _ (all-written g l) (all-written g′ l′) =
 pub refusal-changes-nothing : Refusal-changes-nothing
 refusal-changes-nothing first page marks out e out′ w = go (page-text first page marks) (w .answer) (w .left)
   where
-    no-room-left : (b : Bool) (n : ℕ) (put : List ℕ) → refuses (refusal-of e) ≡ (if b then wrote n else refuses output-full) → out′ ≡ (if b then put else out) → out′ ≡ out
+    no-room-left : (b : Bool) (n : ℕ) (put : List ℕ) → refuses (page-refusal e) ≡ (if b then wrote n else refuses output-full) → out′ ≡ (if b then put else out) → out′ ≡ out
     no-room-left true n put a l = let z : _≡_ {A = ℕ} 0 1 = cc in absurd (omega arith)
     no-room-left false n put a l = l
 
-    go : (t : Text) → refuses (refusal-of e) ≡ if-room (place-behind t 0) (length out) → out′ ≡ put-at t out 0 → out′ ≡ out
+    go : (t : Text) → refuses (page-refusal e) ≡ if-room (place-behind t 0) (length out) → out′ ≡ put-at t out 0 → out′ ≡ out
     go (chars cs) a l = no-room-left (leb (0 + length cs) (length out)) (0 + length cs) _ a l
     go (refused r) a l = l
 
@@ -109,17 +109,17 @@ rest-untouched first page marks out n out′ w =
 error : Refusal → PageError
 error (refusal n vs) = if eqb n 16 then BadWindow else if eqb n 19 then BadMark (getD vs 0 0) else OutputFull
 
-error-again : (e : PageError) → error (refusal-of e) ≡ e
+error-again : (e : PageError) → error (page-refusal e) ≡ e
 unfolding error
 error-again BadWindow = refl
 error-again (BadMark place) = refl
 error-again OutputFull = refl
 
-untold : Told → Paged
+untold : Told-written → Paged
 untold (wrote n) = Wrote n
 untold (refuses r) = Refused (error r)
 
-untold-told : (r : Paged) → untold (told r) ≡ r
+untold-told : (r : Paged) → untold (told-page r) ≡ r
 unfolding untold
 untold-told (Wrote n) = refl
 untold-told (Refused e) = ap Refused (error-again e)
@@ -130,12 +130,12 @@ told-apart a b e = sym (untold-told a) ∙ ap untold e ∙ untold-told b
 pub length-as-written : Length-as-written
 length-as-written first page marks out r r′ out′ l w = go (page-text first page marks) (l .answer) (w .answer)
   where
-    by-room : (n : ℕ) (b : Bool) → leb n (length out) ≡ b → told r ≡ wrote n → told r′ ≡ (if b then wrote n else refuses output-full)
+    by-room : (n : ℕ) (b : Bool) → leb n (length out) ≡ b → told-page r ≡ wrote n → told-page r′ ≡ (if b then wrote n else refuses output-full)
         → (r ≡ r′) ⊎ ((r′ ≡ Refused OutputFull) × ((n : ℕ) × (r ≡ Wrote n) × (length out < n)))
     by-room n true e x y = inl (told-apart r r′ (x ∙ sym y))
     by-room n false e x y = inr (told-apart r′ (Refused OutputFull) y, (n, told-apart r (Wrote n) x, leb-false n (length out) e))
 
-    go : (t : Text) → told r ≡ place-behind t 0 → told r′ ≡ if-room (place-behind t 0) (length out)
+    go : (t : Text) → told-page r ≡ place-behind t 0 → told-page r′ ≡ if-room (place-behind t 0) (length out)
         → (r ≡ r′) ⊎ ((r′ ≡ Refused OutputFull) × ((n : ℕ) × (r ≡ Wrote n) × (length out < n)))
     go (chars cs) x y = by-room (0 + length cs) (leb (0 + length cs) (length out)) refl x y
     go (refused e) x y = inl (told-apart r r′ (x ∙ sym y))

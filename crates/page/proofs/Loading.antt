@@ -43,7 +43,7 @@ use Rattle.page.specs.File.{upper, data-of, is-latest, records, page-rec
 use Rattle.page.specs.Shape.{places, held, marked-places}
 use Rattle.page.specs.Spoken.{said-of, spoken}
 use Rattle.page.specs.Claims.{Restores, Loads-back, Files-tell}
-use Rattle.page.proofs.Spoken.{same-row}
+use Rattle.page.proofs.Spoken.{spoken-row}
 use Rattle.page.proofs.Shape.{made-so}
 use Rattle.page.proofs.Records.{is-so}
 use Rattle.page.proofs.Held.{Good, all-good}
@@ -231,7 +231,7 @@ loads-back first page marks old-page old-marks P b lp lm =
     let w = P .window in
     let shown : List ℕ = flags (length page) marks in
     let ps : List Piece = pieces first 0 none shown in
-    let said = same-row (page-records first shown) page (file first page marks) (in-range first page marks w) b (file-is-object first page marks w) in
+    let said = spoken-row (page-records first shown) page (file first page marks) (in-range first page marks w) b (file-is-object first page marks w) in
     let c = comes first page (w .below) shown (sym (flags-length (length page) marks)) 1 0 from-start none ps (all-good first shown) (all-sayable first page marks w b) (λ u e. cc) in
     let cut = cut-text (λ base. base) (file first page marks) in
     let old : Window first old-page old-marks = record { even = lp ∙ w .even ∙ sym lm; small = omega (arith, w .small); below = omega (arith, w .below) } in

@@ -18,7 +18,7 @@ use Rattle.writer.specs.Object.{joined-lines}
 use Rattle.writer.proofs.Measuring.{line-length}
 use Rattle.page.specs.Pieces.{Piece}
 use Rattle.page.specs.File.{upper, data-of, records, file}
-use Rattle.page.specs.Claims.{Room}
+use Rattle.page.specs.Claims.{Room-enough}
 use Rattle.page.proofs.Pieces.{Made, nothing-left, last, skipped, started, ended, cut, grown, made}
 use Rattle.page.proofs.Shape.{Stands, fresh-stands, grown-stands}
 use Rattle.page.proofs.Records.{by-latest}
@@ -114,6 +114,6 @@ module _ (first : ℕ) (page : List ℕ) where
       elim c [ inl f ↦ omega arith | inr f ↦ omega (arith, s .0 .least) ]
   most latest b (grown {place} {m} {p} e n k d) s t = omega (arith, most latest b d (grown-stands first place p n k s) t)
 
-pub room : Room
+pub room-enough : Room-enough
 unfolding file
-room first page marks w = omega (arith, most first page none (multiples first) (made first 0 none (flags (length page) marks)) tt (omega arith), flags-length (length page) marks)
+room-enough first page marks w = omega (arith, most first page none (multiples first) (made first 0 none (flags (length page) marks)) tt (omega arith), flags-length (length page) marks)

@@ -27,7 +27,7 @@ use Rattle.writer.specs.Object as object
 use Rattle.writer.specs.Claims.{In-range}
 use Rattle.writer.proofs.Objects.{one-at-least, object-whole}
 use Rattle.writer.proofs.Claims.{sayable, line-plain}
-use Rattle.page.specs.Spoken.{said-of, spoken, Same-row}
+use Rattle.page.specs.Spoken.{said-of, spoken, Spoken-row}
 
 -- ---- a plain line with its LF is one line
 
@@ -121,9 +121,9 @@ said-in rs pool cs h e =
     ∙ ap (sayings 1) (lines-of rs pool)
     ∙ sayings-of 1 rs pool h
 
-pub same-row : Same-row
+pub spoken-row : Spoken-row
 unfolding row
-same-row rs pool cs i b e =
+spoken-row rs pool cs i b e =
     let w = object-whole rs pool cs e in
     let h = every-sayable rs pool i b (w .fine) in
     ap (through-stop default-options) (said-in rs pool cs h (w .lined)) ∙ all-read 1 rs pool h (w .ended) (w .one)

@@ -14,7 +14,7 @@ use borrow.Author.Tests.{eq-eqb, ne-eqb, lt-ltb}
 use Rattle.digits.specs.Common.{if_then_else_}
 use Rattle.record.specs.declared.Record.the-variants.{Data, EndOfFile, ExtendedLinearAddress}
 use Rattle.digits.proofs.Tests.{if-true, if-false, split, both-ways, or-true}
-use Rattle.page.specs.declared.Walk.{Walk}
+use Rattle.page.specs.declared.FileWalk.{FileWalk}
 use Rattle.page.specs.Pieces.{Piece, ends-before, one-longer, starting, pieces}
 use Rattle.page.specs.File.{upper, data-of, extension, records}
 use Rattle.page.specs.Helpers.{PieceEnd, latest-upper, to-come, Under-way, Stepped}
@@ -185,7 +185,7 @@ new-upper first latest u p ps h n =
     (λ _. by-latest (λ l. ExtendedLinearAddress u ∷ data-of first p ∷ records first (some u) ps ≡ ExtendedLinearAddress u ∷ l ++ (data-of first p ∷ records first (some u) ps)) (some u) u
     (λ e. refl) (λ k. absurd (k refl))))
 
-module _ (first : ℕ) (marks : List ℕ) (w : Walk) (start : ℕ) (under : Under-way first marks w) (next : Next-flag marks (w .place) start) where
+module _ (first : ℕ) (marks : List ℕ) (w : FileWalk) (start : ℕ) (under : Under-way first marks w) (next : Next-flag marks (w .place) start) where
   -- what is to come, from the next marked place on
   from-there : to-come first marks w ≡ records first (latest-upper (w .latest)) (pieces first start none (drop start marks))
   unfolding to-come

@@ -14,7 +14,7 @@ use Rattle.record.specs.Written.{rewritten}
 use Rattle.reader.specs.Lines.{LF, lines}
 use Rattle.marks.specs.Marks.{mark-at, Marked, flags}
 use Rattle.marks.specs.Claims.{All-good, First-bad}
-use Rattle.writer.specs.Told.{Told, wrote, refuses}
+use Rattle.writer.specs.Told.{Told-written, wrote, refuses}
 use Rattle.writer.specs.Text.{chars, refused}
 use Rattle.writer.specs.Line.{line}
 use Rattle.writer.specs.Object.{object}
@@ -22,7 +22,7 @@ use Rattle.loader.specs.declared.Loading.{Loading}
 use Rattle.steps.specs.Steps.{accepted}
 use Rattle.steps.specs.Sites.{Loaded}
 use Rattle.loader.specs.Load.{load}
-use Rattle.loader.specs.Told.{Load, told as told-loading}
+use Rattle.loader.specs.Told.{Load, told-loading}
 use Rattle.window.specs.Claims.{Window}
 use Rattle.page.specs.declared.PageError.{PageError}
 use Rattle.page.specs.declared.PageError.the-variants.{OutputFull}
@@ -30,7 +30,7 @@ use Rattle.page.specs.declared.Paged.{Paged}
 use Rattle.page.specs.declared.Paged.the-variants.{Wrote, Refused}
 use Rattle.page.specs.Pieces.{pieces}
 use Rattle.page.specs.File.{page-records, file, page-text}
-use Rattle.page.specs.Told.{told, PageFileLength, WritePage}
+use Rattle.page.specs.Told.{told-page, PageFileLength, WritePage}
 
 -- ---- a page that is written
 
@@ -104,7 +104,7 @@ Files-tell =
 -- ---- why a page is answered as it is
 
 -- a reason for an answer, for an output of this much room
-pub data Why (first : ℕ) (page marks : List ℕ) (room : ℕ) : Told → Type 0 where
+pub data Why (first : ℕ) (page marks : List ℕ) (room : ℕ) : Told-written → Type 0 where
   no-window : ¬ Window first page marks → Why first page marks room (refuses bad-window)
   ill-marked : (place : ℕ) → Window first page marks → First-bad marks place → Why first page marks room (refuses (bad-mark place))
   no-room : Page first page marks → room < length (file first page marks) → Why first page marks room (refuses output-full)
@@ -112,20 +112,20 @@ pub data Why (first : ℕ) (page marks : List ℕ) (room : ℕ) : Told → Type 
 
 -- each answer has one
 abbrev pub Reasons : Type 0
-Reasons = (first : ℕ) (page marks out : List ℕ) (r : Paged) (out′ : List ℕ) → WritePage first page marks out r out′ → Why first page marks (length out) (told r)
+Reasons = (first : ℕ) (page marks out : List ℕ) (r : Paged) (out′ : List ℕ) → WritePage first page marks out r out′ → Why first page marks (length out) (told-page r)
 
 -- and no second answer has one
 abbrev pub One-reason : Type 0
-One-reason = (first : ℕ) (page marks : List ℕ) (room : ℕ) (t t′ : Told) → Why first page marks room t → Why first page marks room t′ → t ≡ t′
+One-reason = (first : ℕ) (page marks : List ℕ) (room : ℕ) (t t′ : Told-written) → Why first page marks room t → Why first page marks room t′ → t ≡ t′
 
 -- seven bytes for each place of the page and 58 more have room for every file
-abbrev pub Room : Type 0
-Room = (first : ℕ) (page marks : List ℕ) → Window first page marks → length (file first page marks) ≤ 7 * length page + 58
+abbrev pub Room-enough : Type 0
+Room-enough = (first : ℕ) (page marks : List ℕ) → Window first page marks → length (file first page marks) ≤ 7 * length page + 58
 
 -- so each answer of `page_file_length` has the reason that it has in every output with that room, and is never 15
 abbrev pub Length-reasons : Type 0
 Length-reasons =
-    (first : ℕ) (page marks : List ℕ) (r : Paged) (space : ℕ) → PageFileLength first page marks r → 7 * length page + 58 ≤ space → Why first page marks space (told r)
+    (first : ℕ) (page marks : List ℕ) (r : Paged) (space : ℕ) → PageFileLength first page marks r → 7 * length page + 58 ≤ space → Why first page marks space (told-page r)
 
 -- `page_file_length` answers as `write_page` does, but that the latter may lack the room
 abbrev pub Length-as-written : Type 0
@@ -153,7 +153,7 @@ Rest-untouched =
 -- ---- no second answer meets a contract
 
 abbrev pub Told-apart : Type 0
-Told-apart = (a b : Paged) → told a ≡ told b → a ≡ b
+Told-apart = (a b : Paged) → told-page a ≡ told-page b → a ≡ b
 
 abbrev pub Page-file-length-unique : Type 0
 Page-file-length-unique = (first : ℕ) (page marks : List ℕ) (r r′ : Paged) → PageFileLength first page marks r → PageFileLength first page marks r′ → r ≡ r′

@@ -14,19 +14,18 @@ use Rattle.record.specs.declared.Record.{Record}
 use Rattle.marks.specs.Marks.{flags}
 use Rattle.writer.specs.declared.Written.{Written}
 use Rattle.writer.specs.declared.Survey.{Survey}
-use Rattle.writer.specs.Told.{refuses}
-use Rattle.writer.specs.Told as writer
+use Rattle.writer.specs.Told.{refuses, told-written}
 use Rattle.writer.specs.Text.{refused, chars}
 use Rattle.writer.specs.Claims.{Surveys}
 use Rattle.window.specs.Claims.{Window}
-use Rattle.page.specs.declared.Walk.{Walk}
-use Rattle.page.specs.declared.Step.{Step}
-use Rattle.page.specs.declared.Surveyed.{Surveyed}
-use Rattle.page.specs.declared.Surveyed.the-variants.{Of, Refused}
+use Rattle.page.specs.declared.FileWalk.{FileWalk}
+use Rattle.page.specs.declared.FileStep.{FileStep}
+use Rattle.page.specs.declared.PageSurvey.{PageSurvey}
+use Rattle.page.specs.declared.PageSurvey.the-variants.{Of, Refused}
 use Rattle.page.specs.declared.Paged.{Paged}
 use Rattle.page.specs.Pieces.{pieces}
 use Rattle.page.specs.File.{records, page-records, file, page-text}
-use Rattle.page.specs.Told.{refusal-of, told}
+use Rattle.page.specs.Told.{page-refusal, told-page}
 
 -- ---- places
 
@@ -50,40 +49,40 @@ unfoldable pub latest-upper : ℕ → Option ℕ
 latest-upper latest = if ltb latest 65536 then some latest else none
 
 -- the records to come
-unfoldable pub to-come : (first : ℕ) (flags : List ℕ) → Walk → List Record
+unfoldable pub to-come : (first : ℕ) (flags : List ℕ) → FileWalk → List Record
 unfolding latest-upper
 to-come first flags w =
     if w .finished then [] else
     records first (latest-upper (w .latest)) (pieces first (w .place) none (drop (w .place) flags))
 
 -- a walk that has records to come, in a window that is not refused
-pub record Under-way (first : ℕ) (flags : List ℕ) (w : Walk) : Type 0 where
+pub record Under-way (first : ℕ) (flags : List ℕ) (w : FileWalk) : Type 0 where
   pub on : w .finished ≡ false
   pub inside : w .place ≤ length flags
   pub below : first + length flags ≤ 2 ^ 32
 
 -- one record further
-pub record Stepped (first : ℕ) (flags : List ℕ) (w : Walk) (r : Step) : Type 0 where
+pub record Stepped (first : ℕ) (flags : List ℕ) (w : FileWalk) (r : FileStep) : Type 0 where
   pub next : to-come first flags w ≡ r .given ∷ to-come first flags (r .walk)
   pub inside : r .walk .place ≤ length flags
 
 -- ---- the answer
 
 -- a survey of the records of a page that has a file
-pub record Surveyed-whole (first : ℕ) (page marks : List ℕ) (s : Survey) : Type 0 where
+pub record PageSurvey-whole (first : ℕ) (page marks : List ℕ) (s : Survey) : Type 0 where
   pub window : Window first page marks
   pub text-is : page-text first page marks ≡ chars (file first page marks)
   pub surveys : Surveys page (page-records first (flags (length page) marks)) s
 
 -- or the refusal that stands in the file's place
-abbrev pub Surveyed-as : (first : ℕ) (page marks : List ℕ) → Surveyed → Type 0
-Surveyed-as first page marks (Of s) = Surveyed-whole first page marks s
-Surveyed-as first page marks (Refused e) = page-text first page marks ≡ refused (refusal-of e)
+abbrev pub PageSurvey-as : (first : ℕ) (page marks : List ℕ) → PageSurvey → Type 0
+PageSurvey-as first page marks (Of s) = PageSurvey-whole first page marks s
+PageSurvey-as first page marks (Refused e) = page-text first page marks ≡ refused (page-refusal e)
 
 -- an answer of the writer that can refuse only with 15
 abbrev pub May-be-full : Written → Type 0
-May-be-full w = (r : Refusal) → writer.told w ≡ refuses r → r ≡ output-full
+May-be-full w = (r : Refusal) → told-written w ≡ refuses r → r ≡ output-full
 
 -- the same answer
 abbrev pub As-written : Written → Paged → Type 0
-As-written w r = told r ≡ writer.told w
+As-written w r = told-page r ≡ told-written w

@@ -25,7 +25,7 @@ spoken n [] pool = []
 spoken n (r ∷ rs) pool = on n (said-of (meant r pool)) ∷ spoken (suc n) rs pool
 
 -- the reader's row over an object's text is its records, each on a line of its own
-abbrev pub Same-row : Type 0
-Same-row =
+abbrev pub Spoken-row : Type 0
+Spoken-row =
     (rs : List Record) (pool cs : List ℕ) → Every In-range rs → Every Byte pool → object rs pool ≡ chars cs
     → row default-options cs ≡ spoken 1 rs pool

@@ -10,7 +10,7 @@ ghost use Rattle.marks.specs.Marks.{flags};
 ghost use Rattle.writer.specs.Claims.{Surveys, Steps};
 ghost use Rattle.page.specs.File.{page-records};
 ghost use Rattle.page.specs.Told.{PageFileLength, WritePage};
-ghost use Rattle.page.specs.Helpers.{reach, PieceEnd, Under-way, Stepped, Surveyed-as, May-be-full, As-written};
+ghost use Rattle.page.specs.Helpers.{reach, PieceEnd, Under-way, Stepped, PageSurvey-as, May-be-full, As-written};
 
 // The largest number of a `usize`.
 const MOST: usize = 18446744073709551615;
@@ -35,20 +35,20 @@ pub enum Paged {
 
 // Where a walk over the records of a file stands: at a place, with the upper 16 bits of the latest type 04 record, or NONE before the first,
 // and whether the end record was given.
-struct Walk {
+struct FileWalk {
     place: usize,
     latest: u32,
     finished: bool,
 }
 
 // A record of the file, and where the walk stands behind it.
-struct Step {
+struct FileStep {
     given: Record,
-    walk: Walk,
+    walk: FileWalk,
 }
 
 // The survey of a page's records, or why there is none.
-enum Surveyed {
+enum PageSurvey {
     Of(Survey),
     Refused(PageError),
 }
@@ -82,15 +82,15 @@ fn piece_end(first: u32, places: usize, marks: &[u8], start: usize) -> usize
 }
 
 // The next record of the file.
-fn next_record(w: Walk, first: u32, places: usize, marks: &[u8]) -> Step
+fn next_record(w: FileWalk, first: u32, places: usize, marks: &[u8]) -> FileStep
     requires { ⌜ Under-way first (flags places (now marks)) w ⌝ }
     ensures { λ r. ⌜ Stepped first (flags places (now (marks .entry))) w r ⌝ }
 {
     let start = marks::next_marked(marks, places, w.place);
     if start == places {
-        return Step {
+        return FileStep {
             given: Record::EndOfFile,
-            walk: Walk {
+            walk: FileWalk {
                 place: start,
                 latest: w.latest,
                 finished: true,
@@ -100,9 +100,9 @@ fn next_record(w: Walk, first: u32, places: usize, marks: &[u8]) -> Step
     let address = first + (start as u32);
     let upper = address / 65536;
     if upper != w.latest {
-        return Step {
+        return FileStep {
             given: Record::ExtendedLinearAddress(upper as u16),
-            walk: Walk {
+            walk: FileWalk {
                 place: start,
                 latest: upper,
                 finished: false,
@@ -110,13 +110,13 @@ fn next_record(w: Walk, first: u32, places: usize, marks: &[u8]) -> Step
         };
     }
     let end = piece_end(first, places, marks, start);
-    Step {
+    FileStep {
         given: Record::Data {
             offset: (address % 65536) as u16,
             at: start,
             len: end - start,
         },
-        walk: Walk {
+        walk: FileWalk {
             place: end,
             latest: upper,
             finished: false,
@@ -125,10 +125,10 @@ fn next_record(w: Walk, first: u32, places: usize, marks: &[u8]) -> Step
 }
 
 // Ahead of the first record.
-fn begin() -> Walk
+fn begin() -> FileWalk
     ensures { λ r. ⌜ r ≡ record { place = 0; latest = 65536; finished = false } ⌝ }
 {
-    Walk {
+    FileWalk {
         place: 0,
         latest: NONE,
         finished: false,
@@ -172,17 +172,17 @@ fn write_records(first: u32, page: &[u8], marks: &[u8], out: &mut [u8], start: W
 }
 
 // The survey of a page that has a file, or why it has none.
-fn survey_page(first: u32, page: &[u8], marks: &[u8]) -> Surveyed
-    ensures { λ r. ⌜ Surveyed-as first (now (page .entry)) (now (marks .entry)) r ⌝ }
+fn survey_page(first: u32, page: &[u8], marks: &[u8]) -> PageSurvey
+    ensures { λ r. ⌜ PageSurvey-as first (now (page .entry)) (now (marks .entry)) r ⌝ }
 {
     if window::is_unfit(first, page.len(), marks.len()) {
-        return Surveyed::Refused(PageError::BadWindow);
+        return PageSurvey::Refused(PageError::BadWindow);
     }
     let bad = marks::first_bad(marks);
     if bad < marks.len() {
-        return Surveyed::Refused(PageError::BadMark(bad));
+        return PageSurvey::Refused(PageError::BadMark(bad));
     }
-    Surveyed::Of(survey(first, page, marks))
+    PageSurvey::Of(survey(first, page, marks))
 }
 
 // The writer's answer, which refuses only with 15.
@@ -201,8 +201,8 @@ pub fn page_file_length(first: u32, page: &[u8], marks: &[u8]) -> Paged
     ensures { λ r. ⌜ PageFileLength first (now (page .entry)) (now (marks .entry)) r ⌝ }
 {
     match survey_page(first, page, marks) {
-        Surveyed::Refused(e) => Paged::Refused(e),
-        Surveyed::Of(s) => as_paged(s.answer(MOST)),
+        PageSurvey::Refused(e) => Paged::Refused(e),
+        PageSurvey::Of(s) => as_paged(s.answer(MOST)),
     }
 }
 
@@ -211,8 +211,8 @@ pub fn write_page(first: u32, page: &[u8], marks: &[u8], out: &mut [u8]) -> Page
     ensures { λ r. ⌜ WritePage first (now (page .entry)) (now (marks .entry)) (now (out .entry)) r (now (out .exit)) ⌝ }
 {
     match survey_page(first, page, marks) {
-        Surveyed::Refused(e) => Paged::Refused(e),
-        Surveyed::Of(s) => {
+        PageSurvey::Refused(e) => Paged::Refused(e),
+        PageSurvey::Of(s) => {
             let start = s.begin(out.len());
             as_paged(write_records(first, page, marks, out, start))
         }

@@ -7,7 +7,7 @@ use lib.Dec.{eqb}
 use lib.ListN.{getD}
 use Rattle.digits.specs.Common.{if_then_else_}
 use Rattle.record.specs.Refusals.{Refusal, refusal}
-use Rattle.digits.specs.Digits.{number}
+use Rattle.digits.specs.Digits.{number-after}
 use Rattle.record.specs.Line.{judge}
 use Rattle.record.specs.Written.{written}
 use Rattle.record.specs.Meaning.{meaning}
@@ -22,7 +22,7 @@ use Rattle.reader.specs.Answer.{answered}
 use Rattle.reader.specs.Claims.{Examples, Told-apart, Read-record-unique}
 
 pub examples : Examples
-unfolding answered judge written meaning number
+unfolding answered judge written meaning number-after
 examples =
     record {
       answers =

@@ -5,7 +5,7 @@ use mathlib.Core.Path.{_≡_, refl, sym, _∙_, ap, ap₂, subst}
 use mathlib.Core.List.{List, _∷_}
 use denote.Ref.{RefT}
 use Rattle.reader.specs.declared.State.{State}
-use Rattle.reader.specs.declared.Step.{Step}
+use Rattle.reader.specs.declared.Replied.{Replied}
 use Rattle.reader.specs.declared.Reader.{Reader}
 use Rattle.reader.specs.Text.{new-state}
 use Rattle.reader.specs.Calls.{Call, Given, Calls, no-more, one-more}
@@ -58,4 +58,4 @@ pub reader-next-unique : Reader-next-unique
 reader-next-unique h pool at r₁ r₂ h₁ h₂ p₁ p₂ x y =
     let u = next-unique (h .state) (h .text .now) pool at (step r₁ (h₁ .state)) (step r₂ (h₂ .state)) p₁ p₂
     (record { answer = x .answer; state = x .stands; left = x .left }) (record { answer = y .answer; state = y .stands; left = y .left }) in
-    (ap (λ (s : Step). s .reply) (u .0), ap₂ reader (x .holds ∙ sym (y .holds)) (x .stands ∙ sym (y .stands)), u .1)
+    (ap (λ (s : Replied). s .reply) (u .0), ap₂ reader (x .holds ∙ sym (y .holds)) (x .stands ∙ sym (y .stands)), u .1)

@@ -16,7 +16,7 @@ use Rattle.record.proofs.Claims.{names-the-offender}
 use Rattle.reader.specs.declared.Answer.the-variants.{Refused}
 use Rattle.reader.specs.declared.ReaderError.the-variants.{ContainsInvalidCharacters}
 use Rattle.reader.specs.Told.{gives, refuses}
-use Rattle.reader.specs.Answer.{ReadRecord, room, given, answered, poured}
+use Rattle.reader.specs.Answer.{ReadRecord, fits-pool, given, answered, poured}
 use Rattle.reader.specs.Lines.{lines}
 use Rattle.reader.specs.Row.{on, sayings}
 use Rattle.reader.specs.Claims.{Answers-the-offender, Offends, Says-the-offender}
@@ -29,7 +29,7 @@ said-so (wrong w) r n at two e = ap wrong (sym cc)
 said-so (says kind address payload) r n at two e = absurd (meant (meaning kind address payload) e)
   where
     meant : (m : Meaning) → refuses r ≡ given m n at → ⊥
-    meant (data-at offset bytes) e = by-room (room n at bytes) e
+    meant (data-at offset bytes) e = by-room (fits-pool n at bytes) e
       where
         by-room : (b : Bool) → refuses r ≡ (if b then gives 0 (offset ∷ at ∷ length bytes ∷ []) else refuses pool-full) → ⊥
         by-room true e = let z : _≡_ {A = ℕ} 0 1 = cc in omega arith

@@ -9,7 +9,7 @@ use native.Mathlib.Numerals.{add-one}
 use lib.ListN.{length, getD, take, drop, set, length-drop}
 use lib.Seq.{paste, paste-suc, getD-drop}
 use Rattle.record.specs.declared.Record.the-variants.{EndOfFile, ExtendedSegmentAddress, StartSegmentAddress, ExtendedLinearAddress, StartLinearAddress}
-use Rattle.digits.specs.Digits.{number}
+use Rattle.digits.specs.Digits.{number-after}
 use Rattle.record.specs.Line.{size}
 use Rattle.record.specs.Meaning.{meaning}
 use Rattle.reader.specs.Told.{gives}
@@ -41,19 +41,19 @@ module _ (kind : ℕ) (buf : List ℕ) (size-known : 260 ≤ length buf) where
 
   module _ (first : ℕ) (f : first ≡ getD buf 4 0 * 256 + getD buf 5 0) where
     pub special-segment : kind ≡ 2 → Special kind (take (size kind) (drop 4 buf)) (ExtendedSegmentAddress first)
-    unfolding given meaning size number
+    unfolding given meaning size number-after
     special-segment e = record { tells = λ address n at. rw (e, two) (ap (λ (x : ℕ). gives 2 (x ∷ [])) (omega arith)) }
 
     pub special-linear : kind ≡ 4 → Special kind (take (size kind) (drop 4 buf)) (ExtendedLinearAddress first)
-    unfolding given meaning size number
+    unfolding given meaning size number-after
     special-linear e = record { tells = λ address n at. rw (e, two) (ap (λ (x : ℕ). gives 4 (x ∷ [])) (omega arith)) }
 
     module _ (second : ℕ) (s : second ≡ getD buf 6 0 * 256 + getD buf 7 0) where
       pub special-start : kind ≡ 3 → Special kind (take (size kind) (drop 4 buf)) (StartSegmentAddress first second)
-      unfolding given meaning size number
+      unfolding given meaning size number-after
       special-start e =
           record { tells = λ address n at. rw (e, four) (ap₂ (λ (x y : ℕ). gives 3 (x ∷ y ∷ [])) (omega arith) (omega arith)) }
 
       pub special-long : (long : ℕ) → long ≡ first * 65536 + second → kind ≡ 5 → Special kind (take (size kind) (drop 4 buf)) (StartLinearAddress long)
-      unfolding given meaning size number
+      unfolding given meaning size number-after
       special-long long l e = record { tells = λ address n at. rw (e, four) (ap (λ (x : ℕ). gives 5 (x ∷ [])) (omega arith)) }

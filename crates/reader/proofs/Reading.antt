@@ -20,9 +20,9 @@ use Rattle.reader.specs.declared.ReaderError.{ReaderError}
 use Rattle.reader.specs.declared.ReaderError.the-variants.{MissingStartCode, RecordTooShort, RecordTooLong, RecordNotEvenLength, ContainsInvalidCharacters, ChecksumMismatch, PayloadLengthMismatch, UnsupportedRecordType, InvalidLengthForType, PoolFull}
 use Rattle.reader.specs.declared.Reply.the-variants as reply
 use Rattle.reader.specs.declared.State.{State}
-use Rattle.reader.specs.declared.Step.{Step}
+use Rattle.reader.specs.declared.Replied.{Replied}
 use Rattle.reader.specs.Told.{Told, gives, refuses, done, told, refusal-of, is-pool-full}
-use Rattle.reader.specs.Answer.{room, given, kept, answered, poured, ReadRecord}
+use Rattle.reader.specs.Answer.{fits-pool, given, kept, answered, poured, ReadRecord}
 use Rattle.reader.specs.Lines.{Found, a-line, no-line, next-line}
 use Rattle.reader.specs.Text.{told-reply, is-full, ends-row, behind, at-end, next-number, Outcome, of-found, outcome, Meets, Next}
 use Rattle.reader.specs.Helpers.{Settled, Ahead}
@@ -67,7 +67,7 @@ full-keeps (wrong r) pool at e = refl
 full-keeps (says kind address payload) pool at e = go (meaning kind address payload) e
   where
     go : (m : Meaning) → is-full (given m (length pool) at) ≡ true → kept m pool at ≡ pool
-    go (data-at offset bytes) e = room-or-not (room (length pool) at bytes) e
+    go (data-at offset bytes) e = room-or-not (fits-pool (length pool) at bytes) e
       where
         room-or-not : (b : Bool) → is-full (if b then gives 0 (offset ∷ at ∷ length bytes ∷ []) else refuses pool-full) ≡ true → (if b then pasted pool at bytes else pool) ≡ pool
         room-or-not true e = let z : _≡_ {A = ℕ} 0 1 = cc in absurd (omega arith)
@@ -99,7 +99,7 @@ module _ (s : State) (text pool : List ℕ) (at : ℕ) where
   -- a line was read and settled
   pub next-read : (from len next empties : ℕ) → s .finished ≡ false → Ahead text (s .position) from len next empties
       → (answer : Answer) (pool′ : List ℕ) → ReadRecord (take len (drop from text)) pool at answer pool′
-      → (line : ℕ) → line ≡ next-number s empties → (r : Step) → Settled s (told answer) next line r → Next s text pool at r pool′
+      → (line : ℕ) → line ≡ next-number s empties → (r : Replied) → Settled s (told answer) next line r → Next s text pool at r pool′
   unfolding of-found
   next-read from len next empties e a answer pool′ given-line line ln r settled =
       let said = judge (take len (drop from text)) in

@@ -16,7 +16,7 @@ use Rattle.record.proofs.Standing.{Stands, stands, fault-few}
 use Rattle.record.proofs.Writing.{said-is-sayable}
 use Rattle.reader.specs.declared.ReaderOptions.{ReaderOptions}
 use Rattle.reader.specs.Told.{gives, refuses}
-use Rattle.reader.specs.Answer.{room, given, answered}
+use Rattle.reader.specs.Answer.{fits-pool, given, answered}
 use Rattle.reader.specs.Row.{is-end, stops}
 use Rattle.reader.specs.Text.{is-full, ends-row}
 
@@ -40,7 +40,7 @@ never-full line n at r = go (judge line) refl
 -- an answer that uses its line up ends the row exactly if what is said stops the reader
 ends-given : (options : ReaderOptions) (m : Meaning) (n at : ℕ) → is-full (given m n at) ≡ false → ends-row options (given m n at) ≡ is-end m && options .«stop_after_eof»
 unfolding is-full given ends-row is-end
-ends-given options (data-at offset bytes) n at e = go (room n at bytes) e
+ends-given options (data-at offset bytes) n at e = go (fits-pool n at bytes) e
   where
     go : (b : Bool) → is-full (if b then gives 0 (offset ∷ at ∷ length bytes ∷ []) else refuses pool-full) ≡ false
         → ends-row options (if b then gives 0 (offset ∷ at ∷ length bytes ∷ []) else refuses pool-full) ≡ false

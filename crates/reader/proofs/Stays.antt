@@ -18,7 +18,7 @@ use Rattle.reader.specs.declared.Values.{Values}
 use Rattle.reader.specs.declared.Figures.{Figures}
 use Rattle.reader.specs.declared.ReaderOptions.{ReaderOptions}
 use Rattle.reader.specs.declared.State.{State}
-use Rattle.reader.specs.declared.Step.{Step}
+use Rattle.reader.specs.declared.Replied.{Replied}
 use Rattle.reader.specs.declared.Reply.{Reply}
 use Rattle.reader.specs.declared.Reply.the-variants as reply
 use Rattle.reader.specs.declared.Answer.{Answer}
@@ -26,7 +26,7 @@ use Rattle.reader.specs.declared.Answer.the-variants.{Read, Refused}
 use Rattle.reader.specs.Told.{Told, gives, refuses, done, told}
 use Rattle.reader.specs.Answer.{given, answered, poured}
 use Rattle.reader.specs.Lines.{lines, later, Found, a-line, no-line, next-line}
-use Rattle.reader.specs.Row.{Numbered, on, number, sayings, stops, through-stop, stopped, row}
+use Rattle.reader.specs.Row.{Numbered, on, line-number, sayings, stops, through-stop, stopped, row}
 use Rattle.reader.specs.Text.{told-reply, is-full, ends-row, behind, at-end, next-number, Outcome, of-found, outcome}
 use Rattle.reader.specs.Calls.{no-more, one-more}
 use Rattle.reader.specs.Claims.{Done-stays, Done-behind, Full-keeps, Room-is-enough, Pool-blind, Same-through, Nothing-behind, Next-unique, Default-unique, Ends-unique, New-unique, Number-unique, Figures-unique, Is-pool-full-unique}
@@ -154,13 +154,13 @@ sayings-append n ((c ∷ line) ∷ xs) ys =
     (sayings-append (suc n) xs ys ∙ ap (λ (k : ℕ). sayings (suc n) xs ++ sayings k ys) (suc-add n (length xs) ∙ sym (add-suc n (length xs))))
 
 -- the numbers of lines that are numbered from n on
-numbers-between : (n m : ℕ) (ls : List (List ℕ)) → n + length ls ≤ m → Every (λ (x : Numbered). number x < m) (sayings n ls)
+numbers-between : (n m : ℕ) (ls : List (List ℕ)) → n + length ls ≤ m → Every (λ (x : Numbered). line-number x < m) (sayings n ls)
 unfolding sayings
 numbers-between n m [] h = tt
 numbers-between n m ([] ∷ ls) h = numbers-between (suc n) m ls (omega arith)
 numbers-between n m ((c ∷ line) ∷ ls) h = (omega arith, numbers-between (suc n) m ls (omega arith))
 
-numbers-from : (k n : ℕ) (ls : List (List ℕ)) → k < n → Every (λ (x : Numbered). k < number x) (sayings n ls)
+numbers-from : (k n : ℕ) (ls : List (List ℕ)) → k < n → Every (λ (x : Numbered). k < line-number x) (sayings n ls)
 unfolding sayings
 numbers-from k n [] h = tt
 numbers-from k n ([] ∷ ls) h = numbers-from k (suc n) ls (omega arith)
@@ -221,7 +221,7 @@ as-reply (Read r) = reply.Read r
 as-reply (Refused e) = reply.Refused e
 
 -- what a call answers and leaves, put together
-abbrev pub step : Reply → State → Step
+abbrev pub step : Reply → State → Replied
 step r s = record { reply = r; state = s }
 
 -- the reply of what is told

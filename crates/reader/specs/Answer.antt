@@ -14,12 +14,12 @@ use Rattle.reader.specs.declared.Answer.{Answer}
 use Rattle.reader.specs.Told.{Told, gives, refuses, told}
 
 -- the payload fits a pool of n bytes at the position
-abbrev pub room : (n at : ℕ) (payload : List ℕ) → Bool
-room n at payload = leb (at + length payload) n
+abbrev pub fits-pool : (n at : ℕ) (payload : List ℕ) → Bool
+fits-pool n at payload = leb (at + length payload) n
 
 -- what is told of a record that goes into a pool of n bytes at a position
 unfoldable pub given : Meaning → (n at : ℕ) → Told
-given (data-at offset bytes) n at = if room n at bytes then gives 0 (offset ∷ at ∷ length bytes ∷ []) else refuses pool-full
+given (data-at offset bytes) n at = if fits-pool n at bytes then gives 0 (offset ∷ at ∷ length bytes ∷ []) else refuses pool-full
 given end-of-file n at = gives 1 []
 given (extended-segment number) n at = gives 2 (number ∷ [])
 given (start-segment cs ip) n at = gives 3 (cs ∷ ip ∷ [])
@@ -28,7 +28,7 @@ given (start-linear number) n at = gives 5 (number ∷ [])
 
 -- the pool behind a record: only a payload that fits changes it
 unfoldable pub kept : Meaning → (pool : List ℕ) (at : ℕ) → List ℕ
-kept (data-at offset bytes) pool at = if room (length pool) at bytes then pasted pool at bytes else pool
+kept (data-at offset bytes) pool at = if fits-pool (length pool) at bytes then pasted pool at bytes else pool
 kept end-of-file pool at = pool
 kept (extended-segment number) pool at = pool
 kept (start-segment cs ip) pool at = pool

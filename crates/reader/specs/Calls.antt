@@ -8,7 +8,7 @@ use lib.ListN.{length}
 use Rattle.digits.specs.Common.{if_then_else_, Every}
 use Rattle.reader.specs.declared.ReaderOptions.{ReaderOptions}
 use Rattle.reader.specs.declared.State.{State}
-use Rattle.reader.specs.declared.Step.{Step}
+use Rattle.reader.specs.declared.Replied.{Replied}
 use Rattle.reader.specs.Told.{Told, done}
 use Rattle.reader.specs.Answer.{answered, poured}
 use Rattle.reader.specs.Row.{Numbered, on}
@@ -32,7 +32,7 @@ Never-full givens = Every (λ (g : Given). is-full (g .told) ≡ false) givens
 -- calls that start in a state: all that is known of each is its contract
 pub data Calls (text : List ℕ) : State → List Call → List Given → Type 0 where
   no-more : {s : State} → Calls text s [] []
-  one-more : {s : State} {call : Call} {calls : List Call} {givens : List Given} (r : Step) (pool′ : List ℕ)
+  one-more : {s : State} {call : Call} {calls : List Call} {givens : List Given} (r : Replied) (pool′ : List ℕ)
       → Next s text (call .pool) (call .at) r pool′ → Calls text (r .state) calls givens
       → Calls text s (call ∷ calls) (record { told = told-reply (r .reply); pool = pool′; line = r .state .line } ∷ givens)
 

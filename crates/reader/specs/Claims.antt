@@ -23,11 +23,11 @@ use Rattle.reader.specs.declared.Figures.{Figures}
 use Rattle.reader.specs.declared.ReaderError.the-variants.{ContainsInvalidCharacters}
 use Rattle.reader.specs.declared.ReaderOptions.{ReaderOptions}
 use Rattle.reader.specs.declared.State.{State}
-use Rattle.reader.specs.declared.Step.{Step}
+use Rattle.reader.specs.declared.Replied.{Replied}
 use Rattle.reader.specs.Told.{Told, gives, refuses, done, told, FiguresOf}
 use Rattle.reader.specs.Answer.{ReadRecord, answered}
 use Rattle.reader.specs.Lines.{Joins, lines, through}
-use Rattle.reader.specs.Row.{Numbered, on, number, sayings, stopped, row}
+use Rattle.reader.specs.Row.{Numbered, on, line-number, sayings, stopped, row}
 use Rattle.reader.specs.Text.{FirstLine, new-state, outcome, Next, Default, Ends, New, Number, IsPoolFull}
 use Rattle.reader.specs.Calls.{Call, Given, Never-full, Calls, replies, one-by-one}
 
@@ -39,8 +39,8 @@ pub record Row : Type 0 where
   pub answer : Told
 
 -- the lines marked P in document 01
-abbrev pub marked : List Row
-marked =
+abbrev pub marked-P : List Row
+marked-P =
     (record { line = ""; answer = refuses (refusal 1 []) }) ∷
     (record { line = ":"; answer = refuses (refusal 3 []) }) ∷
     (record { line = ":G"; answer = refuses (refusal 2 (1 ∷ [])) }) ∷
@@ -58,7 +58,7 @@ marked =
 
 -- each line of the table is answered so, and the eleventh is rewritten with the address 0000
 pub record Examples : Type 0 where
-  pub answers : Every (λ (row : Row). (n at : ℕ) → answered (judge (text (row .line))) n at ≡ row .answer) marked
+  pub answers : Every (λ (row : Row). (n at : ℕ) → answered (judge (text (row .line))) n at ≡ row .answer) marked-P
   pub again : rewritten (judge (text ":00123401B9")) ≡ some (text ":00000001FF")
 
 -- what is told says which answer it was
@@ -171,9 +171,9 @@ pub record Shared (k : ℕ) (text₁ text₂ : List ℕ) : Type 0 where
   pub rest₂ : List Numbered
   pub first : sayings 1 (lines text₁) ≡ both ++ rest₁
   pub second : sayings 1 (lines text₂) ≡ both ++ rest₂
-  pub through-k : Every (λ (x : Numbered). number x ≤ k) both
-  pub behind₁ : Every (λ (x : Numbered). k < number x) rest₁
-  pub behind₂ : Every (λ (x : Numbered). k < number x) rest₂
+  pub through-k : Every (λ (x : Numbered). line-number x ≤ k) both
+  pub behind₁ : Every (λ (x : Numbered). k < line-number x) rest₁
+  pub behind₂ : Every (λ (x : Numbered). k < line-number x) rest₂
 
 abbrev pub Same-through : Type 0
 Same-through =
@@ -189,7 +189,7 @@ Nothing-behind =
 
 abbrev pub Next-unique : Type 0
 Next-unique =
-    (s : State) (text pool : List ℕ) (at : ℕ) (r r′ : Step) (p p′ : List ℕ)
+    (s : State) (text pool : List ℕ) (at : ℕ) (r r′ : Replied) (p p′ : List ℕ)
     → Next s text pool at r p → Next s text pool at r′ p′ → (r ≡ r′) × (p ≡ p′)
 
 abbrev pub Default-unique : Type 0

@@ -17,7 +17,7 @@ use Rattle.reader.specs.declared.Spot.{Spot}
 use Rattle.reader.specs.declared.Spot.the-variants.{At, Nothing}
 use Rattle.reader.specs.Lines.{LF, first-line, next-line, a-line, no-line}
 use Rattle.reader.specs.declared.State.{State}
-use Rattle.reader.specs.declared.Step.{Step}
+use Rattle.reader.specs.declared.Replied.{Replied}
 use Rattle.reader.specs.Told.{Told, told}
 use Rattle.reader.specs.Text.{told-reply, is-full, ends-row, behind}
 use Rattle.digits.specs.Common.{if_then_else_}
@@ -67,6 +67,6 @@ Spotted text position (At from len next empties) = Ahead text position from len 
 Spotted text position Nothing = (empties : ℕ) × (next-line 0 (drop position text) ≡ no-line empties)
 
 -- a line that was answered, with the state before it: PoolFull leaves the state as it was
-pub record Settled (s : State) (t : Told) (position line : ℕ) (r : Step) : Type 0 where
+pub record Settled (s : State) (t : Told) (position line : ℕ) (r : Replied) : Type 0 where
   pub answer : told-reply (r .reply) ≡ t
   pub state : r .state ≡ (if is-full t then s else behind s position line (ends-row (s .options) t))

@@ -13,8 +13,8 @@ use Rattle.reader.specs.Lines.{lines}
 pub data Numbered : Type 0 where
   on : (line : ℕ) (said : Said) → Numbered
 
-abbrev pub number : Numbered → ℕ
-number (on line said) = line
+abbrev pub line-number : Numbered → ℕ
+line-number (on line said) = line
 
 -- one a line, numbered from n on, but none for an empty line
 unfoldable pub sayings : ℕ → List (List ℕ) → List Numbered

@@ -17,7 +17,7 @@ use Rattle.reader.specs.declared.ReaderOptions.{ReaderOptions}
 use Rattle.reader.specs.declared.State.{State}
 use Rattle.reader.specs.declared.Reply.{Reply}
 use Rattle.reader.specs.declared.Reply.the-variants.{Read, Refused, Done}
-use Rattle.reader.specs.declared.Step.{Step}
+use Rattle.reader.specs.declared.Replied.{Replied}
 use Rattle.reader.specs.Told.{Told, gives, refuses, done, refusal-of, is-pool-full}
 use Rattle.reader.specs.Answer.{answered, poured}
 use Rattle.reader.specs.Lines.{first-line, rest, Found, a-line, no-line, next-line}
@@ -98,13 +98,13 @@ outcome s text pool at =
     of-found s (length text) pool at (next-line 0 (drop (s .position) text))
 
 -- what a step and a pool make of an outcome
-pub record Meets (o : Outcome) (r : Step) (pool′ : List ℕ) : Type 0 where
+pub record Meets (o : Outcome) (r : Replied) (pool′ : List ℕ) : Type 0 where
   pub answer : told-reply (r .reply) ≡ o .told
   pub state : r .state ≡ o .state
   pub left : pool′ ≡ o .pool
 
 -- the contract of `State::next`
-abbrev pub Next : State → (text pool : List ℕ) (at : ℕ) → Step → (pool′ : List ℕ) → Type 0
+abbrev pub Next : State → (text pool : List ℕ) (at : ℕ) → Replied → (pool′ : List ℕ) → Type 0
 Next s text pool at r pool′ = Meets (outcome s text pool at) r pool′
 
 -- the contract of `ReaderOptions::default`

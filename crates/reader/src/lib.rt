@@ -82,7 +82,7 @@ pub enum Reply {
 }
 
 // A reply, and where the reader stands then.
-pub struct Step {
+pub struct Replied {
     pub reply: Reply,
     pub state: State,
 }
@@ -476,12 +476,12 @@ impl ReaderOptions {
 }
 
 // The reply to a line that was answered, and the state behind it; PoolFull does not use the line up.
-fn settle(s: State, answer: Answer, position: usize, line: usize) -> Step
+fn settle(s: State, answer: Answer, position: usize, line: usize) -> Replied
     ensures { λ r. ⌜ Settled s (told answer) position line r ⌝ }
 {
     let options = s.options;
     match answer {
-        Answer::Read(r) => Step {
+        Answer::Read(r) => Replied {
             reply: Reply::Read(r),
             state: State {
                 position,
@@ -492,12 +492,12 @@ fn settle(s: State, answer: Answer, position: usize, line: usize) -> Step
         },
         Answer::Refused(e) => {
             if e.is_pool_full() {
-                return Step {
+                return Replied {
                     reply: Reply::Refused(e),
                     state: s,
                 };
             }
-            Step {
+            Replied {
                 reply: Reply::Refused(e),
                 state: State {
                     position,
@@ -544,17 +544,17 @@ impl State {
     }
 
     // The next answer of a text. The payload of a data record goes into the pool at a position.
-    pub fn next(self, text: &[u8], pool: &mut [u8], at: usize) -> Step
+    pub fn next(self, text: &[u8], pool: &mut [u8], at: usize) -> Replied
         ensures { λ r. ⌜ Next self (now (text .entry)) (now (pool .entry)) at r (now (pool .exit)) ⌝ }
     {
         if self.finished {
-            return Step {
+            return Replied {
                 reply: Reply::Done,
                 state: self,
             };
         }
         match find_line(text, self.position) {
-            Spot::Nothing => Step {
+            Spot::Nothing => Replied {
                 reply: Reply::Done,
                 state: self.at_end(),
             },

@@ -11,7 +11,7 @@ use lib.ListN.{length, take, drop, length-append}
 use Rattle.checksum.specs.Checksum.{negated-sum}
 use Rattle.checksum.proofs.Laws.{negated-small}
 use Rattle.digits.specs.Common.{if_then_else_, Every, Byte}
-use Rattle.digits.specs.Digits.{number, big-endian}
+use Rattle.digits.specs.Digits.{number-after, big-endian}
 use Rattle.record.specs.Format.{Size, type-00, type-01, type-02, type-03, type-04, type-05, Format}
 use Rattle.record.specs.Meaning.{Meaning, data-at, end-of-file, extended-segment, start-segment, extended-linear, start-linear, meaning}
 use Rattle.record.specs.Written.{body, written, kind-of, address-of, payload-of, two-bytes, four-bytes, Writable, Sayable}
@@ -98,11 +98,11 @@ writable (extended-linear n) h = record { sized = type-04 refl refl; most = omeg
 writable (start-linear n) h = record { sized = type-05 refl refl; most = omega arith; address-small = omega arith; payload-bytes = (omega arith, (omega arith, (omega arith, (omega arith, tt)))) }
 
 two-again : (n : ℕ) → big-endian (two-bytes n) ≡ n
-unfolding number
+unfolding number-after
 two-again n = omega arith
 
 four-again : (n : ℕ) → big-endian (four-bytes n) ≡ n
-unfolding number
+unfolding number-after
 four-again n = omega arith
 
 means-again : (m : Meaning) → meaning (kind-of m) (address-of m) (payload-of m) ≡ m
@@ -119,7 +119,7 @@ reads-back m h = record { said = admitted (written-in-format (kind-of m) (addres
 
 -- type, address and payload of what is said: the address of any type but 00 is gone
 again-two : (p : List ℕ) → length p ≡ 2 → Every Byte p → two-bytes (big-endian p) ≡ p
-unfolding number
+unfolding number-after
 again-two [] n h = absurd (omega arith)
 again-two (a ∷ []) n h = absurd (omega arith)
 again-two (a ∷ b ∷ []) n (h, (k, u)) = ap₂ (λ (x y : ℕ). x ∷ y ∷ []) (omega arith) (omega arith)
@@ -127,7 +127,7 @@ again-two (a ∷ b ∷ c ∷ p) n h = absurd (omega arith)
 
 again-four : (p : List ℕ) → length p ≡ 4 → Every Byte p
     → (two-bytes (big-endian (take 2 p)) ++ two-bytes (big-endian (drop 2 p)) ≡ p) × (four-bytes (big-endian p) ≡ p)
-unfolding number
+unfolding number-after
 again-four [] n h = absurd (omega arith)
 again-four (a ∷ []) n h = absurd (omega arith)
 again-four (a ∷ b ∷ []) n h = absurd (omega arith)
@@ -154,7 +154,7 @@ fields-again address payload (type-05 e z) h = rw e (refl, refl, again-four payl
 -- ---- what is said is sayable
 
 two-small : (p : List ℕ) → length p ≡ 2 → Every Byte p → big-endian p < 65536
-unfolding number
+unfolding number-after
 two-small [] n h = absurd (omega arith)
 two-small (a ∷ []) n h = absurd (omega arith)
 two-small (a ∷ b ∷ []) n (h, (k, u)) = omega arith
@@ -162,7 +162,7 @@ two-small (a ∷ b ∷ c ∷ p) n h = absurd (omega arith)
 
 -- four bytes, as two numbers of two and as one
 four-small : (p : List ℕ) → length p ≡ 4 → Every Byte p → (big-endian (take 2 p) < 65536) × (big-endian (drop 2 p) < 65536) × (big-endian p < 4294967296)
-unfolding number
+unfolding number-after
 four-small [] n h = absurd (omega arith)
 four-small (a ∷ []) n h = absurd (omega arith)
 four-small (a ∷ b ∷ []) n h = absurd (omega arith)

@@ -227,7 +227,7 @@ fn appended(x: u64, d: u8) -> u64 {
     (x % 1152921504606846976) * 16 + wide(d % 16)
 }
 
-fn number(text: &[u8], from: usize) -> Spelt {
+fn read_number(text: &[u8], from: usize) -> Spelt {
     let mut value: u64 = 0;
     let mut i = from;
     while i < text.len() {
@@ -291,8 +291,8 @@ fn read_into(line: &[u8], length: usize, at: usize) {
 }
 
 fn line_case(text: &[u8]) {
-    let size = number(text, 2);
-    let place = number(text, size.next);
+    let size = read_number(text, 2);
+    let place = read_number(text, size.next);
     let mut bytes = io::buffer();
     let k = unspell(text, place.next, &mut bytes);
     read_into(front(&bytes, k), size.value as usize, place.value as usize);
@@ -391,8 +391,8 @@ fn read_text_into(text: &[u8], flags: u64, length: usize) {
 }
 
 fn text_case(text: &[u8]) {
-    let flags = number(text, 2);
-    let size = number(text, flags.next);
+    let flags = read_number(text, 2);
+    let size = read_number(text, flags.next);
     let mut bytes = io::buffer();
     let k = unspell(text, size.next, &mut bytes);
     read_text_into(front(&bytes, k), flags.value, size.value as usize);
@@ -440,11 +440,11 @@ struct Given {
 }
 
 fn record_at(text: &[u8], from: usize) -> Given {
-    let kind = number(text, from);
-    let x = number(text, kind.next);
-    let second = number(text, x.next);
-    let at = number(text, second.next);
-    let len = number(text, at.next);
+    let kind = read_number(text, from);
+    let x = read_number(text, kind.next);
+    let second = read_number(text, x.next);
+    let at = read_number(text, second.next);
+    let len = read_number(text, at.next);
     let record = record_of(
         kind.value,
         x.value,
@@ -505,7 +505,7 @@ fn write_into(r: Record, pool: &[u8], length: usize) {
 fn record_case(text: &[u8]) {
     let g = record_at(text, 2);
     let r = g.record;
-    let size = number(text, g.next);
+    let size = read_number(text, g.next);
     let mut bytes = io::buffer();
     let k = unspell(text, size.next, &mut bytes);
     write_into(r, front(&bytes, k), size.value as usize);
@@ -549,8 +549,8 @@ fn write_object_into(text: &[u8], from: usize, pool: &[u8], length: usize) {
 
 // The pool's digits end at a space, which is the first of no pair and so spells no byte.
 fn object_case(text: &[u8]) {
-    let size = number(text, 2);
-    let behind = number(text, size.next);
+    let size = read_number(text, 2);
+    let behind = read_number(text, size.next);
     let mut bytes = io::buffer();
     let k = unspell(front(text, behind.next), size.next, &mut bytes);
     write_object_into(text, behind.next, front(&bytes, k), size.value as usize);
@@ -651,9 +651,9 @@ fn load_into(text: &[u8], first: u32, length: usize, marks: usize) {
 }
 
 fn load_case(text: &[u8]) {
-    let first = number(text, 2);
-    let page = number(text, first.next);
-    let marks = number(text, page.next);
+    let first = read_number(text, 2);
+    let page = read_number(text, first.next);
+    let marks = read_number(text, page.next);
     let mut bytes = io::buffer();
     let k = unspell(text, marks.next, &mut bytes);
     load_into(

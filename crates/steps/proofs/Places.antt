@@ -15,7 +15,7 @@ use borrow.Author.Tests.{eqb-true, eqb-false, eq-eqb}
 use Rattle.digits.specs.Common.{if_then_else_, or-else}
 use Rattle.record.proofs.Choices.{or-else-none, or-else-assoc, getD-or-else}
 use Rattle.steps.specs.Steps.{Placement}
-use Rattle.steps.specs.Sites.{last-at, mark, byte-shown, mark-shown, painted, marked, Last-stated, Place, Owed}
+use Rattle.steps.specs.Sites.{last-at, mark, byte-shown, mark-shown, painted, marked, Last-stated, Owed-at, Owed}
 
 -- ---- place by place
 
@@ -90,7 +90,7 @@ last-append a (p ∷ ps) qs =
 
 -- ---- what is owed to a place
 
-place : (ps : List Placement) (a old : ℕ) (o : Option ℕ) → Found a ps o → Place ps a old (mark o) (Option·getD o old)
+place : (ps : List Placement) (a old : ℕ) (o : Option ℕ) → Found a ps o → Owed-at ps a old (mark o) (Option·getD o old)
 unfolding mark
 place ps a old none f =
     record {
@@ -124,7 +124,7 @@ unfolding last-at
 last-stated-is a b ps l =
     rw (l .whole, last-append a (l .before) (record { address = a; byte = b } ∷ l .after), none-there a (l .after) (last-at a (l .after)) (found a (l .after)) (l .none-later), eq-eqb a a refl)
 
-place-is : (ps : List Placement) (a old m b : ℕ) → Place ps a old m b → (m ≡ mark (last-at a ps)) × (b ≡ Option·getD (last-at a ps) old)
+place-is : (ps : List Placement) (a old m b : ℕ) → Owed-at ps a old m b → (m ≡ mark (last-at a ps)) × (b ≡ Option·getD (last-at a ps) old)
 unfolding mark
 place-is ps a old m b k = go (last-at a ps) refl (found a ps) (k .one-or-zero)
   where

@@ -129,7 +129,7 @@ pub record Last-stated (address byte : ℕ) (ps : List Placement) : Type 0 where
   pub none-later : (p : Placement) → List·Memᴰ p after → p .address ≢ address
 
 -- what an accepted load owes a place that shows an address: its byte before, its mark and its byte after
-pub record Place (ps : List Placement) (address old mark byte : ℕ) : Type 0 where
+pub record Owed-at (ps : List Placement) (address old mark byte : ℕ) : Type 0 where
   pub one-or-zero : (mark ≡ 1) ⊎ (mark ≡ 0)
   pub marked-iff-stated : (mark ≡ 1) ↔ Stated address ps
   pub marked-holds : mark ≡ 1 → Last-stated address byte ps
@@ -138,7 +138,7 @@ pub record Place (ps : List Placement) (address old mark byte : ℕ) : Type 0 wh
 -- what it owes any place: one that shows no address keeps byte and mark
 abbrev pub Owed : (shows : Option ℕ) → List Placement → (old old-mark mark byte : ℕ) → Type 0
 Owed none ps old old-mark mark byte = (mark ≡ old-mark) × (byte ≡ old)
-Owed (some address) ps old old-mark mark byte = Place ps address old mark byte
+Owed (some address) ps old old-mark mark byte = Owed-at ps address old mark byte
 
 -- of one accepted load, at each place: what was stated before the end is there, the last byte of each address, and nothing else
 abbrev pub What-is-stored : Type 1

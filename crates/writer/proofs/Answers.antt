@@ -15,7 +15,7 @@ use Rattle.writer.specs.declared.WriterError.{WriterError}
 use Rattle.writer.specs.declared.WriterError.the-variants.{OutputFull}
 use Rattle.writer.specs.declared.Written.{Written}
 use Rattle.writer.specs.declared.Written.the-variants.{Wrote, Refused}
-use Rattle.writer.specs.Told.{wrote, refuses, refusal-of, told}
+use Rattle.writer.specs.Told.{wrote, refuses, writer-refusal, told-written}
 use Rattle.writer.specs.Text.{Text, chars, refused, unless, place-behind, Writes}
 use Rattle.writer.specs.Claims.{Refusal-changes-nothing, Rest-untouched}
 use Rattle.digits.proofs.Pasting.{pasted-before, pasted-behind}
@@ -26,7 +26,7 @@ there none cs n e = let z : n ≡ 0 + length cs = cc in (refl, omega arith)
 there (some r) cs n e = let z : _≡_ {A = ℕ} 0 1 = cc in absurd (omega arith)
 
 -- or it is refused, and so is the text that stands for it at any place
-pub not-there : (f : Option Refusal) (cs ds out : List ℕ) (at : ℕ) (e : WriterError) → refuses (refusal-of e) ≡ place-behind (unless f cs) 0
+pub not-there : (f : Option Refusal) (cs ds out : List ℕ) (at : ℕ) (e : WriterError) → refuses (writer-refusal e) ≡ place-behind (unless f cs) 0
     → Writes (unless f ds) out at (Refused e) out
 not-there none cs ds out at e q = let z : _≡_ {A = ℕ} 0 1 = cc in absurd (omega arith)
 not-there (some r) cs ds out at e q = record { answer = q; left = refl }
@@ -43,7 +43,7 @@ module _ (f : Option Refusal) (cs out : List ℕ) (at : ℕ) (t : f ≡ none) wh
 
 -- a text that may fit: if it does, it is pasted, and if not, all is as it was
 module _ (cs out : List ℕ) (at : ℕ) (r : Written) (out′ : List ℕ) (w : Writes (chars cs) out at r out′) where
-  either : {X : Type 0} → (at + length cs ≤ length out → told r ≡ wrote (at + length cs) → out′ ≡ pasted out at cs → X) → (told r ≡ refuses output-full → out′ ≡ out → X) → X
+  either : {X : Type 0} → (at + length cs ≤ length out → told-written r ≡ wrote (at + length cs) → out′ ≡ pasted out at cs → X) → (told-written r ≡ refuses output-full → out′ ≡ out → X) → X
   either f g =
       split (at + length cs) (length out)
       (λ h. let e = le-leb (at + length cs) (length out) h in f h (rw e at (w .answer)) (rw e at (w .left)))

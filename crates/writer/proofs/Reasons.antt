@@ -23,7 +23,7 @@ use Rattle.digits.proofs.Tests.{branch}
 use Rattle.record.proofs.Choices.{or-else-both}
 use Rattle.digits.proofs.Parts.{part-length}
 use Rattle.record.proofs.Judging.{size-is, ending}
-use Rattle.writer.specs.Told.{Told, wrote}
+use Rattle.writer.specs.Told.{Told-written, wrote}
 use Rattle.writer.specs.Text.{refused, unless, place-behind, if-room}
 use Rattle.writer.specs.Line.{line-refusal, line, line-text, ended-line}
 use Rattle.writer.specs.Object.{is-end, ends, ends-in-end, first-refusal, joined-lines, object}
@@ -49,7 +49,7 @@ module _ (Fault : Refusal → Type 0) (Long : ℕ → Type 0) (f : Option Refusa
           (λ b. no-room (length cs) (faultless e) (long e) (leb-false (at + length cs) room b))
       go (some g) e = faulty g (exact g .1 e)
 
-  one-answer : ((n m : ℕ) → Long n → Long m → n ≡ m) → (t t′ : Told) → Why Fault Long at room t → Why Fault Long at room t′ → t ≡ t′
+  one-answer : ((n m : ℕ) → Long n → Long m → n ≡ m) → (t t′ : Told-written) → Why Fault Long at room t → Why Fault Long at room t′ → t ≡ t′
   one-answer one _ _ (faulty g h) (faulty g′ h′) = let k : some g ≡ some g′ = sym (exact g .0 h) ∙ exact g′ .0 h′ in cc
   one-answer one _ _ (faulty g h) (no-room n s l r) = absurd (s g h)
   one-answer one _ _ (faulty g h) (written n s l r) = absurd (s g h)

@@ -15,7 +15,7 @@ use Rattle.record.specs.Refusals.{Refusal, output-full}
 use Rattle.record.specs.declared.Record.{Record}
 use Rattle.writer.specs.declared.Written.{Written}
 use Rattle.writer.specs.declared.Written.the-variants.{Wrote, Refused}
-use Rattle.writer.specs.Told.{wrote, refuses, told}
+use Rattle.writer.specs.Told.{wrote, refuses, told-written}
 use Rattle.writer.specs.Text.{Text, chars, refused, unless, place-behind, if-room, Writes}
 use Rattle.writer.specs.Line.{line-refusal, ended-line, WriteNext}
 use Rattle.writer.specs.Object.{first-refusal, joined-lines, object, WriteObject}
@@ -29,12 +29,12 @@ use Rattle.writer.proofs.Surveying.{answered}
 -- ---- a refusal stays, and nothing is written
 
 stuck-next : (w : Written) (r : Refusal) (x : Record) (pool out : List ℕ) (w′ : Written) (out′ : List ℕ)
-    → told w ≡ refuses r → WriteNext w x pool out w′ out′ → (told w′ ≡ refuses r) × (out′ ≡ out)
+    → told-written w ≡ refuses r → WriteNext w x pool out w′ out′ → (told-written w′ ≡ refuses r) × (out′ ≡ out)
 stuck-next (Wrote at) r x pool out w′ out′ e n = let z : _≡_ {A = ℕ} 0 1 = cc in absurd (omega arith)
 stuck-next (Refused q) r x pool out w′ out′ e n = (n .answer ∙ e, n .left)
 
-stuck : {rs : List Record} {w : Written} {out′ : List ℕ} (pool out : List ℕ) (start : Written) (r : Refusal) → told start ≡ refuses r
-    → Steps pool out start rs w out′ → (told w ≡ refuses r) × (out′ ≡ out)
+stuck : {rs : List Record} {w : Written} {out′ : List ℕ} (pool out : List ℕ) (start : Written) (r : Refusal) → told-written start ≡ refuses r
+    → Steps pool out start rs w out′ → (told-written w ≡ refuses r) × (out′ ≡ out)
 stuck pool out start r e no-step = (e, refl)
 stuck pool out start r e (then-step x {w} {w′} {out₁} out₂ v n q) =
     let b = stuck pool out start r e v in
@@ -45,15 +45,15 @@ stuck pool out start r e (then-step x {w} {w′} {out₁} out₂ v n q) =
 
 -- a text that fits was put at a place
 there-next : (f : Option Refusal) (cs out : List ℕ) (at : ℕ) (w : Written) (out′ : List ℕ) → f ≡ none → at + length cs ≤ length out
-    → Writes (unless f cs) out at w out′ → (told w ≡ wrote (at + length cs)) × (out′ ≡ pasted out at cs)
+    → Writes (unless f cs) out at w out′ → (told-written w ≡ wrote (at + length cs)) × (out′ ≡ pasted out at cs)
 there-next (some r) cs out at w out′ t h n = let z : _≡_ {A = ℕ} 0 1 = cc in absurd (omega arith)
 there-next none cs out at w out′ t h n =
     let e = le-leb (at + length cs) (length out) h in
     (rw e at (n .answer), rw e at (n .left))
 
 step-on : (w : Written) (x : Record) (pool out : List ℕ) (at : ℕ) (w′ : Written) (out′ : List ℕ)
-    → told w ≡ wrote at → line-refusal x (length pool) ≡ none → at + length (ended-line x pool) ≤ length out
-    → WriteNext w x pool out w′ out′ → (told w′ ≡ wrote (at + length (ended-line x pool))) × (out′ ≡ pasted out at (ended-line x pool))
+    → told-written w ≡ wrote at → line-refusal x (length pool) ≡ none → at + length (ended-line x pool) ≤ length out
+    → WriteNext w x pool out w′ out′ → (told-written w′ ≡ wrote (at + length (ended-line x pool))) × (out′ ≡ pasted out at (ended-line x pool))
 step-on (Wrote k) x pool out at w′ out′ e t h n =
     let same : k ≡ at = cc in
     there-next (line-refusal x (length pool)) (ended-line x pool) out at w′ out′ t h (subst (λ (m : ℕ). WriteNext (Wrote m) x pool out w′ out′) same n)
@@ -61,7 +61,7 @@ step-on (Refused q) x pool out at w′ out′ e t h n = let z : _≡_ {A = ℕ} 
 
 -- the records so far are written
 abbrev Done : (rs : List Record) (pool out : List ℕ) (w : Written) (out′ : List ℕ) → Type 0
-Done rs pool out w out′ = (told w ≡ wrote (length (joined-lines rs pool))) × (out′ ≡ pasted out 0 (joined-lines rs pool))
+Done rs pool out w out′ = (told-written w ≡ wrote (length (joined-lines rs pool))) × (out′ ≡ pasted out 0 (joined-lines rs pool))
 
 done-more : (rs : List Record) (x : Record) (pool out : List ℕ) (w w′ : Written) (out₁ out₂ : List ℕ)
     → Done rs pool out w out₁ → line-refusal x (length pool) ≡ none → length (joined-lines (rs ++ (x ∷ [])) pool) ≤ length out
@@ -81,7 +81,7 @@ done-more rs x pool out w w′ out₁ out₂ d t h n =
           ∙ ap (pasted out 0) (sym l),
     )
 
-gone : {rs : List Record} {w : Written} {out′ : List ℕ} (pool out : List ℕ) (start : Written) → told start ≡ wrote 0
+gone : {rs : List Record} {w : Written} {out′ : List ℕ} (pool out : List ℕ) (start : Written) → told-written start ≡ wrote 0
     → Steps pool out start rs w out′ → first-refusal rs (length pool) ≡ none → length (joined-lines rs pool) ≤ length out → Done rs pool out w out′
 unfolding joined-lines
 gone pool out start e no-step f h = (e, sym (pasted-none out 0))
@@ -99,7 +99,7 @@ object-written rs pool out s start w out′ few small v b t =
     go (object rs pool) refl (b .answer ∙ ap begun (answered rs pool s (length out) few (inl small) v))
   where
     fits : (cs : List ℕ) → object rs pool ≡ chars cs → (c : Bool) → leb (0 + length cs) (length out) ≡ c
-        → told start ≡ begun (if c then wrote (0 + length cs) else refuses output-full) → WriteObject rs pool out w out′
+        → told-written start ≡ begun (if c then wrote (0 + length cs) else refuses output-full) → WriteObject rs pool out w out′
     fits cs e true l q =
         let p = parts rs pool cs e in
         let k = leb-true (0 + length cs) (length out) l in
@@ -111,6 +111,6 @@ object-written rs pool out s start w out′ few small v b t =
         let d = stuck pool out start output-full q t in
         rw e (record { answer = rw l (d .0); left = rw l (d .1) })
 
-    go : (x : Text) → object rs pool ≡ x → told start ≡ begun (if-room (place-behind x 0) (length out)) → WriteObject rs pool out w out′
+    go : (x : Text) → object rs pool ≡ x → told-written start ≡ begun (if-room (place-behind x 0) (length out)) → WriteObject rs pool out w out′
     go (chars cs) e q = fits cs e (leb (0 + length cs) (length out)) refl q
     go (refused r) e q = let d = stuck pool out start r q t in rw e (record { answer = d .0; left = d .1 })

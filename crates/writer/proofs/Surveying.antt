@@ -15,7 +15,7 @@ use Rattle.record.specs.Refusals.{Refusal, missing-end-of-file-record, multiple
 use Rattle.record.specs.declared.Record.{Record}
 use Rattle.digits.proofs.Tests.{split}
 use Rattle.writer.specs.declared.Survey.{Survey}
-use Rattle.writer.specs.Told.{Told, wrote, refuses, told}
+use Rattle.writer.specs.Told.{Told-written, wrote, refuses, told-written}
 use Rattle.writer.specs.Text.{refused, unless, place-behind, if-room}
 use Rattle.writer.specs.Line.{line-refusal, line, ended-line}
 use Rattle.writer.specs.Object.{is-end, ends, ends-in-end, first-refusal, joined-lines, object}
@@ -49,14 +49,14 @@ cap-first n m =
 -- ---- what is kept
 
 -- the length so far, or the first refusal
-abbrev sized : Option Refusal → (n : ℕ) → Told
+abbrev sized : Option Refusal → (n : ℕ) → Told-written
 sized none n = wrote (cap n)
 sized (some r) n = refuses r
 
 record Kept (rs : List Record) (pool : List ℕ) (s : Survey) : Type 0 where
   pub ends : s .ends ≡ cap (ends rs)
   pub ended : s .ended ≡ ends-in-end rs
-  pub total : told (s .total) ≡ sized (first-refusal rs (length pool)) (length (joined-lines rs pool))
+  pub total : told-written (s .total) ≡ sized (first-refusal rs (length pool)) (length (joined-lines rs pool))
 
 counted : (b : Bool) (k x : ℕ) → x ≡ cap k → (if b then cap (x + 1) else x) ≡ cap (k + (if b then 1 else 0))
 counted true k x e = ap (λ (y : ℕ). cap (y + 1)) e ∙ cap-first k 1
@@ -88,7 +88,7 @@ kept-more rs r pool s t k a =
       ended = a .ended ∙ sym (ends-in-end-snoc rs r);
       total =
           a .total
-          ∙ ap (λ (w : Told). longer w (place-behind (unless (line-refusal r (length pool)) (line r pool)) 0)) (k .total)
+          ∙ ap (λ (w : Told-written). longer w (place-behind (unless (line-refusal r (length pool)) (line r pool)) 0)) (k .total)
           ∙ lengthened (first-refusal rs (length pool)) (line-refusal r (length pool)) (length (joined-lines rs pool)) (line r pool)
           ∙ rw (first-refusal-snoc rs r (length pool), n);
     }

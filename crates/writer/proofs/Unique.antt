@@ -13,7 +13,7 @@ use Rattle.writer.specs.declared.WriterError.the-variants.{DataExceedsMa
 use Rattle.writer.specs.declared.Written.{Written}
 use Rattle.writer.specs.declared.Written.the-variants.{Wrote, Refused}
 use Rattle.writer.specs.declared.Survey.{Survey}
-use Rattle.writer.specs.Told.{Told, wrote, refuses, refusal-of, told}
+use Rattle.writer.specs.Told.{Told-written, wrote, refuses, writer-refusal, told-written}
 use Rattle.writer.specs.Text.{Text, Writes}
 use Rattle.writer.specs.Claims.{To-record-string-unique, Write-step-unique, Write-next-unique, New-unique, Add-unique, Answer-unique, Begin-unique, Create-object-file-representation-unique}
 
@@ -26,12 +26,12 @@ error (refusal n vs) =
     if eqb n 14 then MultipleEndOfFileRecords (getD vs 0 0) else
     OutputFull
 
-untold : Told → Written
+untold : Told-written → Written
 unfolding error
 untold (wrote n) = Wrote n
 untold (refuses r) = Refused (error r)
 
-error-again : (e : WriterError) → error (refusal-of e) ≡ e
+error-again : (e : WriterError) → error (writer-refusal e) ≡ e
 unfolding error
 error-again (DataExceedsMaximumLength n) = refl
 error-again MissingEndOfFileRecord = refl
@@ -39,13 +39,13 @@ error-again (MultipleEndOfFileRecords n) = refl
 error-again PayloadOutsidePool = refl
 error-again OutputFull = refl
 
-untold-told : (r : Written) → untold (told r) ≡ r
+untold-told : (r : Written) → untold (told-written r) ≡ r
 unfolding untold
 untold-told (Wrote n) = refl
 untold-told (Refused e) = ap Refused (error-again e)
 
 -- what is told says which answer it was
-pub told-apart : (a b : Written) → told a ≡ told b → a ≡ b
+pub told-apart : (a b : Written) → told-written a ≡ told-written b → a ≡ b
 told-apart a b e = sym (untold-told a) ∙ ap untold e ∙ untold-told b
 
 pub writes-unique : (t : Text) (out : List ℕ) (at : ℕ) (r r′ : Written) (o o′ : List ℕ) → Writes t out at r o → Writes t out at r′ o′ → (r ≡ r′) × (o ≡ o′)
@@ -62,7 +62,7 @@ write-next-unique (Wrote at) x pool out r r′ o o′ p q = writes-unique _ _ _ 
 write-next-unique (Refused e) x pool out r r′ o o′ p q = writes-unique _ _ _ r r′ o o′ p q
 
 -- a survey is its three fields
-alike : (s t : Survey) → s .ends ≡ t .ends → s .ended ≡ t .ended → told (s .total) ≡ told (t .total) → s ≡ t
+alike : (s t : Survey) → s .ends ≡ t .ends → s .ended ≡ t .ended → told-written (s .total) ≡ told-written (t .total) → s ≡ t
 alike s t n e w =
     ap (λ (k : ℕ). make k (s .ended) (s .total)) n
     ∙ ap (λ (b : Bool). make (t .ends) b (s .total)) e

@@ -21,7 +21,7 @@ use Rattle.writer.specs.declared.WriterError.{WriterError}
 use Rattle.writer.specs.declared.Written.{Written}
 use Rattle.writer.specs.declared.Written.the-variants.{Wrote, Refused}
 use Rattle.writer.specs.declared.Survey.{Survey}
-use Rattle.writer.specs.Told.{told}
+use Rattle.writer.specs.Told.{told-written}
 use Rattle.writer.specs.Text.{Text, chars, refused, place-behind, if-room, Writes}
 use Rattle.writer.specs.Line.{line-refusal, line, line-text, ToRecordString, WriteStep, WriteNext}
 use Rattle.writer.specs.Object.{ends, ends-in-end, joined-lines, object, WriteObject}
@@ -138,7 +138,7 @@ pub data Surveys (pool : List ℕ) : List Record → Survey → Type 0 where
 abbrev pub Survey-answers : Type 0
 Survey-answers =
     (rs : List Record) (pool : List ℕ) (s : Survey) (room : ℕ) (a : Written) → length rs ≤ most → (room < most) ⊎ (length (joined-lines rs pool) ≤ most)
-    → Surveys pool rs s → SurveyAnswer s room a → told a ≡ if-room (place-behind (object rs pool) 0) room
+    → Surveys pool rs s → SurveyAnswer s room a → told-written a ≡ if-room (place-behind (object rs pool) 0) room
 
 -- what calls of `write_next` leave of an output, and their last answer
 pub data Steps (pool out : List ℕ) (start : Written) : List Record → Written → (out′ : List ℕ) → Type 0 where

@@ -13,7 +13,7 @@ use Rattle.record.specs.Record.{meant}
 use Rattle.record.specs.Written.{line-of}
 use Rattle.writer.specs.declared.Written.{Written}
 use Rattle.writer.specs.declared.Written.the-variants.{Wrote, Refused}
-use Rattle.writer.specs.Told.{refusal-of}
+use Rattle.writer.specs.Told.{writer-refusal}
 use Rattle.writer.specs.Text.{Text, refused, unless, Writes}
 
 -- why a record has no line, over a pool of n bytes
@@ -53,4 +53,4 @@ WriteStep record′ pool out at r out′ = Writes (step-text record′ pool) out
 -- the contract of `write_next`
 abbrev pub WriteNext : (done : Written) → Record → (pool out : List ℕ) → Written → (out′ : List ℕ) → Type 0
 WriteNext (Wrote at) record′ pool out r out′ = WriteStep record′ pool out at r out′
-WriteNext (Refused e) record′ pool out r out′ = Writes (refused (refusal-of e)) out 0 r out′
+WriteNext (Refused e) record′ pool out r out′ = Writes (refused (writer-refusal e)) out 0 r out′

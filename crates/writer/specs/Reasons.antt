@@ -14,7 +14,7 @@ use Rattle.record.specs.Record.{type-of}
 use Rattle.record.specs.Format.{Size}
 use Rattle.writer.specs.declared.Written.{Written}
 use Rattle.writer.specs.declared.Survey.{Survey}
-use Rattle.writer.specs.Told.{Told, wrote, refuses, told}
+use Rattle.writer.specs.Told.{Told-written, wrote, refuses, told-written}
 use Rattle.writer.specs.Line.{ToRecordString, WriteStep}
 use Rattle.writer.specs.Object.{WriteObject}
 use Rattle.writer.specs.Survey.{SurveyAnswer, most}
@@ -78,32 +78,32 @@ pub data List-fault (size : ℕ) (rs : List Record) : Refusal → Type 0 where
 
 -- a reason for an answer, for a text with these faults and this length that is to begin at a position of an output of `room` bytes.
 -- A fault comes first; then 15, the text does not fit; otherwise it is written, and the position after it is returned
-pub data Why (Fault : Refusal → Type 0) (Long : ℕ → Type 0) (at room : ℕ) : Told → Type 0 where
+pub data Why (Fault : Refusal → Type 0) (Long : ℕ → Type 0) (at room : ℕ) : Told-written → Type 0 where
   faulty : (f : Refusal) → Fault f → Why Fault Long at room (refuses f)
   no-room : (n : ℕ) → ((f : Refusal) → ¬ Fault f) → Long n → room < at + n → Why Fault Long at room (refuses output-full)
   written : (n : ℕ) → ((f : Refusal) → ¬ Fault f) → Long n → at + n ≤ room → Why Fault Long at room (wrote (at + n))
 
 -- of a line, of a line with its LF at a position, and of an object
-abbrev pub Why-line : (r : Record) (size room : ℕ) → Told → Type 0
+abbrev pub Why-line : (r : Record) (size room : ℕ) → Told-written → Type 0
 Why-line r size room = Why (Record-fault size r) (Line-size r) 0 room
 
-abbrev pub Why-step : (r : Record) (size at room : ℕ) → Told → Type 0
+abbrev pub Why-step : (r : Record) (size at room : ℕ) → Told-written → Type 0
 Why-step r size at room = Why (Record-fault size r) (Lines-size (r ∷ [])) at room
 
-abbrev pub Why-object : (rs : List Record) (size room : ℕ) → Told → Type 0
+abbrev pub Why-object : (rs : List Record) (size room : ℕ) → Told-written → Type 0
 Why-object rs size room = Why (List-fault size rs) (Lines-size rs) 0 room
 
 -- each answer has one
 pub record Reasons : Type 0 where
-  pub of-line : (r : Record) (pool out : List ℕ) (w : Written) (out′ : List ℕ) → ToRecordString r pool out w out′ → Why-line r (length pool) (length out) (told w)
-  pub of-step : (r : Record) (pool out : List ℕ) (at : ℕ) (w : Written) (out′ : List ℕ) → WriteStep r pool out at w out′ → Why-step r (length pool) at (length out) (told w)
-  pub of-object : (rs : List Record) (pool out : List ℕ) (w : Written) (out′ : List ℕ) → WriteObject rs pool out w out′ → Why-object rs (length pool) (length out) (told w)
+  pub of-line : (r : Record) (pool out : List ℕ) (w : Written) (out′ : List ℕ) → ToRecordString r pool out w out′ → Why-line r (length pool) (length out) (told-written w)
+  pub of-step : (r : Record) (pool out : List ℕ) (at : ℕ) (w : Written) (out′ : List ℕ) → WriteStep r pool out at w out′ → Why-step r (length pool) at (length out) (told-written w)
+  pub of-object : (rs : List Record) (pool out : List ℕ) (w : Written) (out′ : List ℕ) → WriteObject rs pool out w out′ → Why-object rs (length pool) (length out) (told-written w)
   -- and so has what a survey of the list answers, below the largest number
   pub of-survey : (rs : List Record) (pool : List ℕ) (s : Survey) (room : ℕ) (w : Written) → length rs ≤ most → room < most → Surveys pool rs s → SurveyAnswer s room w
-      → Why-object rs (length pool) room (told w)
+      → Why-object rs (length pool) room (told-written w)
 
 -- and no second answer has one: each refusal is given exactly when its reason holds
 pub record One-reason : Type 0 where
-  pub of-line : (r : Record) (size room : ℕ) (t t′ : Told) → Why-line r size room t → Why-line r size room t′ → t ≡ t′
-  pub of-step : (r : Record) (size at room : ℕ) (t t′ : Told) → Why-step r size at room t → Why-step r size at room t′ → t ≡ t′
-  pub of-object : (rs : List Record) (size room : ℕ) (t t′ : Told) → Why-object rs size room t → Why-object rs size room t′ → t ≡ t′
+  pub of-line : (r : Record) (size room : ℕ) (t t′ : Told-written) → Why-line r size room t → Why-line r size room t′ → t ≡ t′
+  pub of-step : (r : Record) (size at room : ℕ) (t t′ : Told-written) → Why-step r size at room t → Why-step r size at room t′ → t ≡ t′
+  pub of-object : (rs : List Record) (size room : ℕ) (t t′ : Told-written) → Why-object rs size room t → Why-object rs size room t′ → t ≡ t′

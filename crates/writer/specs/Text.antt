@@ -9,7 +9,7 @@ use lib.ListN.{length}
 use Rattle.digits.specs.Common.{if_then_else_, pasted}
 use Rattle.record.specs.Refusals.{Refusal, output-full}
 use Rattle.writer.specs.declared.Written.{Written}
-use Rattle.writer.specs.Told.{Told, wrote, refuses, told}
+use Rattle.writer.specs.Told.{Told-written, wrote, refuses, told-written}
 
 -- a text, or the refusal that stands in its place
 pub data Text : Type 0 where
@@ -21,12 +21,12 @@ unless none cs = chars cs
 unless (some r) cs = refused r
 
 -- the place behind the text, if it starts at a place
-abbrev pub place-behind : Text → (at : ℕ) → Told
+abbrev pub place-behind : Text → (at : ℕ) → Told-written
 place-behind (chars cs) at = wrote (at + length cs)
 place-behind (refused r) at = refuses r
 
 -- the same, where an output has this much room
-abbrev pub if-room : Told → (room : ℕ) → Told
+abbrev pub if-room : Told-written → (room : ℕ) → Told-written
 if-room (wrote place) room = if leb place room then wrote place else refuses output-full
 if-room (refuses r) room = refuses r
 
@@ -37,5 +37,5 @@ put-at (refused r) out at = out
 
 -- what a writer of a text answers, and leaves in the output
 pub record Writes (text : Text) (out : List ℕ) (at : ℕ) (r : Written) (out′ : List ℕ) : Type 0 where
-  pub answer : told r ≡ if-room (place-behind text at) (length out)
+  pub answer : told-written r ≡ if-room (place-behind text at) (length out)
   pub left : out′ ≡ put-at text out at

@@ -7,17 +7,17 @@ use Rattle.writer.specs.declared.WriterError.the-variants.{DataExceedsMa
 use Rattle.writer.specs.declared.Written.{Written}
 use Rattle.writer.specs.declared.Written.the-variants.{Wrote, Refused}
 
-pub data Told : Type 0 where
-  wrote : (place : ℕ) → Told
-  refuses : Refusal → Told
+pub data Told-written : Type 0 where
+  wrote : (place : ℕ) → Told-written
+  refuses : Refusal → Told-written
 
-abbrev pub refusal-of : WriterError → Refusal
-refusal-of (DataExceedsMaximumLength n) = data-exceeds-maximum-length n
-refusal-of MissingEndOfFileRecord = missing-end-of-file-record
-refusal-of (MultipleEndOfFileRecords n) = multiple-end-of-file-records n
-refusal-of PayloadOutsidePool = payload-outside-pool
-refusal-of OutputFull = output-full
+abbrev pub writer-refusal : WriterError → Refusal
+writer-refusal (DataExceedsMaximumLength n) = data-exceeds-maximum-length n
+writer-refusal MissingEndOfFileRecord = missing-end-of-file-record
+writer-refusal (MultipleEndOfFileRecords n) = multiple-end-of-file-records n
+writer-refusal PayloadOutsidePool = payload-outside-pool
+writer-refusal OutputFull = output-full
 
-abbrev pub told : Written → Told
-told (Wrote n) = wrote n
-told (Refused e) = refuses (refusal-of e)
+abbrev pub told-written : Written → Told-written
+told-written (Wrote n) = wrote n
+told-written (Refused e) = refuses (writer-refusal e)

@@ -11,7 +11,7 @@ ghost use lib.ListN.{length};
 ghost use Rattle.digits.specs.Common.{if_then_else_, pasted};
 ghost use Rattle.record.specs.Written.{written};
 ghost use Rattle.digits.specs.Spelling.{spelt};
-ghost use Rattle.writer.specs.Told.{told};
+ghost use Rattle.writer.specs.Told.{told-written};
 ghost use Rattle.writer.specs.Text.{place-behind};
 ghost use Rattle.writer.specs.Line.{ToRecordString, WriteStep, WriteNext, line, line-text};
 ghost use Rattle.writer.specs.Object.{is-end, WriteObject};
@@ -135,7 +135,7 @@ fn put_record(record: Record, pool: &[u8], out: &mut [u8], at: usize)
 
 // The length of a record's line, or why it has none.
 fn measure(record: Record, pool: &[u8]) -> Written
-    ensures { λ r. ⌜ told r ≡ place-behind (line-text «record» (now (pool .entry))) 0 ⌝ }
+    ensures { λ r. ⌜ told-written r ≡ place-behind (line-text «record» (now (pool .entry))) 0 ⌝ }
 {
     match record {
         Record::Data { offset: _, at, len } => {
@@ -236,7 +236,7 @@ fn counted(n: usize, more: bool) -> usize
 
 // The length of what was surveyed so far with one more line and its LF, or the first refusal.
 fn longer(done: Written, line: Written) -> Written
-    ensures { λ r. ⌜ told r ≡ longer (told done) (told line) ⌝ }
+    ensures { λ r. ⌜ told-written r ≡ longer (told-written done) (told-written line) ⌝ }
 {
     match done {
         Written::Refused(e) => Written::Refused(e),

@@ -9,7 +9,7 @@ use lib.ListN.{length}
 use borrow.Author.Needs.{needs}
 use Rattle.reader.proofs.Searching.{cut-off}
 use Rattle.chunks.specs.Next.{kept-in}
-use Rattle.chunks.specs.Helpers.{held, Passed, Grown}
+use Rattle.chunks.specs.Helpers.{held, Up-to-LF, Grown}
 use Rattle.chunks.proofs.Runs.{gathered-line, gathered-plain, some-CR, gathered-CR}
 use Rattle.chunks.proofs.gather.Statement.{statement}
 use Rattle.chunks.proofs.gather.Tie as tie
@@ -80,7 +80,7 @@ returns-4 c =
     let f = c .before .before .before .before .before .before .first-line in
     let k = c .before .before .before .copy in
     let len = length (now (f .result)) in
-    subst (λ (x : Bool). Passed (now (a .chunk)) (a .position) (held (now (a .carry)) (a .used) (a .skipped) x) (a .position + f .last .1 .0 - 1) (held (k .last .1 .0) (a .used + len) (a .skipped) false) × Grown (now (a .carry)) (a .used) (kept-in (k .last .1 .0) (a .used + len) (a .skipped)) (a .used + len) (a .skipped) (k .last .1 .0)) (sym (c .before .before .before .before .before .before .before .before .before .before .if1 .left))
+    subst (λ (x : Bool). Up-to-LF (now (a .chunk)) (a .position) (held (now (a .carry)) (a .used) (a .skipped) x) (a .position + f .last .1 .0 - 1) (held (k .last .1 .0) (a .used + len) (a .skipped) false) × Grown (now (a .carry)) (a .used) (kept-in (k .last .1 .0) (a .used + len) (a .skipped)) (a .used + len) (a .skipped) (k .last .1 .0)) (sym (c .before .before .before .before .before .before .before .before .before .before .if1 .left))
     (gathered-line (now (a .chunk)) (a .position) (now (a .carry)) (a .used) (a .skipped) (now (f .result)) (f .last .1 .0) (k .last .1 .0) (c .before .before .before .before .before .before .before .before .before .before .before .before .before .pre .0) (c .before .before .before .before .before .before .before .before .before .before .before .before .before .pre .1) (c .before .before .before .before .before .before .before .before .before .before .before .before .before .pre .2) (cut-off (f .ensures)) (c .before .before .before .before .before .if3 .left) (k .ensures) (c .if4 .taken))
 
 ends-in-cr-requires : tie.Need-ends-in-cr-requires
@@ -101,7 +101,7 @@ returns-5 c =
     let f = c .before .before .before .before .before .before .before .before .first-line in
     let k = c .before .before .before .before .before .copy in
     let len = length (now (f .result)) in
-    subst (λ (x : Bool). Passed (now (a .chunk)) (a .position) (held (now (a .carry)) (a .used) (a .skipped) x) (a .position + f .last .1 .0) (held (k .last .1 .0) (a .used + len - 1) (a .skipped) true) × Grown (now (a .carry)) (a .used) (kept-in (k .last .1 .0) (a .used + len - 1) (a .skipped)) (a .used + len - 1) (a .skipped) (k .last .1 .0)) (sym (c .before .before .before .before .before .before .before .before .before .before .before .before .if1 .left))
+    subst (λ (x : Bool). Up-to-LF (now (a .chunk)) (a .position) (held (now (a .carry)) (a .used) (a .skipped) x) (a .position + f .last .1 .0) (held (k .last .1 .0) (a .used + len - 1) (a .skipped) true) × Grown (now (a .carry)) (a .used) (kept-in (k .last .1 .0) (a .used + len - 1) (a .skipped)) (a .used + len - 1) (a .skipped) (k .last .1 .0)) (sym (c .before .before .before .before .before .before .before .before .before .before .before .before .if1 .left))
     (gathered-CR (now (a .chunk)) (a .position) (now (a .carry)) (a .used) (a .skipped) (now (f .result)) (f .last .1 .0) (k .last .1 .0) (c .before .before .before .before .before .before .before .before .before .before .before .before .before .before .before .pre .0) (c .before .before .before .before .before .before .before .before .before .before .before .before .before .before .before .pre .1) (c .before .before .before .before .before .before .before .before .before .before .before .before .before .before .before .pre .2) (cut-off (f .ensures)) (c .before .before .before .before .before .before .before .if3 .left) (k .ensures) (omega (arith, c .before .before .if4 .left)) (sym (c .before .ends-in-cr .ensures) ∙ c .if5 .taken))
 
 add-t14 : tie.Need-add-t14
@@ -116,7 +116,7 @@ returns-6 c =
     let f = c .before .before .before .before .before .before .before .before .first-line in
     let k = c .before .before .before .before .before .copy in
     let len = length (now (f .result)) in
-    subst (λ (x : Bool). Passed (now (a .chunk)) (a .position) (held (now (a .carry)) (a .used) (a .skipped) x) (a .position + f .last .1 .0) (held (k .last .1 .0) (a .used + len) (a .skipped) false) × Grown (now (a .carry)) (a .used) (kept-in (k .last .1 .0) (a .used + len) (a .skipped)) (a .used + len) (a .skipped) (k .last .1 .0)) (sym (c .before .before .before .before .before .before .before .before .before .before .before .before .if1 .left))
+    subst (λ (x : Bool). Up-to-LF (now (a .chunk)) (a .position) (held (now (a .carry)) (a .used) (a .skipped) x) (a .position + f .last .1 .0) (held (k .last .1 .0) (a .used + len) (a .skipped) false) × Grown (now (a .carry)) (a .used) (kept-in (k .last .1 .0) (a .used + len) (a .skipped)) (a .used + len) (a .skipped) (k .last .1 .0)) (sym (c .before .before .before .before .before .before .before .before .before .before .before .before .if1 .left))
     (gathered-plain (now (a .chunk)) (a .position) (now (a .carry)) (a .used) (a .skipped) (now (f .result)) (f .last .1 .0) (k .last .1 .0) (c .before .before .before .before .before .before .before .before .before .before .before .before .before .before .before .pre .0) (c .before .before .before .before .before .before .before .before .before .before .before .before .before .before .before .pre .1) (c .before .before .before .before .before .before .before .before .before .before .before .before .before .before .before .pre .2) (cut-off (f .ensures)) (c .before .before .before .before .before .before .before .if3 .left) (k .ensures) (omega (arith, c .before .before .if4 .left)) (sym (c .before .ends-in-cr .ensures) ∙ c .if5 .left))
 
 pub gather-spec : {M : Type 1} → statement M

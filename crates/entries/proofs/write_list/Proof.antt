@@ -7,9 +7,9 @@ use denote.Ref.{now}
 use Rattle.record.specs.declared.Record.{Record}
 use Rattle.writer.specs.Object.{object}
 use Rattle.writer.proofs.Stepping.{object-written}
-use Rattle.entries.specs.declared.Surveyed.{Surveyed}
+use Rattle.entries.specs.declared.ListSurvey.{ListSurvey}
 use Rattle.entries.specs.Entry.{records-of}
-use Rattle.entries.specs.Helpers.{Surveyed-as}
+use Rattle.entries.specs.Helpers.{ListSurvey-as}
 use Rattle.entries.proofs.Listing.{listed-length}
 use Rattle.entries.proofs.Attempts.{not-given, made}
 use borrow.Author.Needs.{needs}
@@ -19,13 +19,13 @@ use Rattle.entries.proofs.write_list.Tie as tie
 write-each-requires : tie.Need-write-each-requires
 write-each-requires c κs =
     let s = c .before .before .before .before .before .before .before .before .before .args in
-    subst (λ (x : Surveyed). Surveyed-as (now (s .list)) (now (s .pool)) x) (c .before .before .before .surveyed .given .1) (c .before .before .before .before .before .survey-list .ensures) .listed
+    subst (λ (x : ListSurvey). ListSurvey-as (now (s .list)) (now (s .pool)) x) (c .before .before .before .surveyed .given .1) (c .before .before .before .before .before .survey-list .ensures) .listed
 
 returns : tie.Need-returns
 returns c =
     let s = c .before .before .before .before .before .before .args in
     not-given (λ (rs : List Record). object rs (now (s .pool))) (records-of (now (s .list))) (now (s .out))
-    (subst (λ (x : Surveyed). Surveyed-as (now (s .list)) (now (s .pool)) x) (c .enum-told .given .1) (c .before .before .survey-list .ensures))
+    (subst (λ (x : ListSurvey). ListSurvey-as (now (s .list)) (now (s .pool)) x) (c .enum-told .given .1) (c .before .before .survey-list .ensures))
 
 returns-2 : tie.Need-returns-2
 returns-2 c =
@@ -33,7 +33,7 @@ returns-2 c =
     let list = now (s .args .list) in
     let pool = now (s .args .pool) in
     let x = c .before .before .before .before .before .before .surveyed .given in
-    let whole = subst (λ (y : Surveyed). Surveyed-as list pool y) (x .1) (c .before .before .before .before .before .before .before .before .survey-list .ensures) in
+    let whole = subst (λ (y : ListSurvey). ListSurvey-as list pool y) (x .1) (c .before .before .before .before .before .before .before .before .survey-list .ensures) in
     let rs = whole .listed .records in
     let b = c .before .before .before .before .begin in
     let w = c .before .before .write-each in

@@ -2,7 +2,7 @@
 -- Assumes nothing.
 use mathlib.Core.Path.{ap}
 use mathlib.Core.Option.{some}
-use Rattle.writer.specs.Told.{Told}
+use Rattle.writer.specs.Told.{Told-written}
 use Rattle.codes.specs.Codes.{writing}
 use Rattle.codes.proofs.Codes.{coded}
 use borrow.Author.Needs.{needs}
@@ -11,7 +11,7 @@ use Rattle.ihex.proofs.ihex_page_file_length.Tie as tie
 
 returns : tie.Need-returns
 returns c =
-    let k = coded (ap (λ (t : Told). writing (some t)) (c .before .page-file-length .ensures .answer)) (c .code-paged .ensures) in
+    let k = coded (ap (λ (t : Told-written). writing (some t)) (c .before .page-file-length .ensures .answer)) (c .code-paged .ensures) in
     record { code-is = k .code-is; value-is = k .a-is }
 
 pub ihex-page-file-length-spec : {M : Type 1} → statement M

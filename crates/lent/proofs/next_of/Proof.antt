@@ -41,8 +41,8 @@ use Rattle.reader.specs.declared.Reader.{Reader}
 use Rattle.reader.specs.declared.State.{State}
 use Rattle.reader.proofs.State as S
 use Rattle.reader.proofs.State.Laws as S′
-use Rattle.reader.proofs.Step as N
-use Rattle.reader.proofs.Step.Laws as N′
+use Rattle.reader.proofs.Replied as N
+use Rattle.reader.proofs.Replied.Laws as N′
 use Rattle.lent.proofs.Asking.{Next, R, D, L, mach, machN, Heard, stepped, stepped-is, OwnP, asks}
 use Rattle.reader.proofs.Reply as Rp
 use Rattle.reader.proofs.Reply.Laws as Rp′

@@ -51,13 +51,13 @@ use Rattle.reader.specs.Held.{Opened}
 use Rattle.reader.specs.declared.Reader.{Reader}
 use Rattle.reader.specs.declared.ReaderOptions.{ReaderOptions}
 use Rattle.reader.specs.declared.State.{State}
-use Rattle.reader.specs.declared.Step.{Step}
+use Rattle.reader.specs.declared.Replied.{Replied}
 use Rattle.reader.proofs.ReaderOptions as O
 use Rattle.reader.proofs.ReaderOptions.Laws as O′
 use Rattle.reader.proofs.State as S
 use Rattle.reader.proofs.State.Laws as S′
-use Rattle.reader.proofs.Step as N
-use Rattle.reader.proofs.Step.Laws as N′
+use Rattle.reader.proofs.Replied as N
+use Rattle.reader.proofs.Replied.Laws as N′
 use Rattle.lent.proofs.Asking.{Next, R, D, L, mach, machN, Heard, stepped, stepped-is, OwnP, Asker, asks}
 use Rattle.lent.proofs.Turns.{after, goes-on, the-last}
 use Rattle.reader.proofs.Reply as Rp
@@ -168,7 +168,7 @@ module _ {M : Type 1} (𝓤 : URA M) (H : Heap 𝓤) (A : Atoms 𝓤) (W : Given
   new-said : (r : Reader) → ent 𝓤 (ensured 𝓤 H A new.ended (new.clauses 𝓤 H A mem run) (κ, tt) both tt r) (fact 𝓤 (Opened s d r))
   new-said r = exE 𝓤 _ (λ ws. snd∗ 𝓤 (sem 𝓤 H A (lasts new.ended (κ, tt) both ws)) (fact 𝓤 (Opened s d r)))
 
-  exits : (r : Step) (zs : List ℕ) → Is N.the-row r (machN r ∷ []) → length zs ≡ length bytes → Meets all r zs
+  exits : (r : Replied) (zs : List ℕ) → Is N.the-row r (machN r ∷ []) → length zs ≡ length bytes → Meets all r zs
       → ent 𝓤 (⋆ 𝓤 H A (‵ (flft κ q) ∷ ‵ (flft κ″ q″) ∷ ‵ Own ∷ ‵ (OwnP′ zs) ∷ [])) (Post (machN r))
   exits r zs is same fine =
       qed W (‵ (flft κ q) ∷ ‵ (flft κ″ q″) ∷ ‵ Own ∷ ‵ (OwnP′ zs) ∷ []) ∵

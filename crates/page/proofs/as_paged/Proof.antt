@@ -1,7 +1,7 @@
 -- `page::as_paged` meets its contract: the one refusal that there can be is 15.
 -- Assumes nothing.
 use mathlib.Core.Path.{sym, _∙_, ap}
-use Rattle.writer.specs.Told.{told, refuses}
+use Rattle.writer.specs.Told.{told-written, refuses}
 use borrow.Author.Needs.{needs}
 use Rattle.page.proofs.as_paged.Statement.{statement}
 use Rattle.page.proofs.as_paged.Tie as tie
@@ -13,11 +13,11 @@ enum-told : tie.Need-enum-told
 enum-told c = search needs
 
 returns : tie.Need-returns
-returns c = sym (ap told (c .before .answer .given .1))
+returns c = sym (ap told-written (c .before .answer .given .1))
 
 returns-2 : tie.Need-returns-2
 returns-2 c =
-    let e = ap told (c .enum-told .given .1) in
+    let e = ap told-written (c .enum-told .given .1) in
     sym (e ∙ ap refuses (c .before .before .pre _ e))
 
 pub as-paged-spec : {M : Type 1} → statement M

@@ -4,20 +4,20 @@ use mathlib.Core.Path.{_≡_, subst}
 use lib.ListN.{length}
 use denote.Ref.{now}
 use borrow.Author.Needs.{needs}
-use Rattle.writer.specs.Told.{wrote, told}
+use Rattle.writer.specs.Told.{wrote, told-written}
 use Rattle.page.specs.File.{file}
-use Rattle.page.specs.Helpers.{Surveyed-whole, Surveyed-as}
+use Rattle.page.specs.Helpers.{PageSurvey-whole, PageSurvey-as}
 use Rattle.page.proofs.Answers.{surveyed-length, never-refused, length-refused, length-told}
 use Rattle.page.proofs.page_file_length.Statement.{statement}
 use Rattle.page.proofs.page_file_length.Tie as tie
 
 -- what the survey found
-whole : (c : tie.After-answer) → let a = c .before .before .before .before .before .before .before .args in Surveyed-whole (a .first) (now (a .page)) (now (a .marks)) (c .before .before .s .given .0 .0)
+whole : (c : tie.After-answer) → let a = c .before .before .before .before .before .before .before .args in PageSurvey-whole (a .first) (now (a .page)) (now (a .marks)) (c .before .before .s .given .0 .0)
 whole c =
     let a = c .before .before .before .before .before .before .before .args in
-    subst (Surveyed-as (a .first) (now (a .page)) (now (a .marks))) (c .before .before .s .given .1) (c .before .before .before .before .survey-page .ensures)
+    subst (PageSurvey-as (a .first) (now (a .page)) (now (a .marks))) (c .before .before .s .given .1) (c .before .before .before .before .survey-page .ensures)
 
-surveyed : (c : tie.After-answer) → let a = c .before .before .before .before .before .before .before .args in told (c .answer .result) ≡ wrote (length (file (a .first) (now (a .page)) (now (a .marks))))
+surveyed : (c : tie.After-answer) → let a = c .before .before .before .before .before .before .before .args in told-written (c .answer .result) ≡ wrote (length (file (a .first) (now (a .page)) (now (a .marks))))
 surveyed c =
     let a = c .before .before .before .before .before .before .before .args in
     surveyed-length (a .first) (now (a .page)) (now (a .marks)) (c .before .before .s .given .0 .0) (whole c) (c .answer .result) (c .answer .ensures)
@@ -40,7 +40,7 @@ as-paged-requires c κs = never-refused (c .answer .result) _ (surveyed c)
 returns : tie.Need-returns
 returns c =
     let a = c .before .before .before .before .before .before .args in
-    length-refused (a .first) (now (a .page)) (now (a .marks)) (c .before .e .given .0 .0) (subst (Surveyed-as (a .first) (now (a .page)) (now (a .marks))) (c .before .e .given .1) (c .before .before .before .survey-page .ensures))
+    length-refused (a .first) (now (a .page)) (now (a .marks)) (c .before .e .given .0 .0) (subst (PageSurvey-as (a .first) (now (a .page)) (now (a .marks))) (c .before .e .given .1) (c .before .before .before .survey-page .ensures))
 
 returns-2 : tie.Need-returns-2
 returns-2 c =

@@ -6,16 +6,16 @@ use denote.Ref.{now}
 use borrow.Author.Needs.{needs}
 use Rattle.writer.specs.Text.{Writes}
 use Rattle.page.specs.File.{file, page-text}
-use Rattle.page.specs.Helpers.{Surveyed-whole, Surveyed-as}
+use Rattle.page.specs.Helpers.{PageSurvey-whole, PageSurvey-as}
 use Rattle.page.proofs.Answers.{file-written, only-full, page-refused, page-told}
 use Rattle.page.proofs.write_page.Statement.{statement}
 use Rattle.page.proofs.write_page.Tie as tie
 
 -- what the survey found
-whole : (c : tie.After-begin) → let a = c .before .before .before .before .before .before .before .before .args in Surveyed-whole (a .first) (now (a .page)) (now (a .marks)) (c .before .before .s .given .0 .0)
+whole : (c : tie.After-begin) → let a = c .before .before .before .before .before .before .before .before .args in PageSurvey-whole (a .first) (now (a .page)) (now (a .marks)) (c .before .before .s .given .0 .0)
 whole c =
     let a = c .before .before .before .before .before .before .before .before .args in
-    subst (Surveyed-as (a .first) (now (a .page)) (now (a .marks))) (c .before .before .s .given .1) (c .before .before .before .before .survey-page .ensures)
+    subst (PageSurvey-as (a .first) (now (a .page)) (now (a .marks))) (c .before .before .s .given .1) (c .before .before .before .before .survey-page .ensures)
 
 -- what was written
 writes : (c : tie.After-write-records) → let s = c .before .before .before .before .before .before .before .before .before .before .args in
@@ -51,7 +51,7 @@ returns : tie.Need-returns
 returns c =
     let a = c .before .before .before .before .before .before .before .args in
     page-refused (a .first) (now (a .page)) (now (a .marks)) (now (a .out)) (c .before .e .given .0 .0)
-    (subst (Surveyed-as (a .first) (now (a .page)) (now (a .marks))) (c .before .e .given .1) (c .before .before .before .survey-page .ensures))
+    (subst (PageSurvey-as (a .first) (now (a .page)) (now (a .marks))) (c .before .e .given .1) (c .before .before .before .survey-page .ensures))
 
 same-length : tie.Need-same-length
 same-length c = search needs

@@ -5,7 +5,7 @@ use mathlib.Core.Path.{_≡_, sym, _∙_, ap}
 use mathlib.Core.Option.{none}
 use denote.Ref.{now}
 use lib.ListN.{length}
-use Rattle.writer.specs.Told.{told}
+use Rattle.writer.specs.Told.{told-written}
 use Rattle.writer.specs.Line.{line-refusal, line}
 use Rattle.writer.proofs.Answers.{there, not-there, full, written-there}
 use borrow.Author.Needs.{needs}
@@ -19,7 +19,7 @@ measured : (c : tie.After-known-told2)
 measured c =
     let a = c .before .before .before .before .before .before .args in
     there (line-refusal (a .«record») (length (now (a .pool)))) (line (a .«record») (now (a .pool))) (c .before .measured2 .given .0 .0)
-    (sym (ap told (c .before .measured2 .given .1)) ∙ c .before .before .before .measure .ensures)
+    (sym (ap told-written (c .before .measured2 .given .1)) ∙ c .before .before .before .measure .ensures)
 
 measure-requires : tie.Need-measure-requires
 measure-requires c κs = search needs
@@ -43,7 +43,7 @@ returns-2 : tie.Need-returns-2
 returns-2 c =
     let a = c .before .before .before .before .before .before .args in
     not-there (line-refusal (a .«record») (length (now (a .pool)))) (line (a .«record») (now (a .pool))) (line (a .«record») (now (a .pool))) (now (a .out)) 0 (c .before .measured .given .0 .0)
-    (sym (ap told (c .before .measured .given .1)) ∙ c .before .before .before .measure .ensures)
+    (sym (ap told-written (c .before .measured .given .1)) ∙ c .before .before .before .measure .ensures)
 
 same-length : tie.Need-same-length
 same-length c = search needs

@@ -5,7 +5,7 @@ use mathlib.Core.Path.{_≡_, sym, _∙_, ap}
 use mathlib.Core.Option.{none}
 use denote.Ref.{now}
 use lib.ListN.{length, set, length-append}
-use Rattle.writer.specs.Told.{told}
+use Rattle.writer.specs.Told.{told-written}
 use Prim.Native.Nat.{_+_}
 use mathlib.Core.List.{[], _∷_}
 use Rattle.writer.specs.Line.{line-refusal, line, ended-line}
@@ -22,7 +22,7 @@ measured : (c : tie.After-known-told2)
 measured c =
     let a = c .before .before .before .before .before .before .args in
     there (line-refusal (a .«record») (length (now (a .pool)))) (line (a .«record») (now (a .pool))) (c .before .measured2 .given .0 .0)
-    (sym (ap told (c .before .measured2 .given .1)) ∙ c .before .before .before .measure .ensures)
+    (sym (ap told-written (c .before .measured2 .given .1)) ∙ c .before .before .before .measure .ensures)
 
 measure-requires : tie.Need-measure-requires
 measure-requires c κs = search needs
@@ -66,7 +66,7 @@ returns-3 : tie.Need-returns-3
 returns-3 c =
     let a = c .before .before .before .before .before .before .args in
     not-there (line-refusal (a .«record») (length (now (a .pool)))) (line (a .«record») (now (a .pool))) (ended-line (a .«record») (now (a .pool))) (now (a .out)) (a .at) (c .before .measured .given .0 .0)
-    (sym (ap told (c .before .measured .given .1)) ∙ c .before .before .before .measure .ensures)
+    (sym (ap told-written (c .before .measured .given .1)) ∙ c .before .before .before .measure .ensures)
 
 same-length : tie.Need-same-length
 same-length c = search needs

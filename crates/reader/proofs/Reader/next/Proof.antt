@@ -50,12 +50,12 @@ use denote.Exit.{yes}
 use Rattle.reader.specs.Text.{Next}
 use Rattle.reader.specs.declared.Reader.{Reader}
 use Rattle.reader.specs.declared.State.{State}
-use Rattle.reader.specs.declared.Step.{Step}
+use Rattle.reader.specs.declared.Replied.{Replied}
 use Rattle.reader.specs.declared.Reply.{Reply}
 use Rattle.reader.proofs.State as S
 use Rattle.reader.proofs.State.Laws as S′
-use Rattle.reader.proofs.Step as N
-use Rattle.reader.proofs.Step.Laws as N′
+use Rattle.reader.proofs.Replied as N
+use Rattle.reader.proofs.Replied.Laws as N′
 use Rattle.reader.proofs.Reply as Rp
 use Rattle.reader.proofs.Reply.Laws as Rp′
 use Rattle.reader.proofs.Reader as T
@@ -73,7 +73,7 @@ use Rattle.reader.proofs.Reader.next.Code as code
 abbrev machS : State → Val
 machS d = LL.val S.the-type S′.the-laws d
 
-abbrev machN : Step → Val
+abbrev machN : Replied → Val
 machN d = LL.val N.the-type N′.the-laws d
 
 abbrev machR : Reply → Val
@@ -130,7 +130,7 @@ module _ {M : Type 1} (𝓤 : URA M) (H : Heap 𝓤) (A : Atoms 𝓤) (W : Given
   Post = walkOf 𝓤 H A next.ended stayed (next.clauses 𝓤 H A at-mem run) .post (((κ, (κ′, (κ″, tt))), (q, (q′, (q″, tt))), bounds, a, at), tt)
 
   -- what the callee ensures
-  abbrev Said : Step → List ℕ → Type 0
+  abbrev Said : Replied → List ℕ → Type 0
   Said n zs = Next (h .state) (h .text .now) (x .now) put n zs
 
   -- the same text, at another place
@@ -162,7 +162,7 @@ module _ {M : Type 1} (𝓤 : URA M) (H : Heap 𝓤) (A : Atoms 𝓤) (W : Given
   again : (s : State) → Is S.the-row s (machS s ∷ []) → ent 𝓤 (sem 𝓤 H A (R .own h (mach h ∷ []))) (sem 𝓤 H A (R .own (h′ s) (mach (h′ s) ∷ [])))
   again s is = qed W (‵ (R .own h (mach h ∷ [])) ∷ []) ∵ owned ! S.the-row (Is S.the-row) (LL.makes S.the-type S′.the-plain 𝓤 H A) s _ is $ move ! (1 ∷ 0 ∷ []) $ by ! (own-put 𝓤 H A W D L 1 vh s (mach h))
 
-  exits : (n : Step) (zs : List ℕ) → Said n zs → length zs ≡ length (x .now) → Is Rp.the-row (n .reply) (machR (n .reply) ∷ [])
+  exits : (n : Replied) (zs : List ℕ) → Said n zs → length zs ≡ length (x .now) → Is Rp.the-row (n .reply) (machR (n .reply) ∷ [])
       → ent 𝓤 (⋆ 𝓤 H A (‵ (fobs γ (R .coded .code (h′ (n .state)))) ∷ ‵ (fbor κ (Body (mem R) b o γ)) ∷ ‵ (flft κ q) ∷ Toks ∷ ‵ (finally u8 (x .name) zs) ∷ [])) (Post (machR (n .reply)))
   exits n zs e l is-r =
       qed W (‵ (fobs γ (R .coded .code (h′ (n .state)))) ∷ ‵ (fbor κ (Body (mem R) b o γ)) ∷ ‵ (flft κ q) ∷ Toks ∷ ‵ (finally u8 (x .name) zs) ∷ []) ∵
@@ -195,7 +195,7 @@ module _ {M : Type 1} (𝓤 : URA M) (H : Heap 𝓤) (A : Atoms 𝓤) (W : Given
         move ! (7 ∷ []) $ fsplit ! $ move ! (1 ∷ []) $ drop ! $ move ! (7 ∷ 1 ∷ 0 ∷ []) $
         use3 W (raw (By-value 𝓤 H A at-mem run .pre to)) (goes (LL.owed D L h _ g .1 .0)) $
         calls-at ! fm (By-value 𝓤 H A at-mem run) known to (and-then ! (load ! (from ! (stop !)) (look ! 12 refl)) (and-then ! (load ! (from ! (stop !)) (look ! 10 refl)) (and-then ! (load ! (from ! (stop !)) (look ! 6 refl)) (and-then ! (load ! (from ! (stop !)) (look ! 16 refl)) (no-more !))))) (λ u.
-        use1 W (later (some (λ (n : Step). (Toks ⊛ ‵ (N.the-row .own n (u ∷ []))) ⊛ raw (ensured 𝓤 H A value.ended (value.clauses 𝓤 H A at-mem run) (κ′, (κ″, tt)) args tt n)))) (id⊢ 𝓤 _) $ await ! tt $ pick ! (λ n.
+        use1 W (later (some (λ (n : Replied). (Toks ⊛ ‵ (N.the-row .own n (u ∷ []))) ⊛ raw (ensured 𝓤 H A value.ended (value.clauses 𝓤 H A at-mem run) (κ′, (κ″, tt)) args tt n)))) (id⊢ 𝓤 _) $ await ! tt $ pick ! (λ n.
         -- what `State::next` ensures, at some last list of the pool
         split ! $ move ! (1 ∷ []) $ use1 W (some (λ (zs : Lasts value.ended (κ′, (κ″, tt)) args). ‵ (lasts value.ended (κ′, (κ″, tt)) args zs) ⊛ raw (fact 𝓤 (Said n (zs .1 .1 .0))))) (id⊢ 𝓤 _) $ pick ! (λ zs.
         split ! $ move ! (1 ∷ []) $ heard ! (Said n (zs .1 .1 .0)) (λ e. fsplit ! $ drop ! $ fsplit ! $ drop ! $ fsplit ! $ fsplit ! $ move ! (1 ∷ []) $ feqL ! (λ l. move ! (1 ∷ []) $ drop ! $

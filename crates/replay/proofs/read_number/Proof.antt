@@ -1,10 +1,10 @@
--- `replay::number` is safe and ends: nothing has to hold from turn to turn, and the measure is what is left of the text.
+-- `replay::read_number` is safe and ends: nothing has to hold from turn to turn, and the measure is what is left of the text.
 -- Assumes nothing.
 use Prim.Native.Nat.{_-_}
 use lib.ListN.{length}
 use borrow.Author.Needs.{needs}
-use Rattle.replay.proofs.number.Statement.{statement}
-use Rattle.replay.proofs.number.Tie as tie
+use Rattle.replay.proofs.read_number.Statement.{statement}
+use Rattle.replay.proofs.read_number.Tie as tie
 
 abbrev Inv-loop : tie.InvT-loop
 Inv-loop text from value₀ i₀ value i = Unit {0}
@@ -39,8 +39,8 @@ returns c = search needs
 returns-2 : tie.Need-returns-2 Inv-loop μ-loop
 returns-2 c = search needs
 
-pub number-spec : {M : Type 1} → statement M
-number-spec =
+pub read-number-spec : {M : Type 1} → statement M
+read-number-spec =
     tie.close
     (tie.spec
     Inv-loop
