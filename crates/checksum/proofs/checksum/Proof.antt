@@ -22,27 +22,12 @@ abbrev μ-loop : tie.MeasureT-loop
 loop-holds : tie.Need-loop-holds Inv-loop μ-loop
 loop-holds c = (omega arith, omega arith)
 
-shared-slice-read-wrapping-add-u8 : tie.Need-shared-slice-read-wrapping-add-u8 Inv-loop μ-loop
-shared-slice-read-wrapping-add-u8 c = search needs
-
-wrapping-add-u8-requires : tie.Need-wrapping-add-u8-requires Inv-loop μ-loop
-wrapping-add-u8-requires c κs = search needs
-
-add-i : tie.Need-add-i Inv-loop μ-loop
-add-i c = search needs
-
-loop-less : tie.Need-loop-less Inv-loop μ-loop
-loop-less c = search needs
-
 loop-again : tie.Need-loop-again Inv-loop μ-loop
 loop-again c =
     let l = now (c .before .before .before .before .before .args .bytes) in
     let s = c .before .before .before .loop in
     let e = sum-drop l (s .i) (c .before .before .loop-test .taken) in
     (search needs, omega (arith, c .wrapping-add-u8 .ensures))
-
-wrapping-sub-u8-requires : tie.Need-wrapping-sub-u8-requires Inv-loop μ-loop
-wrapping-sub-u8-requires c κs = search needs
 
 returns : tie.Need-returns Inv-loop μ-loop
 unfolding negated-sum Checksum.sum
@@ -59,10 +44,10 @@ checksum-spec =
     Inv-loop
     μ-loop
     loop-holds
-    shared-slice-read-wrapping-add-u8
-    wrapping-add-u8-requires
-    add-i
-    loop-less
+    (λ c. search needs)
+    (λ c κs. search needs)
+    (λ c. search needs)
+    (λ c. search needs)
     loop-again
-    wrapping-sub-u8-requires
+    (λ c κs. search needs)
     returns)

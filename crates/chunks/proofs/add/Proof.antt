@@ -9,22 +9,10 @@ use Rattle.chunks.proofs.Carry.{onward, added-CR, added}
 use Rattle.chunks.proofs.add.Statement.{statement}
 use Rattle.chunks.proofs.add.Tie as tie
 
-with-cr-requires : tie.Need-with-cr-requires
-with-cr-requires c κs = search needs
-
-same-length : tie.Need-same-length
-same-length c = search needs
-
 returns : tie.Need-returns
 returns c =
     let a = c .before .before .before .before .before .before .args in
     rw (added-CR (held (now (a .carry)) (a .used) (a .skipped) (a .cr)) (a .c) (c .if1 .taken)) (c .before .before .before .with-cr .ensures, refl)
-
-push-requires : tie.Need-push-requires
-push-requires c κs = search needs
-
-same-length-2 : tie.Need-same-length-2
-same-length-2 c = search needs
 
 returns-2 : tie.Need-returns-2
 returns-2 c =
@@ -39,4 +27,4 @@ returns-2 c =
 
 pub add-spec : {M : Type 1} → statement M
 add-spec =
-    tie.close (tie.spec with-cr-requires same-length returns push-requires same-length-2 returns-2)
+    tie.close (tie.spec (λ c κs. search needs) (λ c. search needs) returns (λ c κs. search needs) (λ c. search needs) returns-2)

@@ -20,21 +20,6 @@ abbrev μ-loop : tie.MeasureT-loop
 loop-holds : tie.Need-loop-holds Inv-loop μ-loop
 loop-holds c = (omega arith, refl, paste-zero (now (c .args .carry)) (c .args .used) (now (c .args .line)))
 
-shared-slice-read-carry : tie.Need-shared-slice-read-carry Inv-loop μ-loop
-shared-slice-read-carry c = search needs
-
-add-carry : tie.Need-add-carry Inv-loop μ-loop
-add-carry c = search needs
-
-slice-write-carry : tie.Need-slice-write-carry Inv-loop μ-loop
-slice-write-carry c = search needs
-
-add-i : tie.Need-add-i Inv-loop μ-loop
-add-i c = search needs
-
-loop-less : tie.Need-loop-less Inv-loop μ-loop
-loop-less c = search needs
-
 loop-again : tie.Need-loop-again Inv-loop μ-loop
 loop-again c =
     let a = c .before .before .before .args in
@@ -61,11 +46,11 @@ copy-spec =
     Inv-loop
     μ-loop
     loop-holds
-    shared-slice-read-carry
-    add-carry
-    slice-write-carry
-    add-i
-    loop-less
+    (λ c. search needs)
+    (λ c. search needs)
+    (λ c. search needs)
+    (λ c. search needs)
+    (λ c. search needs)
     loop-again
     same-length
     returns)

@@ -21,18 +21,6 @@ abbrev μ-loop : tie.MeasureT-loop
 loop-holds : tie.Need-loop-holds Inv-loop μ-loop
 loop-holds c = (refl, search needs)
 
-sub-first-line : tie.Need-sub-first-line Inv-loop μ-loop
-sub-first-line c = search needs
-
-part-first-line-start : tie.Need-part-first-line-start Inv-loop μ-loop
-part-first-line-start c = search needs
-
-part-first-line-end : tie.Need-part-first-line-end Inv-loop μ-loop
-part-first-line-end c = search needs
-
-first-line-requires : tie.Need-first-line-requires Inv-loop μ-loop
-first-line-requires c κs = search needs
-
 add-next : tie.Need-add-next Inv-loop μ-loop
 add-next c =
     let a = c .before .before .before .before .before .before .args in
@@ -73,9 +61,6 @@ returns-2 c =
     let t = turn (now (a .chunk)) (a .position) (a .empties) (s .from) (s .passed) (now (f .result)) (f .last .1 .0) (s .inv .0) (c .before .before .before .before .before .before .loop-test .taken) (cut-off (f .ensures)) in
     t .finds (omega (arith, c .before .if1 .left)) (c .if2 .taken)
 
-wrapping-add-usize-requires : tie.Need-wrapping-add-usize-requires Inv-loop μ-loop
-wrapping-add-usize-requires c κs = search needs
-
 loop-less : tie.Need-loop-less Inv-loop μ-loop
 loop-less c =
     let a = c .before .before .before .before .before .before .before .before .before .before .args in
@@ -104,16 +89,16 @@ find-spec =
     Inv-loop
     μ-loop
     loop-holds
-    sub-first-line
-    part-first-line-start
-    part-first-line-end
-    first-line-requires
+    (λ c. search needs)
+    (λ c. search needs)
+    (λ c. search needs)
+    (λ c κs. search needs)
     add-next
     sub-if1
     shared-slice-read-if1
     returns
     returns-2
-    wrapping-add-usize-requires
+    (λ c κs. search needs)
     loop-less
     loop-again
     returns-3)

@@ -25,44 +25,14 @@ found c =
     let a = c .before .before .before .before .before .before .args in
     subst (λ (x : Cut). CutAt (now (a .chunk)) (a .position) (a .empties) x) (c .from2 .given .1) (c .before .before .find .ensures)
 
-find-requires : tie.Need-find-requires
-find-requires c κs = search needs
-
-enum-known-from : tie.Need-enum-known-from
-enum-known-from c = search needs
-
 gather-requires : tie.Need-gather-requires
 gather-requires c κs = (opened (c .before .before) .inside, omega arith, c .before .before .before .before .before .before .before .before .pre .1)
-
-used-up-requires : tie.Need-used-up-requires
-used-up-requires c κs = search needs
-
-enum-known-from-2 : tie.Need-enum-known-from-2
-enum-known-from-2 c = search needs
 
 add-to : tie.Need-add-to
 add-to c = omega (arith, found (c .before) .inside)
 
-sub-read-record : tie.Need-sub-read-record
-sub-read-record c = search needs
-
-part-read-record-start : tie.Need-part-read-record-start
-part-read-record-start c = search needs
-
 part-read-record-end : tie.Need-part-read-record-end
 part-read-record-end c = found (c .before) .inside
-
-read-record-requires : tie.Need-read-record-requires
-read-record-requires c κs = search needs
-
-number-behind-requires : tie.Need-number-behind-requires
-number-behind-requires c κs = search needs
-
-settle-requires : tie.Need-settle-requires
-settle-requires c κs = search needs
-
-same-length : tie.Need-same-length
-same-length c = search needs
 
 returns : tie.Need-returns
 returns c =
@@ -72,9 +42,6 @@ returns c =
     fresh-open (a .s) (now (a .chunk)) (a .position) (a .empties) (f .0) (f .1 .0) (now (a .carry)) (now (a .pool)) (a .at)
     (g .result .position) (g .result .used) (g .result .skipped) (g .result .cr) (c .used-up .result) (g .last .1 .1 .0) (opened (c .before .before .before .before .before .before)) (g .ensures .0)
     (omega (arith, g .ensures .1 .within, g .kept .1 .1 .0, c .before .before .before .before .before .before .before .before .before .before .before .before .pre)) (c .used-up .ensures)
-
-same-length-2 : tie.Need-same-length-2
-same-length-2 c = search needs
 
 returns-2 : tie.Need-returns-2
 returns-2 c =
@@ -88,19 +55,19 @@ pub fresh-spec : {M : Type 1} → statement M
 fresh-spec =
     tie.close
     (tie.spec
-    find-requires
-    enum-known-from
+    (λ c κs. search needs)
+    (λ c. search needs)
     gather-requires
-    used-up-requires
-    enum-known-from-2
+    (λ c κs. search needs)
+    (λ c. search needs)
     add-to
-    sub-read-record
-    part-read-record-start
+    (λ c. search needs)
+    (λ c. search needs)
     part-read-record-end
-    read-record-requires
-    number-behind-requires
-    settle-requires
-    same-length
+    (λ c κs. search needs)
+    (λ c κs. search needs)
+    (λ c κs. search needs)
+    (λ c. search needs)
     returns
-    same-length-2
+    (λ c. search needs)
     returns-2)

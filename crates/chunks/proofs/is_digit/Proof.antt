@@ -7,11 +7,8 @@ use borrow.Author.Needs.{needs}
 use Rattle.chunks.proofs.is_digit.Statement.{statement}
 use Rattle.chunks.proofs.is_digit.Tie as tie
 
-digit-value-requires : tie.Need-digit-value-requires
-digit-value-requires c κs = search needs
-
 returns : tie.Need-returns
 returns c = ap (λ (v : ℕ). ltb v 16) (c .digit-value .ensures .answer)
 
 pub is-digit-spec : {M : Type 1} → statement M
-is-digit-spec = tie.close (tie.spec digit-value-requires returns)
+is-digit-spec = tie.close (tie.spec (λ c κs. search needs) returns)

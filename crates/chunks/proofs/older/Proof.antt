@@ -10,18 +10,6 @@ use Rattle.chunks.proofs.Paths.{older-open, older-line, older-empty}
 use Rattle.chunks.proofs.older.Statement.{statement}
 use Rattle.chunks.proofs.older.Tie as tie
 
-left-out-requires : tie.Need-left-out-requires
-left-out-requires c κs = search needs
-
-gather-requires : tie.Need-gather-requires
-gather-requires c κs = search needs
-
-used-up-requires : tie.Need-used-up-requires
-used-up-requires c κs = search needs
-
-same-length : tie.Need-same-length
-same-length c = search needs
-
 returns : tie.Need-returns
 returns c =
     let a = c .before .before .before .before .before .before .before .before .before .before .args in
@@ -29,21 +17,6 @@ returns c =
     let l = c .before .before .before .before .before .left-out in
     older-open (a .s) (now (a .chunk)) (a .position) (now (a .carry)) (now (a .pool)) (a .at) (g .result .position) (g .result .used) (g .result .skipped) (g .result .cr) (c .used-up .result) (g .last .1 .1 .0)
     (rw (l .ensures) at (g .ensures .0)) (c .before .if1 .taken) (omega (arith, g .ensures .1 .within, g .kept .1 .1 .0, c .before .before .before .before .before .before .before .before .before .before .pre)) (c .used-up .ensures)
-
-add-next : tie.Need-add-next
-add-next c = search needs
-
-wrapping-add-usize-requires : tie.Need-wrapping-add-usize-requires
-wrapping-add-usize-requires c κs = search needs
-
-fresh-requires : tie.Need-fresh-requires
-fresh-requires c κs = search needs
-
-same-length-2 : tie.Need-same-length-2
-same-length-2 c = search needs
-
-same-length-3 : tie.Need-same-length-3
-same-length-3 c = search needs
 
 returns-2 : tie.Need-returns-2
 returns-2 c =
@@ -55,9 +28,6 @@ returns-2 c =
     (rw (l .ensures) at (g .ensures .0)) (g .ensures .1) (c .before .before .before .before .before .before .before .before .before .if1 .left)
     _ (f .result) (f .last .1 .1 .1 .1 .0) (f .last .1 .1 .1 .1 .1 .0) (c .before .before .before .before .before .before .before .before .if2 .taken) (c .before .before .before .before .before .before .before .wrapping-add-usize .ensures) (f .ensures)
 
-slice-reshare-prefix-read-kept : tie.Need-slice-reshare-prefix-read-kept
-slice-reshare-prefix-read-kept c = search needs
-
 slice-aggregate-read-kept : tie.Need-slice-aggregate-read-kept
 slice-aggregate-read-kept c =
     let g = c .before .before .before .before .before .gather in
@@ -65,18 +35,6 @@ slice-aggregate-read-kept c =
 
 read-kept-requires : tie.Need-read-kept-requires
 read-kept-requires c κs = simp length-take (omega (arith, c .before .before .before .before .before .before .gather .ensures .1 .within))
-
-number-behind-requires : tie.Need-number-behind-requires
-number-behind-requires c κs = search needs
-
-settle-requires : tie.Need-settle-requires
-settle-requires c κs = search needs
-
-same-length-4 : tie.Need-same-length-4
-same-length-4 c = search needs
-
-same-length-5 : tie.Need-same-length-5
-same-length-5 c = search needs
 
 returns-3 : tie.Need-returns-3
 returns-3 c =
@@ -92,22 +50,22 @@ pub older-spec : {M : Type 1} → statement M
 older-spec =
     tie.close
     (tie.spec
-    left-out-requires
-    gather-requires
-    used-up-requires
-    same-length
+    (λ c κs. search needs)
+    (λ c κs. search needs)
+    (λ c κs. search needs)
+    (λ c. search needs)
     returns
-    add-next
-    wrapping-add-usize-requires
-    fresh-requires
-    same-length-2
-    same-length-3
+    (λ c. search needs)
+    (λ c κs. search needs)
+    (λ c κs. search needs)
+    (λ c. search needs)
+    (λ c. search needs)
     returns-2
-    slice-reshare-prefix-read-kept
+    (λ c. search needs)
     slice-aggregate-read-kept
     read-kept-requires
-    number-behind-requires
-    settle-requires
-    same-length-4
-    same-length-5
+    (λ c κs. search needs)
+    (λ c κs. search needs)
+    (λ c. search needs)
+    (λ c. search needs)
     returns-3)

@@ -9,17 +9,11 @@ use Rattle.chunks.proofs.place_in_line.Tie as tie
 returns : tie.Need-returns
 returns c = rw (ne-eqb (c .before .args .place) 521 (c .if1 .taken))
 
-sub-if2 : tie.Need-sub-if2
-sub-if2 c = search needs
-
 returns-2 : tie.Need-returns-2
 returns-2 c = rw (eq-eqb (c .before .before .args .place) 521 (c .before .if1 .left)) (omega arith)
-
-add-result : tie.Need-add-result
-add-result c = search needs
 
 returns-3 : tie.Need-returns-3
 returns-3 c = rw (eq-eqb (c .before .before .args .place) 521 (c .before .if1 .left)) (omega arith)
 
 pub place-in-line-spec : {M : Type 1} → statement M
-place-in-line-spec = tie.close (tie.spec returns sub-if2 returns-2 add-result returns-3)
+place-in-line-spec = tie.close (tie.spec returns (λ c. search needs) returns-2 (λ c. search needs) returns-3)

@@ -6,15 +6,6 @@ use Rattle.chunks.proofs.Moved.{reads-line}
 use Rattle.chunks.proofs.read_kept.Statement.{statement}
 use Rattle.chunks.proofs.read_kept.Tie as tie
 
-read-record-requires : tie.Need-read-record-requires
-read-record-requires c κs = search needs
-
-answer-in-line-requires : tie.Need-answer-in-line-requires
-answer-in-line-requires c κs = search needs
-
-same-length : tie.Need-same-length
-same-length c = search needs
-
 returns : tie.Need-returns
 returns c =
     let a = c .before .before .before .before .before .before .before .args in
@@ -22,4 +13,4 @@ returns c =
     reads-line (record { bytes = now (a .bytes); skipped = a .skipped }) (now (a .pool)) (a .at) (q .result) (c .answer-in-line .result) (q .last .1 .0) (c .before .before .before .before .before .before .before .pre) (q .ensures) (c .answer-in-line .ensures)
 
 pub read-kept-spec : {M : Type 1} → statement M
-read-kept-spec = tie.close (tie.spec read-record-requires answer-in-line-requires same-length returns)
+read-kept-spec = tie.close (tie.spec (λ c κs. search needs) (λ c κs. search needs) (λ c. search needs) returns)

@@ -31,12 +31,6 @@ stays skipped (UnsupportedRecordType kind) h = refl
 stays skipped InvalidLengthForType h = refl
 stays skipped PoolFull h = refl
 
-enum-known-e : tie.Need-enum-known-e
-enum-known-e c = search needs
-
-place-in-line-requires : tie.Need-place-in-line-requires
-place-in-line-requires c κs = search needs
-
 returns : tie.Need-returns
 returns c =
     let a = c .before .before .before .before .args in
@@ -46,4 +40,4 @@ returns-2 : tie.Need-returns-2
 returns-2 c = stays (c .before .args .skipped) (c .before .args .e) (c .match .keys2)
 
 pub refusal-in-line-spec : {M : Type 1} → statement M
-refusal-in-line-spec = tie.close (tie.spec enum-known-e place-in-line-requires returns returns-2)
+refusal-in-line-spec = tie.close (tie.spec (λ c. search needs) (λ c κs. search needs) returns returns-2)

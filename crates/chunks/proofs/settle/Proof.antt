@@ -7,40 +7,10 @@ use Rattle.chunks.proofs.Outcomes.{settle-read, settle-full, settle-ref
 use Rattle.chunks.proofs.settle.Statement.{statement}
 use Rattle.chunks.proofs.settle.Tie as tie
 
-enum-known-answer : tie.Need-enum-known-answer
-enum-known-answer c = search needs
-
-ends-requires : tie.Need-ends-requires
-ends-requires c κs = search needs
-
-either-requires : tie.Need-either-requires
-either-requires c κs = search needs
-
-past-line-requires : tie.Need-past-line-requires
-past-line-requires c κs = search needs
-
-enum-known-answer-2 : tie.Need-enum-known-answer-2
-enum-known-answer-2 c = search needs
-
-is-pool-full-requires : tie.Need-is-pool-full-requires
-is-pool-full-requires c κs = search needs
-
-plain-requires : tie.Need-plain-requires
-plain-requires c κs = search needs
-
 returns : tie.Need-returns
 returns c =
     let a = c .before .before .before .before .before .before .before .args in
     settle-full (a .s) (a .answer) (a .position) (a .line) (a .last) (a .lies) _ _ (c .before .before .before .before .answer2 .given .1) (sym (c .before .before .is-pool-full .ensures .answer) ∙ c .before .if1 .taken) (c .plain .ensures)
-
-either-requires-2 : tie.Need-either-requires-2
-either-requires-2 c κs = search needs
-
-past-line-requires-2 : tie.Need-past-line-requires-2
-past-line-requires-2 c κs = search needs
-
-plain-requires-2 : tie.Need-plain-requires-2
-plain-requires-2 c κs = search needs
 
 returns-2 : tie.Need-returns-2
 returns-2 c =
@@ -58,16 +28,16 @@ pub settle-spec : {M : Type 1} → statement M
 settle-spec =
     tie.close
     (tie.spec
-    enum-known-answer
-    ends-requires
-    either-requires
-    past-line-requires
-    enum-known-answer-2
-    is-pool-full-requires
-    plain-requires
+    (λ c. search needs)
+    (λ c κs. search needs)
+    (λ c κs. search needs)
+    (λ c κs. search needs)
+    (λ c. search needs)
+    (λ c κs. search needs)
+    (λ c κs. search needs)
     returns
-    either-requires-2
-    past-line-requires-2
-    plain-requires-2
+    (λ c κs. search needs)
+    (λ c κs. search needs)
+    (λ c κs. search needs)
     returns-2
     returns-3)

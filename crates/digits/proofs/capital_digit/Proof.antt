@@ -7,22 +7,13 @@ use Rattle.digits.specs.Spelling.{capital-digit}
 use Rattle.digits.proofs.capital_digit.Statement.{statement}
 use Rattle.digits.proofs.capital_digit.Tie as tie
 
-add-result : tie.Need-add-result
-add-result c = search needs
-
 returns : tie.Need-returns
 unfolding capital-digit
 returns c = record { answer = rw (lt-ltb (c .before .args .byte % 16) 10 (c .if1 .taken)) }
-
-sub-result : tie.Need-sub-result
-sub-result c = search needs
-
-add-result-2 : tie.Need-add-result-2
-add-result-2 c = search needs
 
 returns-2 : tie.Need-returns-2
 unfolding capital-digit
 returns-2 c = record { answer = rw (le-ltb (c .before .args .byte % 16) 10 (c .if1 .left)) }
 
 pub capital-digit-spec : {M : Type 1} → statement M
-capital-digit-spec = tie.close (tie.spec add-result sub-result add-result-2 returns returns-2)
+capital-digit-spec = tie.close (tie.spec (λ c. search needs) (λ c. search needs) (λ c. search needs) returns returns-2)

@@ -12,12 +12,6 @@ use borrow.Author.Needs.{needs}
 use Rattle.digits.proofs.decode.Statement.{statement}
 use Rattle.digits.proofs.decode.Tie as tie
 
-least-requires : tie.Need-least-requires
-least-requires c κs = search needs
-
-mul-n : tie.Need-mul-n
-mul-n c = search needs
-
 -- the characters of the pairs that there is room for
 taken : (n : ℕ) (ds : List ℕ) (room : ℕ) → n ≡ min (length ds / 2) room → 2 * n ≡ length (take (2 * n) ds)
 taken n ds room e = sym (length-take-le (2 * n) ds (omega arith))
@@ -37,9 +31,6 @@ decode-pairs-requires c κs =
     let a = c .before .before .before .before .before .args in
     decodable (c .before .before .least .result) (now (a .ds)) (now (a .buf)) (c .before .before .least .ensures)
 
-same-length : tie.Need-same-length
-same-length c = search needs
-
 returns : tie.Need-returns
 returns c =
     let s = c .before .before .before .before .before .before .before .before in
@@ -52,9 +43,9 @@ pub decode-spec : {M : Type 1} → statement M
 decode-spec =
     tie.close
     (tie.spec
-    least-requires
-    mul-n
+    (λ c κs. search needs)
+    (λ c. search needs)
     slice-aggregate-decode-pairs
     decode-pairs-requires
-    same-length
+    (λ c. search needs)
     returns)

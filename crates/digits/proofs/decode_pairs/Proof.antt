@@ -19,18 +19,6 @@ loop-holds c =
     let a = c .before .before .args in
     turn-first (now (a .ds)) (now (a .buf)) (c .before .before .pre)
 
-mul-p : tie.Need-mul-p Inv-loop μ-loop
-mul-p c = search needs
-
-shared-slice-read-digit-value : tie.Need-shared-slice-read-digit-value Inv-loop μ-loop
-shared-slice-read-digit-value c = search needs
-
-digit-value-requires : tie.Need-digit-value-requires Inv-loop μ-loop
-digit-value-requires c κs = search needs
-
-same-length : tie.Need-same-length Inv-loop μ-loop
-same-length c = search needs
-
 returns : tie.Need-returns Inv-loop μ-loop
 returns c =
     let t = c .before .before .before .before .loop in
@@ -38,18 +26,6 @@ returns c =
     turn-high (now (e .args .ds)) (now (e .args .buf)) (e .pre)
     (t .buf) (t .sum) (t .i) (c .before .digit-value .result)
     (t .inv) (c .before .before .before .loop-test .taken) (c .before .digit-value .ensures .answer) (c .if1 .taken)
-
-add-digit-value : tie.Need-add-digit-value Inv-loop μ-loop
-add-digit-value c = search needs
-
-shared-slice-read-digit-value-2 : tie.Need-shared-slice-read-digit-value-2 Inv-loop μ-loop
-shared-slice-read-digit-value-2 c = search needs
-
-digit-value-requires-2 : tie.Need-digit-value-requires-2 Inv-loop μ-loop
-digit-value-requires-2 c κs = search needs
-
-same-length-2 : tie.Need-same-length-2 Inv-loop μ-loop
-same-length-2 c = search needs
 
 returns-2 : tie.Need-returns-2 Inv-loop μ-loop
 returns-2 c =
@@ -60,21 +36,6 @@ returns-2 c =
     (t .inv) (c .before .before .before .before .before .before .loop-test .taken) (c .before .before .before .before .digit-value .ensures .answer) (c .before .before .before .if1 .left)
     (c .before .digit-value2 .result) (c .before .digit-value2 .ensures .answer) (c .if2 .taken)
 
-pair-requires : tie.Need-pair-requires Inv-loop μ-loop
-pair-requires c κs = search needs
-
-wrapping-add-u8-requires : tie.Need-wrapping-add-u8-requires Inv-loop μ-loop
-wrapping-add-u8-requires c κs = search needs
-
-slice-write-buf : tie.Need-slice-write-buf Inv-loop μ-loop
-slice-write-buf c = search needs
-
-add-i : tie.Need-add-i Inv-loop μ-loop
-add-i c = search needs
-
-loop-less : tie.Need-loop-less Inv-loop μ-loop
-loop-less c = search needs
-
 loop-again : tie.Need-loop-again Inv-loop μ-loop
 loop-again c =
     let t = c .before .before .before .before .before .before .before .before .before .loop in
@@ -84,9 +45,6 @@ loop-again c =
     (t .inv) (c .before .before .before .before .before .before .before .before .loop-test .taken) (c .before .before .before .before .before .before .digit-value .ensures .answer) (c .before .before .before .before .before .if1 .left)
     (c .before .before .before .digit-value2 .result) (c .before .before .before .digit-value2 .ensures .answer) (c .before .before .if2 .left)
     (c .before .pair .result) (c .wrapping-add-u8 .result) (c .before .pair .ensures) (c .wrapping-add-u8 .ensures)
-
-same-length-3 : tie.Need-same-length-3 Inv-loop μ-loop
-same-length-3 c = search needs
 
 returns-3 : tie.Need-returns-3 Inv-loop μ-loop
 returns-3 c =
@@ -101,21 +59,21 @@ decode-pairs-spec =
     Inv-loop
     μ-loop
     loop-holds
-    mul-p
-    shared-slice-read-digit-value
-    digit-value-requires
-    same-length
+    (λ c. search needs)
+    (λ c. search needs)
+    (λ c κs. search needs)
+    (λ c. search needs)
     returns
-    add-digit-value
-    shared-slice-read-digit-value-2
-    digit-value-requires-2
-    same-length-2
+    (λ c. search needs)
+    (λ c. search needs)
+    (λ c κs. search needs)
+    (λ c. search needs)
     returns-2
-    pair-requires
-    wrapping-add-u8-requires
-    slice-write-buf
-    add-i
-    loop-less
+    (λ c κs. search needs)
+    (λ c κs. search needs)
+    (λ c. search needs)
+    (λ c. search needs)
+    (λ c. search needs)
     loop-again
-    same-length-3
+    (λ c. search needs)
     returns-3)

@@ -10,9 +10,6 @@ use Rattle.digits.proofs.Hex.{hex-digit, hex-or-none}
 use Rattle.digits.proofs.digit_value.Statement.{statement}
 use Rattle.digits.proofs.digit_value.Tie as tie
 
-wrapping-sub-u8-requires : tie.Need-wrapping-sub-u8-requires
-wrapping-sub-u8-requires c κs = search needs
-
 returns : tie.Need-returns
 returns c =
     let x : ℕ = c .before .before .args .c in
@@ -20,9 +17,6 @@ returns c =
     let e : (d + _) % 256 ≡ x = c .before .wrapping-sub-u8 .ensures in
     let h : d < _ = c .if1 .taken in
     record { answer = sym (hex-digit (decimal (omega arith) (omega arith))) }
-
-wrapping-sub-u8-requires-2 : tie.Need-wrapping-sub-u8-requires-2
-wrapping-sub-u8-requires-2 c κs = search needs
 
 returns-2 : tie.Need-returns-2
 returns-2 c =
@@ -32,9 +26,6 @@ returns-2 c =
     let s : d < 256 = search needs in
     let h : _ ≤ d = c .if2 .taken in
     record { answer = sym (hex-digit (capital (omega arith) (omega arith) (omega arith))) }
-
-wrapping-sub-u8-requires-3 : tie.Need-wrapping-sub-u8-requires-3
-wrapping-sub-u8-requires-3 c κs = search needs
 
 returns-3 : tie.Need-returns-3
 returns-3 c =
@@ -71,10 +62,10 @@ pub digit-value-spec : {M : Type 1} → statement M
 digit-value-spec =
     tie.close
     (tie.spec
-    wrapping-sub-u8-requires
+    (λ c κs. search needs)
     returns
-    wrapping-sub-u8-requires-2
+    (λ c κs. search needs)
     returns-2
-    wrapping-sub-u8-requires-3
+    (λ c κs. search needs)
     returns-3
     returns-4)

@@ -23,29 +23,11 @@ module _ (s : Chunks) (carry pool : List ℕ) (r : ChunkStep) (carry′ pool′ 
   asks-some [] e n = absurd (e (omega arith))
   asks-some (c ∷ chunk) e n = n
 
-finish-requires : tie.Need-finish-requires
-finish-requires c κs = search needs
-
-same-length : tie.Need-same-length
-same-length c = search needs
-
-same-length-2 : tie.Need-same-length-2
-same-length-2 c = search needs
-
 returns : tie.Need-returns
 returns c =
     let a = c .before .before .before .before .before .before .before .before .before .before .before .args in
     let f = c .before .before .before .before .finish in
     asks-none (a .state) (now (a .carry)) (now (a .pool)) (f .result) (f .last .1 .0) (f .last .1 .1 .0) (now (a .chunk)) (c .before .before .before .before .before .before .before .if1 .taken) (f .ensures)
-
-next-requires : tie.Need-next-requires
-next-requires c κs = search needs
-
-same-length-3 : tie.Need-same-length-3
-same-length-3 c = search needs
-
-same-length-4 : tie.Need-same-length-4
-same-length-4 c = search needs
 
 returns-2 : tie.Need-returns-2
 returns-2 c =
@@ -57,11 +39,11 @@ pub ask-spec : {M : Type 1} → statement M
 ask-spec =
     tie.close
     (tie.spec
-    finish-requires
-    same-length
-    same-length-2
+    (λ c κs. search needs)
+    (λ c. search needs)
+    (λ c. search needs)
     returns
-    next-requires
-    same-length-3
-    same-length-4
+    (λ c κs. search needs)
+    (λ c. search needs)
+    (λ c. search needs)
     returns-2)

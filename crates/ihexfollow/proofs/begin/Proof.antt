@@ -6,12 +6,6 @@ use borrow.Author.Needs.{needs}
 use Rattle.ihexfollow.proofs.begin.Statement.{statement}
 use Rattle.ihexfollow.proofs.begin.Tie as tie
 
-listing-options-requires : tie.Need-listing-options-requires
-listing-options-requires c κs = search needs
-
-new-with-options-requires : tie.Need-new-with-options-requires
-new-with-options-requires c κs = search needs
-
 returns : tie.Need-returns
 returns c = record {
   state-is = c .new-with-options .ensures .answer ∙ ap new-chunks (c .before .listing-options .ensures .answer);
@@ -21,4 +15,4 @@ returns c = record {
 }
 
 pub begin-spec : {M : Type 1} → statement M
-begin-spec = tie.close (tie.spec listing-options-requires new-with-options-requires returns)
+begin-spec = tie.close (tie.spec (λ c κs. search needs) (λ c κs. search needs) returns)

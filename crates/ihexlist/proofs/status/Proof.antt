@@ -6,9 +6,6 @@ use borrow.Author.Needs.{needs}
 use Rattle.ihexlist.proofs.status.Statement.{statement}
 use Rattle.ihexlist.proofs.status.Tie as tie
 
-text-status-requires : tie.Need-text-status-requires
-text-status-requires c κs = search needs
-
 returns : tie.Need-returns
 returns c = c .text-status .ensures .answer ∙ sym (if-true _ _ _ (c .before .if1 .taken))
 
@@ -16,4 +13,4 @@ returns-2 : tie.Need-returns-2
 returns-2 c = sym (if-false _ _ _ (c .if1 .left))
 
 pub status-spec : {M : Type 1} → statement M
-status-spec = tie.close (tie.spec text-status-requires returns returns-2)
+status-spec = tie.close (tie.spec (λ c κs. search needs) returns returns-2)

@@ -13,12 +13,6 @@ use Rattle.writer.specs.Object.{WriteObject}
 use Rattle.lent.proofs.object_of.Statement.{statement}
 use Rattle.lent.proofs.object_of.Tie as tie
 
-write-front-requires : tie.Need-write-front-requires
-write-front-requires c κs = search needs
-
-same-length : tie.Need-same-length
-same-length c = search needs
-
 -- a front that has all records is every longer one
 same-front : {m n : ℕ} (all : List Record) (P : List Record → Type 0) → m < n → length all ≤ m → P (take m all) → P (take n all)
 same-front {m} {n} all P more few p = subst P (take-all m all few ∙ sym (take-all n all (omega (arith, few, more)))) p
@@ -30,22 +24,13 @@ returns c =
     same-front (s .args .records) (λ (rs : List Record). WriteObject rs (now (s .args .pool)) (now (s .args .out)) (w .result) (w .last .1 .1 .1 .0))
     (c .before .before .before .before .if1 .taken) (omega (arith, s .good .0)) (w .ensures)
 
-write-front-requires-2 : tie.Need-write-front-requires-2
-write-front-requires-2 c κs = search needs
-
-same-length-2 : tie.Need-same-length-2
-same-length-2 c = search needs
-
-returns-2 : tie.Need-returns-2
-returns-2 c = search needs
-
 pub object-of-spec : {M : Type 1} → statement M
 object-of-spec =
     tie.close
     (tie.spec
-    write-front-requires
-    same-length
+    (λ c κs. search needs)
+    (λ c. search needs)
     returns
-    write-front-requires-2
-    same-length-2
-    returns-2)
+    (λ c κs. search needs)
+    (λ c. search needs)
+    (λ c. search needs))

@@ -16,9 +16,6 @@ use borrow.Author.Needs.{needs}
 use Rattle.listing.proofs.list.Statement.{statement}
 use Rattle.listing.proofs.list.Tie as tie
 
-text-room-requires : tie.Need-text-room-requires
-text-room-requires c κs = search needs
-
 returns : tie.Need-returns
 returns c =
     let a = c .before .before .before .before .args in
@@ -28,14 +25,8 @@ returns c =
 roomy : (c : tie.Else1) → 3 * length (now (c .before .before .before .before .args .text)) + 32 ≤ length (now (c .before .before .before .before .args .out))
 roomy c = leb-true _ _ (sym (c .before .text-room .ensures) ∙ not-false _ (c .if1 .left))
 
-slice-aggregate-put-text : tie.Need-slice-aggregate-put-text
-slice-aggregate-put-text c = search needs
-
 put-text-requires : tie.Need-put-text-requires
 put-text-requires c κs = omega (arith, roomy (c .before .before .before))
-
-same-length : tie.Need-same-length
-same-length c = search needs
 
 returns-2 : tie.Need-returns-2
 returns-2 c =
@@ -58,9 +49,6 @@ put-last-requires c κs =
     let e = c .before .before .before .put-entries in
     omega (arith, roomy (c .before .before .before .before .before .before .before .before .before .before), answers-room (now (a .text)), p .ensures .place, p .kept, e .ensures .puts .place, e .kept, count-length (now (a .text)) (omega (arith, c .before .before .before .before .before .before .before .before .before .if2 .left)) (e .result .count) (e .ensures .counts))
 
-same-length-2 : tie.Need-same-length-2
-same-length-2 c = search needs
-
 returns-3 : tie.Need-returns-3
 returns-3 c =
     let a = c .before .before .before .before .before .before .before .before .before .before .before .before .before .before .before .before .before .args in
@@ -81,14 +69,14 @@ pub list-spec : {M : Type 1} → statement M
 list-spec =
     tie.close
     (tie.spec
-    text-room-requires
+    (λ c κs. search needs)
     returns
-    slice-aggregate-put-text
+    (λ c. search needs)
     put-text-requires
-    same-length
+    (λ c. search needs)
     returns-2
     put-first-requires
     put-entries-requires
     put-last-requires
-    same-length-2
+    (λ c. search needs)
     returns-3)

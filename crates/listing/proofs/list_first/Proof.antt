@@ -12,9 +12,6 @@ use borrow.Author.Needs.{needs}
 use Rattle.listing.proofs.list_first.Statement.{statement}
 use Rattle.listing.proofs.list_first.Tie as tie
 
-has-room-requires : tie.Need-has-room-requires
-has-room-requires c κs = search needs
-
 returns : tie.Need-returns
 returns c =
     let a = c .before .before .before .args in
@@ -23,9 +20,6 @@ returns c =
 put-first-requires : tie.Need-put-first-requires
 put-first-requires c κs = omega (arith, leb-true 32 (length (now (c .before .before .before .before .args .out))) (sym (c .before .before .has-room .ensures) ∙ not-false _ (c .before .if1 .left)))
 
-same-length : tie.Need-same-length
-same-length c = search needs
-
 returns-2 : tie.Need-returns-2
 returns-2 c =
     let a = c .before .before .before .before .before .before .before .args in
@@ -33,4 +27,4 @@ returns-2 c =
     writes-put (line-room 0 (length (now (a .out)))) heading (now (a .out)) (p .result) (p .last .0) (sym (c .before .before .before .before .before .has-room .ensures) ∙ not-false _ (c .before .before .before .before .if1 .left)) (p .ensures)
 
 pub list-first-spec : {M : Type 1} → statement M
-list-first-spec = tie.close (tie.spec has-room-requires returns put-first-requires same-length returns-2)
+list-first-spec = tie.close (tie.spec (λ c κs. search needs) returns put-first-requires (λ c. search needs) returns-2)

@@ -13,9 +13,6 @@ use borrow.Author.Needs.{needs}
 use Rattle.listing.proofs.list_last.Statement.{statement}
 use Rattle.listing.proofs.list_last.Tie as tie
 
-has-room-requires : tie.Need-has-room-requires
-has-room-requires c κs = search needs
-
 returns : tie.Need-returns
 returns c =
     let a = c .before .before .before .args in
@@ -26,9 +23,6 @@ put-last-requires c κs =
     let a = c .before .before .before .before .args in
     omega (arith, count-fits (a .count) (c .before .before .before .before .fits .count .fits), leb-true 32 (length (now (a .out))) (sym (c .before .before .has-room .ensures) ∙ not-false _ (c .before .if1 .left)))
 
-same-length : tie.Need-same-length
-same-length c = search needs
-
 returns-2 : tie.Need-returns-2
 returns-2 c =
     let a = c .before .before .before .before .before .before .before .args in
@@ -36,4 +30,4 @@ returns-2 c =
     writes-put (line-room 0 (length (now (a .out)))) (count-line (a .count)) (now (a .out)) (p .result) (p .last .1 .0) (sym (c .before .before .before .before .before .has-room .ensures) ∙ not-false _ (c .before .before .before .before .if1 .left)) (p .ensures)
 
 pub list-last-spec : {M : Type 1} → statement M
-list-last-spec = tie.close (tie.spec has-room-requires returns put-last-requires same-length returns-2)
+list-last-spec = tie.close (tie.spec (λ c κs. search needs) returns put-last-requires (λ c. search needs) returns-2)

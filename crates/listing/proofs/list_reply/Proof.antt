@@ -12,9 +12,6 @@ use borrow.Author.Needs.{needs}
 use Rattle.listing.proofs.list_reply.Statement.{statement}
 use Rattle.listing.proofs.list_reply.Tie as tie
 
-reply-room-requires : tie.Need-reply-room-requires
-reply-room-requires c κs = search needs
-
 returns : tie.Need-returns
 returns c =
     let a = c .before .before .before .before .args in
@@ -25,9 +22,6 @@ put-reply-requires c κs =
     let a = c .before .before .before .before .before .args in
     reply-fits (now (a .pool)) (now (a .out)) (a .reply) (sym (c .before .before .reply-room .ensures) ∙ not-false _ (c .before .if1 .left))
 
-same-length : tie.Need-same-length
-same-length c = search needs
-
 returns-2 : tie.Need-returns-2
 returns-2 c =
     let a = c .before .before .before .before .before .before .before .before .args in
@@ -36,4 +30,4 @@ returns-2 c =
 
 pub list-reply-spec : {M : Type 1} → statement M
 list-reply-spec =
-    tie.close (tie.spec reply-room-requires returns put-reply-requires same-length returns-2)
+    tie.close (tie.spec (λ c κs. search needs) returns put-reply-requires (λ c. search needs) returns-2)

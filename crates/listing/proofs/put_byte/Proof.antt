@@ -11,21 +11,6 @@ use borrow.Author.Needs.{needs}
 use Rattle.listing.proofs.put_byte.Statement.{statement}
 use Rattle.listing.proofs.put_byte.Tie as tie
 
-capital-digit-requires : tie.Need-capital-digit-requires
-capital-digit-requires c κs = search needs
-
-put-char-requires : tie.Need-put-char-requires
-put-char-requires c κs = search needs
-
-capital-digit-requires-2 : tie.Need-capital-digit-requires-2
-capital-digit-requires-2 c κs = search needs
-
-put-char-requires-2 : tie.Need-put-char-requires-2
-put-char-requires-2 c κs = search needs
-
-same-length : tie.Need-same-length
-same-length c = search needs
-
 returns : tie.Need-returns
 unfolding spelt
 returns c =
@@ -39,9 +24,9 @@ pub put-byte-spec : {M : Type 1} → statement M
 put-byte-spec =
     tie.close
     (tie.spec
-    capital-digit-requires
-    put-char-requires
-    capital-digit-requires-2
-    put-char-requires-2
-    same-length
+    (λ c κs. search needs)
+    (λ c κs. search needs)
+    (λ c κs. search needs)
+    (λ c κs. search needs)
+    (λ c. search needs)
     returns)

@@ -22,20 +22,11 @@ loop-holds : tie.Need-loop-holds Inv-loop μ-loop
 unfolding spelt
 loop-holds c = let a = c .before .before .args in (omega arith, refl, put-none (now (a .out)) (a .at))
 
-shared-slice-read-put-byte : tie.Need-shared-slice-read-put-byte Inv-loop μ-loop
-shared-slice-read-put-byte c = search needs
-
 put-byte-requires : tie.Need-put-byte-requires Inv-loop μ-loop
 put-byte-requires c κs =
     let a = c .before .before .before .before .before .before .args in
     let t = c .before .before .before .loop in
     omega (arith, bytes-place (now (a .out)) (a .at) (now (a .s)) (t .i) (t .place) (t .out) (omega arith) (t .inv .2))
-
-add-i : tie.Need-add-i Inv-loop μ-loop
-add-i c = search needs
-
-loop-less : tie.Need-loop-less Inv-loop μ-loop
-loop-less c = search needs
 
 loop-again : tie.Need-loop-again Inv-loop μ-loop
 loop-again c =
@@ -63,10 +54,10 @@ put-bytes-spec =
     Inv-loop
     μ-loop
     loop-holds
-    shared-slice-read-put-byte
+    (λ c. search needs)
     put-byte-requires
-    add-i
-    loop-less
+    (λ c. search needs)
+    (λ c. search needs)
     loop-again
     same-length
     returns)

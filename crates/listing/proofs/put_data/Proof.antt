@@ -9,17 +9,11 @@ use borrow.Author.Needs.{needs}
 use Rattle.listing.proofs.put_data.Statement.{statement}
 use Rattle.listing.proofs.put_data.Tie as tie
 
-slice-aggregate-put-text : tie.Need-slice-aggregate-put-text
-slice-aggregate-put-text c = search needs
-
 put-text-requires : tie.Need-put-text-requires
 put-text-requires c κs = let a = c .before .before .before .before .args in omega (arith, c .before .before .before .before .pre, data-length (a .offset) (now (a .payload)))
 
 put-word-requires : tie.Need-put-word-requires
 put-word-requires c κs = let a = c .before .before .before .before .before .before .before .before .args in omega (arith, c .before .before .before .before .before .before .before .before .pre, data-length (a .offset) (now (a .payload)), c .before .before .before .put-text .ensures .place)
-
-same-length : tie.Need-same-length
-same-length c = search needs
 
 returns : tie.Need-returns
 unfolding spelt
@@ -40,9 +34,6 @@ put-bytes-requires c κs =
     let a = c .before .before .before .before .before .before .before .before .before .before .before .before .before .before .before .before .before .args in
     omega (arith, c .before .before .before .before .before .before .before .before .before .before .before .before .before .before .before .before .before .pre, c .before .before .before .before .before .if1 .left, data-length (a .offset) (now (a .payload)), payload-length (now (a .payload)) (omega (arith, c .before .before .before .before .before .if1 .left)), c .before .before .before .before .before .before .before .before .before .before .before .before .put-text .ensures .place, c .before .before .before .before .before .before .before .before .put-word .ensures .place, c .before .before .before .put-char .ensures .place, c .before .before .before .put-char .kept, c .before .before .before .before .before .before .before .before .put-word .kept, c .before .before .before .before .before .before .before .before .before .before .before .before .put-text .kept)
 
-same-length-2 : tie.Need-same-length-2
-same-length-2 c = search needs
-
 returns-2 : tie.Need-returns-2
 unfolding spelt
 returns-2 c =
@@ -59,12 +50,12 @@ pub put-data-spec : {M : Type 1} → statement M
 put-data-spec =
     tie.close
     (tie.spec
-    slice-aggregate-put-text
+    (λ c. search needs)
     put-text-requires
     put-word-requires
-    same-length
+    (λ c. search needs)
     returns
     put-char-requires
     put-bytes-requires
-    same-length-2
+    (λ c. search needs)
     returns-2)

@@ -29,12 +29,6 @@ answered c =
     turned (now (a .text)) (t .state) (t .pool) (t .inv .way) (n .result) (n .last .1 .1 .0) (n .ensures)
     (sym (c .before .«done» .ensures) ∙ c .if1 .left)
 
-listing-options-requires : tie.Need-listing-options-requires Inv-loop μ-loop
-listing-options-requires c κs = search needs
-
-new-with-options-requires : tie.Need-new-with-options-requires Inv-loop μ-loop
-new-with-options-requires c κs = search needs
-
 loop-holds : tie.Need-loop-holds Inv-loop μ-loop
 loop-holds c =
     let a = c .before .before .before .before .args in
@@ -43,15 +37,6 @@ loop-holds c =
 slice-aggregate-next : tie.Need-slice-aggregate-next Inv-loop μ-loop
 slice-aggregate-next c = omega (arith, c .before .loop .inv .way .pool-size)
 
-next-requires : tie.Need-next-requires Inv-loop μ-loop
-next-requires c κs = search needs
-
-done-requires : tie.Need-done-requires Inv-loop μ-loop
-done-requires c κs = search needs
-
-same-length : tie.Need-same-length Inv-loop μ-loop
-same-length c = search needs
-
 returns : tie.Need-returns Inv-loop μ-loop
 returns c =
     let a = c .before .before .before .before .before .before .before .before .before .before .args in
@@ -59,9 +44,6 @@ returns c =
     let n = c .before .before .before .next in
     turn-last (now (a .text)) (now (a .out)) (a .at) (t .out) (t .pool) (t .state) (t .place) (t .count) (t .inv) (c .before .before .before .before .before .before .before .before .before .before .pre .room)
     (ran-out (now (a .text)) (t .state) (t .pool) (t .inv .way) (n .result) (n .last .1 .1 .0) (n .ensures) (sym (c .before .done .ensures) ∙ c .if1 .taken))
-
-slice-aggregate-put-reply : tie.Need-slice-aggregate-put-reply Inv-loop μ-loop
-slice-aggregate-put-reply c = search needs
 
 put-reply-requires : tie.Need-put-reply-requires Inv-loop μ-loop
 put-reply-requires c κs =
@@ -104,15 +86,15 @@ put-entries-spec =
     (tie.spec
     Inv-loop
     μ-loop
-    listing-options-requires
-    new-with-options-requires
+    (λ c κs. search needs)
+    (λ c κs. search needs)
     loop-holds
     slice-aggregate-next
-    next-requires
-    done-requires
-    same-length
+    (λ c κs. search needs)
+    (λ c κs. search needs)
+    (λ c. search needs)
     returns
-    slice-aggregate-put-reply
+    (λ c. search needs)
     put-reply-requires
     add-count
     loop-less

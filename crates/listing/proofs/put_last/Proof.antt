@@ -15,16 +15,10 @@ use Rattle.listing.proofs.put_last.Tie as tie
 put-decimal-requires : tie.Need-put-decimal-requires
 put-decimal-requires c κs = omega (arith, c .before .before .pre, count-line-length (c .before .before .args .count))
 
-slice-aggregate-put-text : tie.Need-slice-aggregate-put-text
-slice-aggregate-put-text c = search needs
-
 put-text-requires : tie.Need-put-text-requires
 put-text-requires c κs =
     let p = c .before .before .before .before .put-decimal in
     omega (arith, c .before .before .before .before .before .before .before .pre, count-line-length (c .before .before .before .before .before .before .before .args .count), p .ensures .place, p .kept)
-
-same-length : tie.Need-same-length
-same-length c = search needs
 
 returns : tie.Need-returns
 returns c =
@@ -35,4 +29,4 @@ returns c =
 pub put-last-spec : {M : Type 1} → statement M
 put-last-spec =
     tie.close
-    (tie.spec put-decimal-requires slice-aggregate-put-text put-text-requires same-length returns)
+    (tie.spec put-decimal-requires (λ c. search needs) put-text-requires (λ c. search needs) returns)

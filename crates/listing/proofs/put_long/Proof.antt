@@ -9,14 +9,8 @@ use borrow.Author.Needs.{needs}
 use Rattle.listing.proofs.put_long.Statement.{statement}
 use Rattle.listing.proofs.put_long.Tie as tie
 
-put-numbered-requires : tie.Need-put-numbered-requires
-put-numbered-requires c κs = search needs
-
 put-word-requires : tie.Need-put-word-requires
 put-word-requires c κs = let a = c .before .before .before .before .before .before .args in omega (arith, c .before .before .before .before .before .before .pre, c .before .before .before .put-numbered .ensures .place, c .before .before .before .put-numbered .kept, numbered-length (a .kind) (two-bytes (a .high)))
-
-same-length : tie.Need-same-length
-same-length c = search needs
 
 returns : tie.Need-returns
 returns c =
@@ -25,4 +19,4 @@ returns c =
     (put-then (now (a .out)) (a .at) (omega (arith, c .before .before .before .before .before .before .before .before .before .pre, numbered-length (a .kind) (two-bytes (a .high)))) (c .before .before .before .before .before .before .put-numbered .ensures) (c .before .before .put-word .ensures))
 
 pub put-long-spec : {M : Type 1} → statement M
-put-long-spec = tie.close (tie.spec put-numbered-requires put-word-requires same-length returns)
+put-long-spec = tie.close (tie.spec (λ c κs. search needs) put-word-requires (λ c. search needs) returns)

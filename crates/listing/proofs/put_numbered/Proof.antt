@@ -8,21 +8,6 @@ use borrow.Author.Needs.{needs}
 use Rattle.listing.proofs.put_numbered.Statement.{statement}
 use Rattle.listing.proofs.put_numbered.Tie as tie
 
-put-char-requires : tie.Need-put-char-requires
-put-char-requires c κs = search needs
-
-put-char-requires-2 : tie.Need-put-char-requires-2
-put-char-requires-2 c κs = search needs
-
-put-char-requires-3 : tie.Need-put-char-requires-3
-put-char-requires-3 c κs = search needs
-
-put-word-requires : tie.Need-put-word-requires
-put-word-requires c κs = search needs
-
-same-length : tie.Need-same-length
-same-length c = search needs
-
 returns : tie.Need-returns
 unfolding numbered
 returns c =
@@ -36,9 +21,9 @@ pub put-numbered-spec : {M : Type 1} → statement M
 put-numbered-spec =
     tie.close
     (tie.spec
-    put-char-requires
-    put-char-requires-2
-    put-char-requires-3
-    put-word-requires
-    same-length
+    (λ c κs. search needs)
+    (λ c κs. search needs)
+    (λ c κs. search needs)
+    (λ c κs. search needs)
+    (λ c. search needs)
     returns)

@@ -16,17 +16,8 @@ use borrow.Author.Needs.{needs}
 use Rattle.listing.proofs.put_record.Statement.{statement}
 use Rattle.listing.proofs.put_record.Tie as tie
 
-enum-known-given : tie.Need-enum-known-given
-enum-known-given c = search needs
-
 add-end : tie.Need-add-end
 add-end c = let l = subst (λ (x : Record). Inside x (length (now (c .before .before .before .before .before .args .pool)))) (c .before .given .given .1) (c .before .before .before .before .before .pre .lies) in omega (arith, l)
-
-sub-put-data : tie.Need-sub-put-data
-sub-put-data c = search needs
-
-part-put-data-start : tie.Need-part-put-data-start
-part-put-data-start c = search needs
 
 part-put-data-end : tie.Need-part-put-data-end
 part-put-data-end c = subst (λ (x : Record). Inside x (length (now (c .before .before .before .before .before .args .pool)))) (c .before .given .given .1) (c .before .before .before .before .before .pre .lies)
@@ -39,49 +30,25 @@ put-data-requires c κs =
     subst (λ (k : ℕ). a .at + length (record-entry (data-at (g .0) (take k (drop (g .1 .0) (now (a .pool)))))) ≤ length (now (a .out))) (sym n)
     (subst (λ (x : Record). a .at + length (record-entry (meant x (now (a .pool)))) ≤ length (now (a .out))) (c .before .before .before .given .given .1) (c .before .before .before .before .before .before .before .pre .room))
 
-enum-told : tie.Need-enum-told
-enum-told c = search needs
-
 put-char-requires : tie.Need-put-char-requires
 unfolding record-entry numbered spelt
 put-char-requires c κs = omega (arith, c .before .before .before .before .before .pre .room, ap (λ (x : Record). length (record-entry (meant x (now (c .before .before .before .before .before .args .pool))))) (c .before .enum-told .given .1))
-
-enum-known-given-2 : tie.Need-enum-known-given-2
-enum-known-given-2 c = search needs
 
 put-numbered-requires : tie.Need-put-numbered-requires
 unfolding record-entry numbered spelt
 put-numbered-requires c κs = omega (arith, c .before .before .before .before .before .before .pre .room, ap (λ (x : Record). length (record-entry (meant x (now (c .before .before .before .before .before .before .args .pool))))) (c .before .before .given2 .given .1))
 
-enum-known-given-3 : tie.Need-enum-known-given-3
-enum-known-given-3 c = search needs
-
 put-long-requires : tie.Need-put-long-requires
 unfolding record-entry numbered spelt
 put-long-requires c κs = omega (arith, c .before .before .before .before .before .before .pre .room, ap (λ (x : Record). length (record-entry (meant x (now (c .before .before .before .before .before .before .args .pool))))) (c .before .before .given3 .given .1))
-
-enum-known-given-4 : tie.Need-enum-known-given-4
-enum-known-given-4 c = search needs
 
 put-numbered-requires-2 : tie.Need-put-numbered-requires-2
 unfolding record-entry numbered spelt
 put-numbered-requires-2 c κs = omega (arith, c .before .before .before .before .before .before .pre .room, ap (λ (x : Record). length (record-entry (meant x (now (c .before .before .before .before .before .before .args .pool))))) (c .before .before .given4 .given .1))
 
-enum-known-given-5 : tie.Need-enum-known-given-5
-enum-known-given-5 c = search needs
-
-cast-put-long : tie.Need-cast-put-long
-cast-put-long c = search needs
-
-cast-put-long-2 : tie.Need-cast-put-long-2
-cast-put-long-2 c = search needs
-
 put-long-requires-2 : tie.Need-put-long-requires-2
 unfolding record-entry numbered spelt
 put-long-requires-2 c κs = omega (arith, c .before .before .before .before .before .before .pre .room, ap (λ (x : Record). length (record-entry (meant x (now (c .before .before .before .before .before .before .args .pool))))) (c .before .before .given5 .given .1))
-
-same-length : tie.Need-same-length
-same-length c = search needs
 
 returns : tie.Need-returns
 returns c =
@@ -92,17 +59,11 @@ returns c =
     (ap (λ (k : ℕ). record-entry (data-at (g .0) (take k (drop (g .1 .0) (now (a .pool)))))) n ∙ ap (λ (x : Record). record-entry (meant x (now (a .pool)))) (sym (c .before .before .before .before .before .before .given .given .1)))
     (c .before .before .put-data .ensures)
 
-same-length-2 : tie.Need-same-length-2
-same-length-2 c = search needs
-
 returns-2 : tie.Need-returns-2
 unfolding record-entry numbered
 returns-2 c =
     let a = c .before .before .before .before .before .before .before .before .args in
     put-as (now (a .out)) (a .at) (ap (λ (x : Record). record-entry (meant x (now (a .pool)))) (sym (c .before .before .before .before .enum-told .given .1))) (c .before .before .put-char .ensures)
-
-same-length-3 : tie.Need-same-length-3
-same-length-3 c = search needs
 
 returns-3 : tie.Need-returns-3
 unfolding record-entry numbered
@@ -110,26 +71,17 @@ returns-3 c =
     let a = c .before .before .before .before .before .before .before .before .before .args in
     put-as (now (a .out)) (a .at) (ap (λ (x : Record). record-entry (meant x (now (a .pool)))) (sym (c .before .before .before .before .before .given2 .given .1))) (c .before .before .put-numbered .ensures)
 
-same-length-4 : tie.Need-same-length-4
-same-length-4 c = search needs
-
 returns-4 : tie.Need-returns-4
 unfolding record-entry numbered
 returns-4 c =
     let a = c .before .before .before .before .before .before .before .before .before .args in
     put-as (now (a .out)) (a .at) (ap (λ (x : Record). record-entry (meant x (now (a .pool)))) (sym (c .before .before .before .before .before .given3 .given .1))) (c .before .before .put-long .ensures)
 
-same-length-5 : tie.Need-same-length-5
-same-length-5 c = search needs
-
 returns-5 : tie.Need-returns-5
 unfolding record-entry numbered
 returns-5 c =
     let a = c .before .before .before .before .before .before .before .before .before .args in
     put-as (now (a .out)) (a .at) (ap (λ (x : Record). record-entry (meant x (now (a .pool)))) (sym (c .before .before .before .before .before .given4 .given .1))) (c .before .before .put-numbered2 .ensures)
-
-same-length-6 : tie.Need-same-length-6
-same-length-6 c = search needs
 
 returns-6 : tie.Need-returns-6
 unfolding record-entry numbered
@@ -141,33 +93,33 @@ pub put-record-spec : {M : Type 1} → statement M
 put-record-spec =
     tie.close
     (tie.spec
-    enum-known-given
+    (λ c. search needs)
     add-end
-    sub-put-data
-    part-put-data-start
+    (λ c. search needs)
+    (λ c. search needs)
     part-put-data-end
     put-data-requires
-    enum-told
+    (λ c. search needs)
     put-char-requires
-    enum-known-given-2
+    (λ c. search needs)
     put-numbered-requires
-    enum-known-given-3
+    (λ c. search needs)
     put-long-requires
-    enum-known-given-4
+    (λ c. search needs)
     put-numbered-requires-2
-    enum-known-given-5
-    cast-put-long
-    cast-put-long-2
+    (λ c. search needs)
+    (λ c. search needs)
+    (λ c. search needs)
     put-long-requires-2
-    same-length
+    (λ c. search needs)
     returns
-    same-length-2
+    (λ c. search needs)
     returns-2
-    same-length-3
+    (λ c. search needs)
     returns-3
-    same-length-4
+    (λ c. search needs)
     returns-4
-    same-length-5
+    (λ c. search needs)
     returns-5
-    same-length-6
+    (λ c. search needs)
     returns-6)

@@ -15,9 +15,6 @@ use borrow.Author.Needs.{needs}
 use Rattle.listing.proofs.put_reply.Statement.{statement}
 use Rattle.listing.proofs.put_reply.Tie as tie
 
-enum-known-reply : tie.Need-enum-known-reply
-enum-known-reply c = search needs
-
 put-record-requires : tie.Need-put-record-requires
 put-record-requires c κs =
     let a = c .before .before .before .before .before .before .args in
@@ -33,9 +30,6 @@ put-char-requires c κs =
     let l = ap (λ (x : Reply). length (shown x (now (a .pool)))) (c .before .before .before .before .before .before .reply .given .1) in
     let n = length-append (record-entry (meant r (now (a .pool)))) (10 ∷ []) in
     omega (arith, c .before .before .before .before .before .before .before .before .before .before .pre .room, c .before .before .before .put-record .ensures .place, c .before .before .before .put-record .kept)
-
-enum-known-reply-2 : tie.Need-enum-known-reply-2
-enum-known-reply-2 c = search needs
 
 put-refusal-requires : tie.Need-put-refusal-requires
 put-refusal-requires c κs =
@@ -53,12 +47,6 @@ put-char-requires-2 c κs =
     let n = length-append (refusal-entry (refusal-of e)) (10 ∷ []) in
     omega (arith, c .before .before .before .before .before .before .before .before .before .before .pre .room, c .before .before .before .put-refusal .ensures .place, c .before .before .before .put-refusal .kept)
 
-enum-told : tie.Need-enum-told
-enum-told c = search needs
-
-same-length : tie.Need-same-length
-same-length c = search needs
-
 returns : tie.Need-returns
 returns c =
     let a = c .before .before .before .before .before .before .before .before .before .before .before .before .before .args in
@@ -67,9 +55,6 @@ returns c =
     let n = length-append (record-entry (meant r (now (a .pool)))) (10 ∷ []) in
     put-as (now (a .out)) (a .at) (ap (λ (x : Reply). shown x (now (a .pool))) (sym (c .before .before .before .before .before .before .before .before .before .reply .given .1)))
     (put-then (now (a .out)) (a .at) (omega (arith, c .before .before .before .before .before .before .before .before .before .before .before .before .before .pre .room)) (c .before .before .before .before .before .before .put-record .ensures) (c .before .before .put-char .ensures))
-
-same-length-2 : tie.Need-same-length-2
-same-length-2 c = search needs
 
 returns-2 : tie.Need-returns-2
 returns-2 c =
@@ -89,15 +74,15 @@ pub put-reply-spec : {M : Type 1} → statement M
 put-reply-spec =
     tie.close
     (tie.spec
-    enum-known-reply
+    (λ c. search needs)
     put-record-requires
     put-char-requires
-    enum-known-reply-2
+    (λ c. search needs)
     put-refusal-requires
     put-char-requires-2
-    enum-told
-    same-length
+    (λ c. search needs)
+    (λ c. search needs)
     returns
-    same-length-2
+    (λ c. search needs)
     returns-2
     returns-3)

@@ -9,9 +9,6 @@ use borrow.Author.Needs.{needs}
 use Rattle.listing.proofs.record_room.Statement.{statement}
 use Rattle.listing.proofs.record_room.Tie as tie
 
-enum-known-given : tie.Need-enum-known-given
-enum-known-given c = search needs
-
 returns : tie.Need-returns
 returns c =
     let a = c .before .before .before .before .args in
@@ -23,39 +20,6 @@ returns-2 c =
     let a = c .before .before .before .before .before .args in
     let g = c .before .before .before .given .given in
     sym (ap (λ (x : Record). record-room x (a .pool) (a .out)) (g .1) ∙ data-outside (g .0 .0) (g .0 .1 .0) (g .0 .1 .1 .0) (a .pool) (a .out) (omega (arith, c .if2 .taken, c .before .if1 .left)))
-
-has-room-requires : tie.Need-has-room-requires
-has-room-requires c κs = search needs
-
-enum-told : tie.Need-enum-told
-enum-told c = search needs
-
-has-room-requires-2 : tie.Need-has-room-requires-2
-has-room-requires-2 c κs = search needs
-
-enum-told-2 : tie.Need-enum-told-2
-enum-told-2 c = search needs
-
-has-room-requires-3 : tie.Need-has-room-requires-3
-has-room-requires-3 c κs = search needs
-
-enum-told-3 : tie.Need-enum-told-3
-enum-told-3 c = search needs
-
-has-room-requires-4 : tie.Need-has-room-requires-4
-has-room-requires-4 c κs = search needs
-
-enum-told-4 : tie.Need-enum-told-4
-enum-told-4 c = search needs
-
-has-room-requires-5 : tie.Need-has-room-requires-5
-has-room-requires-5 c κs = search needs
-
-enum-told-5 : tie.Need-enum-told-5
-enum-told-5 c = search needs
-
-has-room-requires-6 : tie.Need-has-room-requires-6
-has-room-requires-6 c κs = search needs
 
 returns-3 : tie.Need-returns-3
 returns-3 c =
@@ -93,20 +57,20 @@ pub record-room-spec : {M : Type 1} → statement M
 record-room-spec =
     tie.close
     (tie.spec
-    enum-known-given
+    (λ c. search needs)
     returns
     returns-2
-    has-room-requires
-    enum-told
-    has-room-requires-2
-    enum-told-2
-    has-room-requires-3
-    enum-told-3
-    has-room-requires-4
-    enum-told-4
-    has-room-requires-5
-    enum-told-5
-    has-room-requires-6
+    (λ c κs. search needs)
+    (λ c. search needs)
+    (λ c κs. search needs)
+    (λ c. search needs)
+    (λ c κs. search needs)
+    (λ c. search needs)
+    (λ c κs. search needs)
+    (λ c. search needs)
+    (λ c κs. search needs)
+    (λ c. search needs)
+    (λ c κs. search needs)
     returns-3
     returns-4
     returns-5

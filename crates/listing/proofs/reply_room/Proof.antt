@@ -7,24 +7,6 @@ use borrow.Author.Needs.{needs}
 use Rattle.listing.proofs.reply_room.Statement.{statement}
 use Rattle.listing.proofs.reply_room.Tie as tie
 
-enum-known-reply : tie.Need-enum-known-reply
-enum-known-reply c = search needs
-
-record-room-requires : tie.Need-record-room-requires
-record-room-requires c κs = search needs
-
-enum-told : tie.Need-enum-told
-enum-told c = search needs
-
-has-room-requires : tie.Need-has-room-requires
-has-room-requires c κs = search needs
-
-enum-told-2 : tie.Need-enum-told-2
-enum-told-2 c = search needs
-
-has-room-requires-2 : tie.Need-has-room-requires-2
-has-room-requires-2 c κs = search needs
-
 returns : tie.Need-returns
 returns c =
     let a = c .before .before .before .before .args in
@@ -44,12 +26,12 @@ pub reply-room-spec : {M : Type 1} → statement M
 reply-room-spec =
     tie.close
     (tie.spec
-    enum-known-reply
-    record-room-requires
-    enum-told
-    has-room-requires
-    enum-told-2
-    has-room-requires-2
+    (λ c. search needs)
+    (λ c κs. search needs)
+    (λ c. search needs)
+    (λ c κs. search needs)
+    (λ c. search needs)
+    (λ c κs. search needs)
     returns
     returns-2
     returns-3)

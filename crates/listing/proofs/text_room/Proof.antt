@@ -12,11 +12,8 @@ use Rattle.listing.proofs.text_room.Tie as tie
 returns : tie.Need-returns
 returns c = let a = c .before .args in sym (lt-leb (3 * a .given + 32) (a .out) (omega arith))
 
-has-room-requires : tie.Need-has-room-requires
-has-room-requires c κs = search needs
-
 returns-2 : tie.Need-returns-2
 returns-2 c = let a = c .before .before .args in c .has-room .ensures ∙ room-behind (a .given) (a .out) (c .before .if1 .left)
 
 pub text-room-spec : {M : Type 1} → statement M
-text-room-spec = tie.close (tie.spec returns has-room-requires returns-2)
+text-room-spec = tie.close (tie.spec returns (λ c κs. search needs) returns-2)

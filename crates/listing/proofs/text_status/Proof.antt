@@ -13,12 +13,6 @@ use Rattle.listing.proofs.text_status.Tie as tie
 returns : tie.Need-returns
 returns c = record { answer = sym (two-means (now (c .before .before .args .text)) .0 .1 (omega arith)) }
 
-text-verdict-requires : tie.Need-text-verdict-requires
-text-verdict-requires c κs = search needs
-
-exit-status-requires : tie.Need-exit-status-requires
-exit-status-requires c κs = search needs
-
 returns-2 : tie.Need-returns-2
 returns-2 c =
     let input = now (c .before .before .before .before .args .text) in
@@ -27,4 +21,4 @@ returns-2 c =
     }
 
 pub text-status-spec : {M : Type 1} → statement M
-text-status-spec = tie.close (tie.spec returns text-verdict-requires exit-status-requires returns-2)
+text-status-spec = tie.close (tie.spec returns (λ c κs. search needs) (λ c κs. search needs) returns-2)

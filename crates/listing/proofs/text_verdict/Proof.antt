@@ -28,12 +28,6 @@ answered c =
     let a = c .before .before .before .before .before .before .before .before .before .args in
     turned (now (a .text)) (t .state) (t .pool) (t .inv .way) (n .result) (n .last .1 .1 .0) (n .ensures) (sym (c .before .«done» .ensures) ∙ c .if1 .left)
 
-listing-options-requires : tie.Need-listing-options-requires Inv-loop μ-loop
-listing-options-requires c κs = search needs
-
-new-with-options-requires : tie.Need-new-with-options-requires Inv-loop μ-loop
-new-with-options-requires c κs = search needs
-
 loop-holds : tie.Need-loop-holds Inv-loop μ-loop
 loop-holds c =
     let a = c .before .before .before .args in
@@ -42,12 +36,6 @@ loop-holds c =
 slice-aggregate-next : tie.Need-slice-aggregate-next Inv-loop μ-loop
 slice-aggregate-next c = omega (arith, c .before .loop .inv .way .pool-size)
 
-next-requires : tie.Need-next-requires Inv-loop μ-loop
-next-requires c κs = search needs
-
-done-requires : tie.Need-done-requires Inv-loop μ-loop
-done-requires c κs = search needs
-
 returns : tie.Need-returns Inv-loop μ-loop
 returns c =
     let t = c .before .before .before .before .before .loop in
@@ -55,9 +43,6 @@ returns c =
     let a = c .before .before .before .before .before .before .before .before .before .args in
     judged-last (now (a .text)) (t .pool) (t .state) (t .verdict) (t .inv)
     (ran-out (now (a .text)) (t .state) (t .pool) (t .inv .way) (n .result) (n .last .1 .1 .0) (n .ensures) (sym (c .before .done .ensures) ∙ c .if1 .taken))
-
-verdict-after-requires : tie.Need-verdict-after-requires Inv-loop μ-loop
-verdict-after-requires c κs = search needs
 
 loop-less : tie.Need-loop-less Inv-loop μ-loop
 loop-less c = let h = answered (c .before .before) in omega (arith, ap length (h .listed))
@@ -75,13 +60,13 @@ text-verdict-spec =
     (tie.spec
     Inv-loop
     μ-loop
-    listing-options-requires
-    new-with-options-requires
+    (λ c κs. search needs)
+    (λ c κs. search needs)
     loop-holds
     slice-aggregate-next
-    next-requires
-    done-requires
+    (λ c κs. search needs)
+    (λ c κs. search needs)
     returns
-    verdict-after-requires
+    (λ c κs. search needs)
     loop-less
     loop-again)

@@ -8,18 +8,6 @@ use borrow.Author.Needs.{needs}
 use Rattle.listing.proofs.verdict_after.Statement.{statement}
 use Rattle.listing.proofs.verdict_after.Tie as tie
 
-enum-known-reply : tie.Need-enum-known-reply
-enum-known-reply c = search needs
-
-record-type-requires : tie.Need-record-type-requires
-record-type-requires c κs = search needs
-
-enum-told : tie.Need-enum-told
-enum-told c = search needs
-
-enum-told-2 : tie.Need-enum-told-2
-enum-told-2 c = search needs
-
 returns : tie.Need-returns
 returns c =
     let a = c .before .before .before .before .args in
@@ -30,17 +18,14 @@ returns c =
 returns-2 : tie.Need-returns-2
 returns-2 c = record { answer = ap (after-reply (c .before .before .args .verdict)) (sym (c .enum-told .given .1)) }
 
-returns-3 : tie.Need-returns-3
-returns-3 c = search needs
-
 pub verdict-after-spec : {M : Type 1} → statement M
 verdict-after-spec =
     tie.close
     (tie.spec
-    enum-known-reply
-    record-type-requires
-    enum-told
-    enum-told-2
+    (λ c. search needs)
+    (λ c κs. search needs)
+    (λ c. search needs)
+    (λ c. search needs)
     returns
     returns-2
-    returns-3)
+    (λ c. search needs))

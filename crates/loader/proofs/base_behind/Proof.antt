@@ -5,24 +5,6 @@ use borrow.Author.Needs.{needs}
 use Rattle.loader.proofs.base_behind.Statement.{statement}
 use Rattle.loader.proofs.base_behind.Tie as tie
 
-enum-known-given : tie.Need-enum-known-given
-enum-known-given c = search needs
-
-enum-known-given-2 : tie.Need-enum-known-given-2
-enum-known-given-2 c = search needs
-
-enum-told : tie.Need-enum-told
-enum-told c = search needs
-
-enum-told-2 : tie.Need-enum-told-2
-enum-told-2 c = search needs
-
-enum-told-3 : tie.Need-enum-told-3
-enum-told-3 c = search needs
-
-enum-told-4 : tie.Need-enum-told-4
-enum-told-4 c = search needs
-
 returns : tie.Need-returns
 returns c = behind-segment (c .before .before .before .args .base) (c .before .before .before .args .given) _ (c .before .given .given .1)
 
@@ -45,12 +27,12 @@ pub base-behind-spec : {M : Type 1} → statement M
 base-behind-spec =
     tie.close
     (tie.spec
-    enum-known-given
-    enum-known-given-2
-    enum-told
-    enum-told-2
-    enum-told-3
-    enum-told-4
+    (λ c. search needs)
+    (λ c. search needs)
+    (λ c. search needs)
+    (λ c. search needs)
+    (λ c. search needs)
+    (λ c. search needs)
     returns
     returns-2
     returns-3

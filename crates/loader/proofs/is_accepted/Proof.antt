@@ -6,12 +6,6 @@ use Rattle.loader.specs.Helpers.{is-accepted}
 use Rattle.loader.proofs.is_accepted.Statement.{statement}
 use Rattle.loader.proofs.is_accepted.Tie as tie
 
-enum-told : tie.Need-enum-told
-enum-told c = search needs
-
-enum-told-2 : tie.Need-enum-told-2
-enum-told-2 c = search needs
-
 returns : tie.Need-returns
 returns c = sym (ap is-accepted (c .enum-told .given .1))
 
@@ -19,4 +13,4 @@ returns-2 : tie.Need-returns-2
 returns-2 c = sym (ap is-accepted (c .enum-told2 .given .1))
 
 pub is-accepted-spec : {M : Type 1} → statement M
-is-accepted-spec = tie.close (tie.spec enum-told enum-told-2 returns returns-2)
+is-accepted-spec = tie.close (tie.spec (λ c. search needs) (λ c. search needs) returns returns-2)

@@ -22,27 +22,12 @@ one c =
     let n = c .before .before .before .before .before .next in
     came-read (s .args .w .state) (now (s .args .text)) (now (s .args .pool)) (n .result) (n .last .1 .1 .0) (s .pre .0 .options) (s .pre .0 .countable) (s .pre .2) (n .ensures) (c .reply .given .0 .0) (c .reply .given .1)
 
-next-requires : tie.Need-next-requires
-next-requires c κs = search needs
-
-enum-known-reply : tie.Need-enum-known-reply
-enum-known-reply c = search needs
-
 judge-record-requires : tie.Need-judge-record-requires
 judge-record-requires c κs =
     let s = c .before .before .before .before .before .before .before .before .before .before .before in
     let n = c .before .before .before .before .before .before .next in
     let l : length (n .last .1 .1 .0) ≡ 255 = n .kept .1 .1 .0 ∙ s .pre .2 in
     (short-record (c .before .reply .given .0 .0) (n .last .1 .1 .0) (one (c .before) .lies l), countable-records (now (s .args .text)) (s .args .w) (now (s .args .pool)) (n .result) (n .last .1 .1 .0) (s .pre .0) (s .pre .2) (n .ensures) (s .args .tally) _ (one (c .before)) (s .pre .1) (omega arith))
-
-enum-known-reply-2 : tie.Need-enum-known-reply-2
-enum-known-reply-2 c = search needs
-
-enum-told : tie.Need-enum-told
-enum-told c = search needs
-
-same-length : tie.Need-same-length
-same-length c = search needs
 
 returns : tie.Need-returns
 returns c =
@@ -51,9 +36,6 @@ returns c =
     judged-record (now (s .args .text)) (s .args .w) (now (s .args .pool)) (n .result) (n .last .1 .1 .0) (s .pre .0) (s .pre .2) (n .ensures)
     (within (s .args .first) (s .args .size)) (s .args .tally) _ (one (c .before .before)) (s .pre .1) (c .judge-record .result) (c .judge-record .ensures (n .last .1 .1 .0) (one (c .before .before) .lies (n .kept .1 .1 .0 ∙ s .pre .2)))
 
-same-length-2 : tie.Need-same-length-2
-same-length-2 c = search needs
-
 returns-2 : tie.Need-returns-2
 returns-2 c =
     let s = c .before .before .before .before .before .before .before .before .before .before .before in
@@ -61,9 +43,6 @@ returns-2 c =
     let u = came-refused (s .args .w .state) (now (s .args .text)) (now (s .args .pool)) (n .result) (n .last .1 .1 .0) (s .pre .0 .options) (s .pre .0 .countable) (s .pre .2) (n .ensures) (c .before .reply2 .given .0 .0) (c .before .reply2 .given .1) in
     judged-refused (now (s .args .text)) (s .args .w) (now (s .args .pool)) (n .result) (n .last .1 .1 .0) (s .pre .0) (s .pre .2) (n .ensures)
     (within (s .args .first) (s .args .size)) (s .args .tally) (c .before .reply2 .given .0 .0) (u .0) (u .1)
-
-same-length-3 : tie.Need-same-length-3
-same-length-3 c = search needs
 
 returns-3 : tie.Need-returns-3
 returns-3 c =
@@ -77,14 +56,14 @@ pub judge-next-spec : {M : Type 1} → statement M
 judge-next-spec =
     tie.close
     (tie.spec
-    next-requires
-    enum-known-reply
+    (λ c κs. search needs)
+    (λ c. search needs)
     judge-record-requires
-    enum-known-reply-2
-    enum-told
-    same-length
+    (λ c. search needs)
+    (λ c. search needs)
+    (λ c. search needs)
     returns
-    same-length-2
+    (λ c. search needs)
     returns-2
-    same-length-3
+    (λ c. search needs)
     returns-3)

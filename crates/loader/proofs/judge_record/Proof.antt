@@ -15,43 +15,13 @@ use borrow.Author.Needs.{needs}
 use Rattle.loader.proofs.judge_record.Statement.{statement}
 use Rattle.loader.proofs.judge_record.Tie as tie
 
-base-behind-requires : tie.Need-base-behind-requires
-base-behind-requires c κs = search needs
-
-enum-known-given : tie.Need-enum-known-given
-enum-known-given c = search needs
-
 survey-requires : tie.Need-survey-requires
 survey-requires c κs = subst Short (c .before .given .given .1) (c .before .before .before .before .before .pre .0)
-
-enum-told : tie.Need-enum-told
-enum-told c = search needs
-
-add-t17 : tie.Need-add-t17
-add-t17 c = search needs
-
-enum-known-i : tie.Need-enum-known-i
-enum-known-i c = search needs
 
 byte-address-requires : tie.Need-byte-address-requires
 byte-address-requires c κs =
     let short = subst Short (c .before .before .before .before .before .given .given .1) (c .before .before .before .before .before .before .before .before .before .pre .0) in
     omega (arith, short, c .before .before .before .survey .ensures .among (c .before .i .given .0 .0) (ap first-byte (c .before .i .given .1)))
-
-enum-told-2 : tie.Need-enum-told-2
-enum-told-2 c = search needs
-
-enum-told-3 : tie.Need-enum-told-3
-enum-told-3 c = search needs
-
-enum-told-4 : tie.Need-enum-told-4
-enum-told-4 c = search needs
-
-enum-told-5 : tie.Need-enum-told-5
-enum-told-5 c = search needs
-
-enum-told-6 : tie.Need-enum-told-6
-enum-told-6 c = search needs
 
 returns : tie.Need-returns
 returns c = λ pool lies.
@@ -99,18 +69,18 @@ pub judge-record-spec : {M : Type 1} → statement M
 judge-record-spec =
     tie.close
     (tie.spec
-    base-behind-requires
-    enum-known-given
+    (λ c κs. search needs)
+    (λ c. search needs)
     survey-requires
-    enum-told
-    add-t17
-    enum-known-i
+    (λ c. search needs)
+    (λ c. search needs)
+    (λ c. search needs)
     byte-address-requires
-    enum-told-2
-    enum-told-3
-    enum-told-4
-    enum-told-5
-    enum-told-6
+    (λ c. search needs)
+    (λ c. search needs)
+    (λ c. search needs)
+    (λ c. search needs)
+    (λ c. search needs)
     returns
     returns-2
     returns-3

@@ -17,9 +17,6 @@ Inv-loop text first size pool₀ w₀ tally₀ pool w tally = Judging (within fi
 abbrev μ-loop : tie.MeasureT-loop
 μ-loop text first size pool₀ w₀ tally₀ pool w tally = length (unread (w .state) text)
 
-begin-requires : tie.Need-begin-requires Inv-loop μ-loop
-begin-requires c κs = search needs
-
 loop-holds : tie.Need-loop-holds Inv-loop μ-loop
 loop-holds c =
     let s = c .before .before in
@@ -30,9 +27,6 @@ slice-aggregate-judge-next c = sym (c .before .loop .inv .room)
 
 judge-next-requires : tie.Need-judge-next-requires Inv-loop μ-loop
 judge-next-requires c κs = let j = c .before .loop .inv in (j .under-way, j .few, j .room)
-
-enum-known-next : tie.Need-enum-known-next Inv-loop μ-loop
-enum-known-next c = search needs
 
 loop-less : tie.Need-loop-less Inv-loop μ-loop
 loop-less c =
@@ -50,9 +44,6 @@ loop-again c =
     let n = c .before .next .given in
     judging-again (within (s .first) (s .size)) (now (s .text)) (l .pool) (l .w) (l .tally) (l .inv) (t .result) (t .ensures) (n .0 .0) (n .0 .1 .0) (n .1) (t .last .1 .0) (t .kept .1 .0)
 
-enum-known-answer : tie.Need-enum-known-answer Inv-loop μ-loop
-enum-known-answer c = search needs
-
 returns : tie.Need-returns Inv-loop μ-loop
 returns c =
     let s = c .before .before .before .before .before .before .before .before .before .args in
@@ -67,12 +58,12 @@ judge-text-spec =
     (tie.spec
     Inv-loop
     μ-loop
-    begin-requires
+    (λ c κs. search needs)
     loop-holds
     slice-aggregate-judge-next
     judge-next-requires
-    enum-known-next
+    (λ c. search needs)
     loop-less
     loop-again
-    enum-known-answer
+    (λ c. search needs)
     returns)

@@ -14,31 +14,10 @@ use Rattle.loader.proofs.load.Tie as tie
 fit : (c : tie.Else1) → let s = c .before .before .before .before .before .args in unfit (s .first) (length (now (s .page))) (length (now (s .marks))) ≡ false
 fit c = sym (c .before .is-unfit .ensures .answer) ∙ c .if1 .left
 
-is-unfit-requires : tie.Need-is-unfit-requires
-is-unfit-requires c κs = search needs
-
 returns : tie.Need-returns
 returns c =
     let s = c .before .before .before .before .before .args in
     load-unfit (now (s .text)) (s .first) (now (s .page)) (now (s .marks)) (sym (c .before .is-unfit .ensures .answer) ∙ c .if1 .taken)
-
-judge-text-requires : tie.Need-judge-text-requires
-judge-text-requires c κs = search needs
-
-is-accepted-requires : tie.Need-is-accepted-requires
-is-accepted-requires c κs = search needs
-
-clear-requires : tie.Need-clear-requires
-clear-requires c κs = search needs
-
-write-text-requires : tie.Need-write-text-requires
-write-text-requires c κs = search needs
-
-same-length : tie.Need-same-length
-same-length c = search needs
-
-same-length-2 : tie.Need-same-length-2
-same-length-2 c = search needs
 
 returns-2 : tie.Need-returns-2
 returns-2 c =
@@ -58,13 +37,13 @@ pub load-spec : {M : Type 1} → statement M
 load-spec =
     tie.close
     (tie.spec
-    is-unfit-requires
+    (λ c κs. search needs)
     returns
-    judge-text-requires
-    is-accepted-requires
-    clear-requires
-    write-text-requires
-    same-length
-    same-length-2
+    (λ c κs. search needs)
+    (λ c κs. search needs)
+    (λ c κs. search needs)
+    (λ c κs. search needs)
+    (λ c. search needs)
+    (λ c. search needs)
     returns-2
     returns-3)

@@ -9,40 +9,13 @@ use Rattle.loader.proofs.Runs.{stored-once, stored-twice}
 use Rattle.loader.proofs.put.Statement.{statement}
 use Rattle.loader.proofs.put.Tie as tie
 
-first-run-requires : tie.Need-first-run-requires
-first-run-requires c κs = search needs
-
-byte-address-requires : tie.Need-byte-address-requires
-byte-address-requires c κs = search needs
-
 slice-aggregate-put-run : tie.Need-slice-aggregate-put-run
 slice-aggregate-put-run c =
     let a = c .before .before .before .before .before .before .args in
     sym (length-take-le (c .before .before .first-run .result) (now (a .bytes)) (omega (arith, c .before .before .first-run .ensures)))
 
-put-run-requires : tie.Need-put-run-requires
-put-run-requires c κs = search needs
-
 byte-address-requires-2 : tie.Need-byte-address-requires-2
 byte-address-requires-2 c κs = omega (arith, c .before .before .before .before .before .before .before .before .before .before .first-run .ensures)
-
-sub-put-run : tie.Need-sub-put-run
-sub-put-run c = search needs
-
-part-put-run-start : tie.Need-part-put-run-start
-part-put-run-start c = search needs
-
-part-put-run-end : tie.Need-part-put-run-end
-part-put-run-end c = search needs
-
-put-run-requires-2 : tie.Need-put-run-requires-2
-put-run-requires-2 c κs = search needs
-
-same-length : tie.Need-same-length
-same-length c = search needs
-
-same-length-2 : tie.Need-same-length-2
-same-length-2 c = search needs
 
 returns : tie.Need-returns
 returns c =
@@ -50,12 +23,6 @@ returns c =
     let a = s .args in
     stored-twice (a .base) (a .offset) (a .first) (now (a .bytes)) (now (a .page)) (now (a .marks)) (search needs) (s .pre) (c .before .before .before .before .before .before .before .before .before .before .before .before .before .before .before .before .before .before .before .first-run .result) (c .before .before .before .before .before .before .before .before .before .before .before .before .before .before .before .before .before .before .before .first-run .ensures)
     (c .before .before .before .before .before .before .before .before .before .before .before .before .before .before .before .before .before .before .byte-address .result) (c .before .before .before .before .before .before .before .before .before .before .before .before .before .before .before .before .before .before .byte-address .ensures) _ _ (c .before .before .before .before .before .before .before .before .before .before .before .before .before .before .put-run .ensures) (c .before .before .before .before .before .before .before .before .byte-address2 .result) (c .before .before .before .before .before .before .before .before .byte-address2 .ensures) _ _ (c .before .before .before .before .put-run2 .ensures)
-
-same-length-3 : tie.Need-same-length-3
-same-length-3 c = search needs
-
-same-length-4 : tie.Need-same-length-4
-same-length-4 c = search needs
 
 returns-2 : tie.Need-returns-2
 returns-2 c =
@@ -68,18 +35,18 @@ pub put-spec : {M : Type 1} → statement M
 put-spec =
     tie.close
     (tie.spec
-    first-run-requires
-    byte-address-requires
+    (λ c κs. search needs)
+    (λ c κs. search needs)
     slice-aggregate-put-run
-    put-run-requires
+    (λ c κs. search needs)
     byte-address-requires-2
-    sub-put-run
-    part-put-run-start
-    part-put-run-end
-    put-run-requires-2
-    same-length
-    same-length-2
+    (λ c. search needs)
+    (λ c. search needs)
+    (λ c. search needs)
+    (λ c κs. search needs)
+    (λ c. search needs)
+    (λ c. search needs)
     returns
-    same-length-3
-    same-length-4
+    (λ c. search needs)
+    (λ c. search needs)
     returns-2)

@@ -8,38 +8,14 @@ use Rattle.loader.proofs.Runs.{code-low, code-high, code-inside}
 use Rattle.loader.proofs.survey.Statement.{statement}
 use Rattle.loader.proofs.survey.Tie as tie
 
-first-run-requires : tie.Need-first-run-requires
-first-run-requires c κs = search needs
-
-byte-address-requires : tie.Need-byte-address-requires
-byte-address-requires c κs = search needs
-
-first-outside-requires : tie.Need-first-outside-requires
-first-outside-requires c κs = search needs
-
-enum-known-i : tie.Need-enum-known-i
-enum-known-i c = search needs
-
-enum-told : tie.Need-enum-told
-enum-told c = search needs
-
 byte-address-requires-2 : tie.Need-byte-address-requires-2
 byte-address-requires-2 c κs = omega (arith, c .before .before .before .before .first-run .ensures)
 
 sub-first-outside : tie.Need-sub-first-outside
 sub-first-outside c = omega (arith, c .before .before .before .before .before .first-run .ensures)
 
-first-outside-requires-2 : tie.Need-first-outside-requires-2
-first-outside-requires-2 c κs = search needs
-
-enum-known-i-2 : tie.Need-enum-known-i-2
-enum-known-i-2 c = search needs
-
 add-t16 : tie.Need-add-t16
 add-t16 c = omega (arith, c .before .before .before .first-outside2 .ensures .among (c .before .i2 .given .0 .0) (ap first-byte (c .before .i2 .given .1)))
-
-enum-told-2 : tie.Need-enum-told-2
-enum-told-2 c = search needs
 
 returns : tie.Need-returns
 returns c =
@@ -68,17 +44,17 @@ pub survey-spec : {M : Type 1} → statement M
 survey-spec =
     tie.close
     (tie.spec
-    first-run-requires
-    byte-address-requires
-    first-outside-requires
-    enum-known-i
-    enum-told
+    (λ c κs. search needs)
+    (λ c κs. search needs)
+    (λ c κs. search needs)
+    (λ c. search needs)
+    (λ c. search needs)
     byte-address-requires-2
     sub-first-outside
-    first-outside-requires-2
-    enum-known-i-2
+    (λ c κs. search needs)
+    (λ c. search needs)
     add-t16
-    enum-told-2
+    (λ c. search needs)
     returns
     returns-2
     returns-3)

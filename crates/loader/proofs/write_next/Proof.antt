@@ -18,32 +18,8 @@ one c =
     let n = c .before .before .before .before .before .next in
     came-read (s .args .w .state) (now (s .args .text)) (now (s .args .pool)) (n .result) (n .last .1 .1 .0) (s .pre .0 .options) (s .pre .0 .countable) (s .pre .1) (n .ensures) (c .reply .given .0 .0) (c .reply .given .1)
 
-next-requires : tie.Need-next-requires
-next-requires c κs = search needs
-
-enum-known-reply : tie.Need-enum-known-reply
-enum-known-reply c = search needs
-
 write-record-requires : tie.Need-write-record-requires
 write-record-requires c κs = one (c .before .before .before .before) .lies (c .before .before .before .before .before .before .before .before .before .next .kept .1 .1 .0 ∙ c .before .before .before .before .before .before .before .before .before .before .before .before .before .before .before .before .pre .1)
-
-base-behind-requires : tie.Need-base-behind-requires
-base-behind-requires c κs = search needs
-
-enum-told : tie.Need-enum-told
-enum-told c = search needs
-
-enum-told-2 : tie.Need-enum-told-2
-enum-told-2 c = search needs
-
-same-length : tie.Need-same-length
-same-length c = search needs
-
-same-length-2 : tie.Need-same-length-2
-same-length-2 c = search needs
-
-same-length-3 : tie.Need-same-length-3
-same-length-3 c = search needs
 
 returns : tie.Need-returns
 returns c =
@@ -53,18 +29,12 @@ returns c =
     wrote (now (s .args .text)) (s .args .w) (now (s .args .pool)) (n .result) (n .last .1 .1 .0) (s .pre .0) (s .pre .1) (n .ensures)
     (s .args .first) (now (s .args .page)) (now (s .args .marks)) _ _ _ (one (c .before .before .before .before .before .before .before .before .before .before)) (c .base-behind .result) (t .ensures) (c .base-behind .ensures)
 
-same-length-4 : tie.Need-same-length-4
-same-length-4 c = search needs
-
 returns-2 : tie.Need-returns-2
 returns-2 c =
     let s = c .before .before .before .before .before .before .before .before .before .before .before .before in
     let n = c .before .before .before .before .before .next in
     let u = came-refused (s .args .w .state) (now (s .args .text)) (now (s .args .pool)) (n .result) (n .last .1 .1 .0) (s .pre .0 .options) (s .pre .0 .countable) (s .pre .1) (n .ensures) (c .enum-told .given .0 .0) (c .enum-told .given .1) in
     (refused-states (now (s .args .text)) (s .args .w) (now (s .args .pool)) (n .result) (n .last .1 .1 .0) (s .pre .0) (s .pre .1) (n .ensures) (n .result .state .line) (c .enum-told .given .0 .0) (u .0) (u .1), refl, refl)
-
-same-length-5 : tie.Need-same-length-5
-same-length-5 c = search needs
 
 returns-3 : tie.Need-returns-3
 returns-3 c =
@@ -80,17 +50,17 @@ pub write-next-spec : {M : Type 1} → statement M
 write-next-spec =
     tie.close
     (tie.spec
-    next-requires
-    enum-known-reply
+    (λ c κs. search needs)
+    (λ c. search needs)
     write-record-requires
-    base-behind-requires
-    enum-told
-    enum-told-2
-    same-length
-    same-length-2
-    same-length-3
+    (λ c κs. search needs)
+    (λ c. search needs)
+    (λ c. search needs)
+    (λ c. search needs)
+    (λ c. search needs)
+    (λ c. search needs)
     returns
-    same-length-4
+    (λ c. search needs)
     returns-2
-    same-length-5
+    (λ c. search needs)
     returns-3)

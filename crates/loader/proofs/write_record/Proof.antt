@@ -11,9 +11,6 @@ use borrow.Author.Needs.{needs}
 use Rattle.loader.proofs.write_record.Statement.{statement}
 use Rattle.loader.proofs.write_record.Tie as tie
 
-enum-known-given : tie.Need-enum-known-given
-enum-known-given c = search needs
-
 -- where the payload lies
 lies : (c : tie.After-known-told)
     → let g = c .before .given .given .0 in
@@ -26,12 +23,6 @@ lies c =
 add-end : tie.Need-add-end
 add-end c = omega (arith, lies c)
 
-sub-put : tie.Need-sub-put
-sub-put c = search needs
-
-part-put-start : tie.Need-part-put-start
-part-put-start c = search needs
-
 part-put-end : tie.Need-part-put-end
 part-put-end c = lies c .0
 
@@ -39,27 +30,6 @@ put-requires : tie.Need-put-requires
 put-requires c κs =
     let g = c .before .before .before .before .given .given in
     part-small (g .0 .1 .0) (g .0 .1 .1 .0) (now (c .before .before .before .before .before .before .before .before .before .args .pool)) (lies (c .before .before .before) .1)
-
-enum-told : tie.Need-enum-told
-enum-told c = search needs
-
-enum-told-2 : tie.Need-enum-told-2
-enum-told-2 c = search needs
-
-enum-told-3 : tie.Need-enum-told-3
-enum-told-3 c = search needs
-
-enum-told-4 : tie.Need-enum-told-4
-enum-told-4 c = search needs
-
-enum-told-5 : tie.Need-enum-told-5
-enum-told-5 c = search needs
-
-same-length : tie.Need-same-length
-same-length c = search needs
-
-same-length-2 : tie.Need-same-length-2
-same-length-2 c = search needs
 
 returns : tie.Need-returns
 returns c =
@@ -102,19 +72,19 @@ pub write-record-spec : {M : Type 1} → statement M
 write-record-spec =
     tie.close
     (tie.spec
-    enum-known-given
+    (λ c. search needs)
     add-end
-    sub-put
-    part-put-start
+    (λ c. search needs)
+    (λ c. search needs)
     part-put-end
     put-requires
-    enum-told
-    enum-told-2
-    enum-told-3
-    enum-told-4
-    enum-told-5
-    same-length
-    same-length-2
+    (λ c. search needs)
+    (λ c. search needs)
+    (λ c. search needs)
+    (λ c. search needs)
+    (λ c. search needs)
+    (λ c. search needs)
+    (λ c. search needs)
     returns
     returns-2
     returns-3

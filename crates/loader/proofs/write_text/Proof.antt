@@ -16,9 +16,6 @@ Inv-loop text first page₀ marks₀ pool₀ w₀ page marks pool w = Writing fi
 abbrev μ-loop : tie.MeasureT-loop
 μ-loop text first page₀ marks₀ pool₀ w₀ page marks pool w = length (unread (w .state) text)
 
-begin-requires : tie.Need-begin-requires Inv-loop μ-loop
-begin-requires c κs = search needs
-
 loop-holds : tie.Need-loop-holds Inv-loop μ-loop
 loop-holds c =
     let s = c .before .before .before .before in
@@ -29,9 +26,6 @@ slice-aggregate-write-next c = sym (c .before .loop .inv .room)
 
 write-next-requires : tie.Need-write-next-requires Inv-loop μ-loop
 write-next-requires c κs = let i = c .before .before .before .loop .inv in (i .under-way, i .room)
-
-enum-known-next : tie.Need-enum-known-next Inv-loop μ-loop
-enum-known-next c = search needs
 
 loop-less : tie.Need-loop-less Inv-loop μ-loop
 loop-less c =
@@ -49,15 +43,6 @@ loop-again c =
     writing-again (s .first) (now (s .text)) (now (s .page)) (now (s .marks)) (l .page) (l .marks) (l .pool) (l .w) (l .inv)
     (n .result) (n .last .1 .1 .1 .1 .0) (n .last .1 .1 .1 .1 .1 .0) (n .ensures) (c .before .next .given .0 .0) (c .before .next .given .1) (n .last .1 .0) (n .kept .1 .0) (n .kept .1 .1 .1 .1 .1 .0)
 
-enum-told : tie.Need-enum-told Inv-loop μ-loop
-enum-told c = search needs
-
-same-length : tie.Need-same-length Inv-loop μ-loop
-same-length c = search needs
-
-same-length-2 : tie.Need-same-length-2 Inv-loop μ-loop
-same-length-2 c = search needs
-
 returns : tie.Need-returns Inv-loop μ-loop
 returns c =
     let s = c .before .before .before .before .before .before .before .before .before .before .before .before .before .before .before .before .args in
@@ -72,14 +57,14 @@ write-text-spec =
     (tie.spec
     Inv-loop
     μ-loop
-    begin-requires
+    (λ c κs. search needs)
     loop-holds
     slice-aggregate-write-next
     write-next-requires
-    enum-known-next
+    (λ c. search needs)
     loop-less
     loop-again
-    enum-told
-    same-length
-    same-length-2
+    (λ c. search needs)
+    (λ c. search needs)
+    (λ c. search needs)
     returns)

@@ -19,19 +19,10 @@ abbrev μ-loop : tie.MeasureT-loop
 loop-holds : tie.Need-loop-holds Inv-loop μ-loop
 loop-holds c = (omega arith, λ j l h. absurd (omega arith))
 
-shared-slice-read-if1 : tie.Need-shared-slice-read-if1 Inv-loop μ-loop
-shared-slice-read-if1 c = search needs
-
 returns : tie.Need-returns Inv-loop μ-loop
 returns c =
     let l = c .before .before .before .loop in
     first-bad-is (now (c .before .before .before .before .args .marks)) (l .i) (l .inv .0) (λ j k. l .inv .1 j (omega arith) k) (inr (omega (arith, c .if1 .taken)))
-
-add-i : tie.Need-add-i Inv-loop μ-loop
-add-i c = search needs
-
-loop-less : tie.Need-loop-less Inv-loop μ-loop
-loop-less c = search needs
 
 loop-again : tie.Need-loop-again Inv-loop μ-loop
 loop-again c =
@@ -45,4 +36,4 @@ returns-2 c =
     first-bad-is (now (c .before .before .args .marks)) (l .i) (l .inv .0) (λ j k. l .inv .1 j (omega arith) k) (inl (omega (arith, c .loop-test .left, l .inv .0)))
 
 pub first-bad-spec : {M : Type 1} → statement M
-first-bad-spec = tie.close (tie.spec Inv-loop μ-loop loop-holds shared-slice-read-if1 returns add-i loop-less loop-again returns-2)
+first-bad-spec = tie.close (tie.spec Inv-loop μ-loop loop-holds (λ c. search needs) returns (λ c. search needs) (λ c. search needs) loop-again returns-2)

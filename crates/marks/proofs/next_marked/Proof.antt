@@ -17,14 +17,8 @@ Inv-loop marks places from end i₀ i = (end ≡ min places (length marks)) × (
 abbrev μ-loop : tie.MeasureT-loop
 μ-loop marks places from end i₀ i = end - i
 
-least-requires : tie.Need-least-requires Inv-loop μ-loop
-least-requires c κs = search needs
-
 loop-holds : tie.Need-loop-holds Inv-loop μ-loop
 loop-holds c = (c .least .ensures, omega arith, omega arith, λ j l h. absurd (omega arith))
-
-shared-slice-read-if1 : tie.Need-shared-slice-read-if1 Inv-loop μ-loop
-shared-slice-read-if1 c = search needs
 
 returns : tie.Need-returns Inv-loop μ-loop
 returns c =
@@ -32,20 +26,11 @@ returns c =
     let l = c .before .before .before .loop in
     found-marked (now (s .marks)) (s .places) (s .from) _ (l .i) (l .inv .0) (l .inv .1) (c .before .before .loop-test .taken) (l .inv .3) (c .if1 .taken)
 
-add-i : tie.Need-add-i Inv-loop μ-loop
-add-i c = search needs
-
-loop-less : tie.Need-loop-less Inv-loop μ-loop
-loop-less c = search needs
-
 loop-again : tie.Need-loop-again Inv-loop μ-loop
 loop-again c =
     let s = c .before .before .before .before .before .before .args in
     let l = c .before .before .before .loop in
     (l .inv .0, omega (arith, l .inv .1), omega (arith, c .before .before .loop-test .taken), one-more (λ j. getD (now (s .marks)) j 0 ≢ 1) (s .from) (l .i) (l .inv .3) (c .if1 .left))
-
-most-requires : tie.Need-most-requires Inv-loop μ-loop
-most-requires c κs = search needs
 
 returns-2 : tie.Need-returns-2 Inv-loop μ-loop
 returns-2 c =
@@ -54,4 +39,4 @@ returns-2 c =
     rw (c .most .ensures) (none-marked (now (s .marks)) (s .places) (s .from) _ (l .i) (l .inv .0) (l .inv .1) (c .before .loop-test .left) (l .inv .3) (l .inv .2))
 
 pub next-marked-spec : {M : Type 1} → statement M
-next-marked-spec = tie.close (tie.spec Inv-loop μ-loop least-requires loop-holds shared-slice-read-if1 returns add-i loop-less loop-again most-requires returns-2)
+next-marked-spec = tie.close (tie.spec Inv-loop μ-loop (λ c κs. search needs) loop-holds (λ c. search needs) returns (λ c. search needs) (λ c. search needs) loop-again (λ c κs. search needs) returns-2)

@@ -6,12 +6,6 @@ use borrow.Author.Needs.{needs}
 use Rattle.page.proofs.as_paged.Statement.{statement}
 use Rattle.page.proofs.as_paged.Tie as tie
 
-enum-known-answer : tie.Need-enum-known-answer
-enum-known-answer c = search needs
-
-enum-told : tie.Need-enum-told
-enum-told c = search needs
-
 returns : tie.Need-returns
 returns c = sym (ap told-written (c .before .answer .given .1))
 
@@ -21,4 +15,4 @@ returns-2 c =
     sym (e ∙ ap refuses (c .before .before .pre _ e))
 
 pub as-paged-spec : {M : Type 1} → statement M
-as-paged-spec = tie.close (tie.spec enum-known-answer enum-told returns returns-2)
+as-paged-spec = tie.close (tie.spec (λ c. search needs) (λ c. search needs) returns returns-2)

@@ -7,21 +7,6 @@ use borrow.Author.Needs.{needs}
 use Rattle.page.proofs.farthest.Statement.{statement}
 use Rattle.page.proofs.farthest.Tie as tie
 
-cast-room : tie.Need-cast-room
-cast-room c = search needs
-
-sub-room : tie.Need-sub-room
-sub-room c = search needs
-
-least-requires : tie.Need-least-requires
-least-requires c κs = search needs
-
-sub-least : tie.Need-sub-least
-sub-least c = search needs
-
-least-requires-2 : tie.Need-least-requires-2
-least-requires-2 c κs = search needs
-
 add-result : tie.Need-add-result
 add-result c = omega (arith, c .before .before .pre, c .least2 .ensures, c .before .before .good .1 .1 .0)
 
@@ -31,4 +16,4 @@ returns c =
     rw (c .least2 .ensures, c .before .least .ensures) (ap (λ (room : ℕ). a .place + min (min 16 room) (a .end - a .place)) (omega arith))
 
 pub farthest-spec : {M : Type 1} → statement M
-farthest-spec = tie.close (tie.spec cast-room sub-room least-requires sub-least least-requires-2 add-result returns)
+farthest-spec = tie.close (tie.spec (λ c. search needs) (λ c. search needs) (λ c κs. search needs) (λ c. search needs) (λ c κs. search needs) add-result returns)

@@ -32,9 +32,6 @@ inside c = let a = c .before .before .before .args in omega (arith, there c .0, 
 below : (c : tie.Else1) → let a = c .before .before .before .args in a .first + a .places ≤ 2 ^ 32
 below c = let s = c .before .before .before in omega (arith, s .pre .below, flags-length (s .args .places) (now (s .args .marks)))
 
-next-marked-requires : tie.Need-next-marked-requires
-next-marked-requires c κs = search needs
-
 returns : tie.Need-returns
 returns c =
     let s = c .before .before .before in
@@ -60,9 +57,6 @@ returns-2 c =
 piece-end-requires : tie.Need-piece-end-requires
 piece-end-requires c κs = (inside (c .before .before), below (c .before .before))
 
-cast-t16 : tie.Need-cast-t16
-cast-t16 c = search needs
-
 sub-t17 : tie.Need-sub-t17
 sub-t17 c = omega (arith, c .piece-end .ensures .more)
 
@@ -77,13 +71,13 @@ pub next-record-spec : {M : Type 1} → statement M
 next-record-spec =
     tie.close
     (tie.spec
-    next-marked-requires
+    (λ c κs. search needs)
     returns
     cast-address
     add-address
     cast-t13
     returns-2
     piece-end-requires
-    cast-t16
+    (λ c. search needs)
     sub-t17
     returns-3)

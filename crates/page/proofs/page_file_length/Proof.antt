@@ -22,18 +22,6 @@ surveyed c =
     let a = c .before .before .before .before .before .before .before .args in
     surveyed-length (a .first) (now (a .page)) (now (a .marks)) (c .before .before .s .given .0 .0) (whole c) (c .answer .result) (c .answer .ensures)
 
-survey-page-requires : tie.Need-survey-page-requires
-survey-page-requires c κs = search needs
-
-enum-known-e : tie.Need-enum-known-e
-enum-known-e c = search needs
-
-enum-known-s : tie.Need-enum-known-s
-enum-known-s c = search needs
-
-answer-requires : tie.Need-answer-requires
-answer-requires c κs = search needs
-
 as-paged-requires : tie.Need-as-paged-requires
 as-paged-requires c κs = never-refused (c .answer .result) _ (surveyed c)
 
@@ -48,4 +36,4 @@ returns-2 c =
     length-told (a .first) (now (a .page)) (now (a .marks)) (c .before .answer .result) (c .as-paged .result) (whole (c .before) .text-is) (surveyed (c .before)) (c .as-paged .ensures)
 
 pub page-file-length-spec : {M : Type 1} → statement M
-page-file-length-spec = tie.close (tie.spec survey-page-requires enum-known-e enum-known-s answer-requires as-paged-requires returns returns-2)
+page-file-length-spec = tie.close (tie.spec (λ c κs. search needs) (λ c. search needs) (λ c. search needs) (λ c κs. search needs) as-paged-requires returns returns-2)

@@ -19,9 +19,6 @@ farthest-requires c κs = c .before .pre .0
 add-next-unmarked : tie.Need-add-next-unmarked
 add-next-unmarked c = omega (arith, c .before .before .pre .0, c .before .before .pre .1)
 
-next-unmarked-requires : tie.Need-next-unmarked-requires
-next-unmarked-requires c κs = search needs
-
 returns : tie.Need-returns
 returns c =
     let s = c .before .before .before in
@@ -29,4 +26,4 @@ returns c =
     piece-ends (now (a .marks)) (a .places) (a .first) (a .start) _ _ (s .pre .0) (c .before .farthest .ensures) (c .next-unmarked .ensures)
 
 pub piece-end-spec : {M : Type 1} → statement M
-piece-end-spec = tie.close (tie.spec cast-farthest add-farthest farthest-requires add-next-unmarked next-unmarked-requires returns)
+piece-end-spec = tie.close (tie.spec cast-farthest add-farthest farthest-requires add-next-unmarked (λ c κs. search needs) returns)

@@ -22,12 +22,6 @@ Inv-loop first page marks s₀ w₀ finished₀ s w finished = Surveying first p
 abbrev μ-loop : tie.MeasureT-loop
 μ-loop first page marks s₀ w₀ finished₀ s w finished = length (to-come first (flags (length page) marks) w)
 
-new-requires : tie.Need-new-requires Inv-loop μ-loop
-new-requires c κs = search needs
-
-begin-requires : tie.Need-begin-requires Inv-loop μ-loop
-begin-requires c κs = search needs
-
 loop-holds : tie.Need-loop-holds Inv-loop μ-loop
 loop-holds c =
     let a = c .before .before .before .before .args in
@@ -38,9 +32,6 @@ next-record-requires c κs =
     let s = c .before .before .before .before .before .before in
     let l = c .before .loop in
     under-way (s .args .first) (flags (length (now (s .args .page))) (now (s .args .marks))) (l .inv .rs) (l .w) (l .finished) (l .inv .passed) (not-true (l .finished) (c .loop-test .taken)) (omega (arith, flags-length (length (now (s .args .page))) (now (s .args .marks)), s .pre))
-
-add-requires : tie.Need-add-requires Inv-loop μ-loop
-add-requires c κs = search needs
 
 loop-less : tie.Need-loop-less Inv-loop μ-loop
 loop-less c =
@@ -66,4 +57,4 @@ returns c =
     subst (λ (rs : List Record). Surveys (now (a .page)) rs (l .s)) (passed-all (a .first) (flags (length (now (a .page))) (now (a .marks))) (l .inv .rs) (l .w) (l .finished) (l .inv .passed) (not-false (l .finished) (c .loop-test .left))) (l .inv .surveys)
 
 pub survey-spec : {M : Type 1} → statement M
-survey-spec = tie.close (tie.spec Inv-loop μ-loop new-requires begin-requires loop-holds next-record-requires add-requires loop-less loop-again returns)
+survey-spec = tie.close (tie.spec Inv-loop μ-loop (λ c κs. search needs) (λ c κs. search needs) loop-holds next-record-requires (λ c κs. search needs) loop-less loop-again returns)

@@ -19,16 +19,10 @@ use Rattle.page.proofs.survey_page.Tie as tie
 fit : (c : tie.Else1) → let a = c .before .before .before .before .args in unfit (a .first) (length (now (a .page))) (length (now (a .marks))) ≡ false
 fit c = sym (c .before .is-unfit .ensures .answer) ∙ c .if1 .left
 
-is-unfit-requires : tie.Need-is-unfit-requires
-is-unfit-requires c κs = search needs
-
 returns : tie.Need-returns
 returns c =
     let a = c .before .before .before .before .args in
     text-unfit (a .first) (now (a .page)) (now (a .marks)) (sym (c .before .is-unfit .ensures .answer) ∙ c .if1 .taken)
-
-first-bad-requires : tie.Need-first-bad-requires
-first-bad-requires c κs = search needs
 
 returns-2 : tie.Need-returns-2
 returns-2 c =
@@ -54,4 +48,4 @@ returns-3 c =
     }
 
 pub survey-page-spec : {M : Type 1} → statement M
-survey-page-spec = tie.close (tie.spec is-unfit-requires returns first-bad-requires returns-2 survey-requires returns-3)
+survey-page-spec = tie.close (tie.spec (λ c κs. search needs) returns (λ c κs. search needs) returns-2 survey-requires returns-3)

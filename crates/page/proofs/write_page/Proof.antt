@@ -26,18 +26,6 @@ writes c =
     file-written (s .args .first) (now (s .args .page)) (now (s .args .marks)) (b .before .before .s .given .0 .0) (whole b) (now (s .args .out)) (b .begin .result) (c .write-records .result) (c .write-records .last .1 .1 .1 .0)
     (omega (arith, s .good .1 .1 .1 .0)) (b .begin .ensures) (c .write-records .ensures)
 
-survey-page-requires : tie.Need-survey-page-requires
-survey-page-requires c κs = search needs
-
-enum-known-e : tie.Need-enum-known-e
-enum-known-e c = search needs
-
-enum-known-s : tie.Need-enum-known-s
-enum-known-s c = search needs
-
-begin-requires : tie.Need-begin-requires
-begin-requires c κs = search needs
-
 write-records-requires : tie.Need-write-records-requires
 write-records-requires c κs = let w = whole (c .before) .window in omega (arith, w .even, w .below)
 
@@ -53,9 +41,6 @@ returns c =
     page-refused (a .first) (now (a .page)) (now (a .marks)) (now (a .out)) (c .before .e .given .0 .0)
     (subst (PageSurvey-as (a .first) (now (a .page)) (now (a .marks))) (c .before .e .given .1) (c .before .before .before .survey-page .ensures))
 
-same-length : tie.Need-same-length
-same-length c = search needs
-
 returns-2 : tie.Need-returns-2
 returns-2 c =
     let w = c .before .before .before in
@@ -66,12 +51,12 @@ pub write-page-spec : {M : Type 1} → statement M
 write-page-spec =
     tie.close
     (tie.spec
-    survey-page-requires
-    enum-known-e
-    enum-known-s
-    begin-requires
+    (λ c κs. search needs)
+    (λ c. search needs)
+    (λ c. search needs)
+    (λ c κs. search needs)
     write-records-requires
     as-paged-requires
     returns
-    same-length
+    (λ c. search needs)
     returns-2)

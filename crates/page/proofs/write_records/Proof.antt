@@ -22,9 +22,6 @@ Inv-loop first page marks out₀ done₀ w₀ finished₀ out done w finished = 
 abbrev μ-loop : tie.MeasureT-loop
 μ-loop first page marks out₀ done₀ w₀ finished₀ out done w finished = length (to-come first (flags (length page) marks) w)
 
-begin-requires : tie.Need-begin-requires Inv-loop μ-loop
-begin-requires c κs = search needs
-
 loop-holds : tie.Need-loop-holds Inv-loop μ-loop
 loop-holds c =
     let a = c .before .before .before .before .args in
@@ -35,9 +32,6 @@ next-record-requires c κs =
     let s = c .before .before .before .before .before .before in
     let l = c .before .loop in
     under-way (s .args .first) (flags (length (now (s .args .page))) (now (s .args .marks))) (l .inv .rs) (l .w) (l .finished) (l .inv .passed) (not-true (l .finished) (c .loop-test .taken)) (omega (arith, flags-length (length (now (s .args .page))) (now (s .args .marks)), s .pre))
-
-write-next-requires : tie.Need-write-next-requires Inv-loop μ-loop
-write-next-requires c κs = search needs
 
 loop-less : tie.Need-loop-less Inv-loop μ-loop
 loop-less c =
@@ -69,4 +63,4 @@ returns c =
     (passed-all (a .first) (flags (length (now (a .page))) (now (a .marks))) (l .inv .rs) (l .w) (l .finished) (l .inv .passed) (not-false (l .finished) (c .loop-test .left))) (l .inv .steps)
 
 pub write-records-spec : {M : Type 1} → statement M
-write-records-spec = tie.close (tie.spec Inv-loop μ-loop begin-requires loop-holds next-record-requires write-next-requires loop-less loop-again same-length returns)
+write-records-spec = tie.close (tie.spec Inv-loop μ-loop (λ c κs. search needs) loop-holds next-record-requires (λ c κs. search needs) loop-less loop-again same-length returns)

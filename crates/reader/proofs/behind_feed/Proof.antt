@@ -7,9 +7,6 @@ use Rattle.reader.proofs.Feeds.{behind-all, behind-LF}
 use Rattle.reader.proofs.behind_feed.Statement.{statement}
 use Rattle.reader.proofs.behind_feed.Tie as tie
 
-add-result : tie.Need-add-result
-add-result c = search needs
-
 returns : tie.Need-returns
 returns c =
     let s = c .before in
@@ -21,4 +18,4 @@ returns-2 c =
     behind-all (now (s .args .text)) (s .args .feed) (s .pre) (omega (arith, s .pre .inside))
 
 pub behind-feed-spec : {M : Type 1} → statement M
-behind-feed-spec = tie.close (tie.spec add-result returns returns-2)
+behind-feed-spec = tie.close (tie.spec (λ c. search needs) returns returns-2)

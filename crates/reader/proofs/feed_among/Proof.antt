@@ -21,21 +21,6 @@ abbrev μ-loop : tie.MeasureT-loop
 loop-holds : tie.Need-loop-holds Inv-loop μ-loop
 loop-holds c = (omega arith, λ e. none-at-first (now (c .before .args .text)) (c .before .args .from))
 
-add-is-feed : tie.Need-add-is-feed Inv-loop μ-loop
-add-is-feed c = search needs
-
-shared-slice-read-is-feed : tie.Need-shared-slice-read-is-feed Inv-loop μ-loop
-shared-slice-read-is-feed c = search needs
-
-is-feed-requires : tie.Need-is-feed-requires Inv-loop μ-loop
-is-feed-requires c κs = search needs
-
-add-k : tie.Need-add-k Inv-loop μ-loop
-add-k c = search needs
-
-loop-less : tie.Need-loop-less Inv-loop μ-loop
-loop-less c = search needs
-
 loop-again : tie.Need-loop-again Inv-loop μ-loop
 loop-again c =
     let a = c .before .before .before .before .before .args in
@@ -56,10 +41,10 @@ feed-among-spec =
     Inv-loop
     μ-loop
     loop-holds
-    add-is-feed
-    shared-slice-read-is-feed
-    is-feed-requires
-    add-k
-    loop-less
+    (λ c. search needs)
+    (λ c. search needs)
+    (λ c κs. search needs)
+    (λ c. search needs)
+    (λ c. search needs)
     loop-again
     returns)

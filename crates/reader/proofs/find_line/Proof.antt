@@ -18,21 +18,6 @@ Inv-loop text position from₀ empties₀ from empties =
 abbrev μ-loop : tie.MeasureT-loop
 μ-loop text position from₀ empties₀ from empties = length text - from
 
-loop-holds : tie.Need-loop-holds Inv-loop μ-loop
-loop-holds c = search needs
-
-sub-first-line : tie.Need-sub-first-line Inv-loop μ-loop
-sub-first-line c = search needs
-
-part-first-line-start : tie.Need-part-first-line-start Inv-loop μ-loop
-part-first-line-start c = search needs
-
-part-first-line-end : tie.Need-part-first-line-end Inv-loop μ-loop
-part-first-line-end c = search needs
-
-first-line-requires : tie.Need-first-line-requires Inv-loop μ-loop
-first-line-requires c κs = search needs
-
 add-t15 : tie.Need-add-t15 Inv-loop μ-loop
 add-t15 c =
     let a = c .before .before .before .before .before .before .before in
@@ -53,9 +38,6 @@ add-from c =
     let s = c .before .before .before .before .before .loop in
     let f = c .before .first-line in
     omega (arith, turn-inside (now (a .args .text)) (a .args .position) (s .from) (s .empties) (now (f .result)) (f .last .1 .0) (s .inv .0) (s .inv .1) (c .before .before .before .before .loop-test .taken) (cut-off (f .ensures)))
-
-add-empties : tie.Need-add-empties Inv-loop μ-loop
-add-empties c = search needs
 
 loop-less : tie.Need-loop-less Inv-loop μ-loop
 loop-less c =
@@ -84,15 +66,15 @@ find-line-spec =
     (tie.spec
     Inv-loop
     μ-loop
-    loop-holds
-    sub-first-line
-    part-first-line-start
-    part-first-line-end
-    first-line-requires
+    (λ c. search needs)
+    (λ c. search needs)
+    (λ c. search needs)
+    (λ c. search needs)
+    (λ c κs. search needs)
     add-t15
     returns
     add-from
-    add-empties
+    (λ c. search needs)
     loop-less
     loop-again
     returns-2)

@@ -44,29 +44,11 @@ sized c =
     let s = c .before .before .before .before .before .before in
     sym (c .before .wide .ensures) ∙ c .if2 .left ∙ sym (size-of-payload s)
 
-sub-last : tie.Need-sub-last
-sub-last c = search needs
-
-sub-n : tie.Need-sub-n
-sub-n c = search needs
-
-shared-slice-read-stated : tie.Need-shared-slice-read-stated
-shared-slice-read-stated c = search needs
-
-wrapping-sub-u8-requires : tie.Need-wrapping-sub-u8-requires
-wrapping-sub-u8-requires c κs = search needs
-
 returns : tie.Need-returns
 returns c =
     let s = c .before .before .before .before .before in
     refused (whole s) (now (s .args .pool)) (s .args .at) (ChecksumMismatch (c .wrapping-sub-u8 .result) (getD (bytes-of s) (s .args .m - 1) 0))
     (differs (bytes-of s) (s .args .m) (s .args .sum) (s .pre) (c .wrapping-sub-u8 .result) (c .before .before .if1 .taken) (c .wrapping-sub-u8 .ensures) (search needs))
-
-shared-slice-read-wide : tie.Need-shared-slice-read-wide
-shared-slice-read-wide c = search needs
-
-wide-requires : tie.Need-wide-requires
-wide-requires c κs = search needs
 
 returns-2 : tie.Need-returns-2
 returns-2 c =
@@ -74,15 +56,6 @@ returns-2 c =
     refused (whole s) (now (s .args .pool)) (s .args .at) PayloadLengthMismatch
     (agreed (c .before .before .before)
     ∙ fields-mislaid (getD (bytes-of s) 0 0) (word (bytes-of s) 1) (getD (bytes-of s) 3 0) (payload-of s) (λ e. c .if2 .taken (c .before .wide .ensures ∙ e ∙ size-of-payload s)))
-
-shared-slice-read-kind : tie.Need-shared-slice-read-kind
-shared-slice-read-kind c = search needs
-
-lay-down-requires : tie.Need-lay-down-requires
-lay-down-requires c κs = search needs
-
-same-length : tie.Need-same-length
-same-length c = search needs
 
 returns-3 : tie.Need-returns-3
 returns-3 c =
@@ -97,9 +70,6 @@ returns-4 c =
     (agreed (c .before .before .before .before .before .before)
     ∙ fields-unknown (getD (bytes-of s) 0 0) (word (bytes-of s) 1) (getD (bytes-of s) 3 0) (payload-of s) (sized (c .before .before .before)) (c .if4 .taken))
 
-size-of-requires : tie.Need-size-of-requires
-size-of-requires c κs = search needs
-
 returns-5 : tie.Need-returns-5
 returns-5 c =
     let s = c .before .before .before .before .before .before .before .before .before .before .before in
@@ -108,9 +78,6 @@ returns-5 c =
     (agreed (c .before .before .before .before .before .before .before .before)
     ∙ fields-misfit (getD (bytes-of s) 0 0) (word (bytes-of s) 1) k (payload-of s) (sized (c .before .before .before .before .before)) (c .before .before .if4 .left)
     (size-misfits k (length (payload-of s)) (c .before .before .before .if3 .left) (λ e. c .if5 .taken (c .before .size-of .ensures ∙ e ∙ size-of-payload s))))
-
-special-requires : tie.Need-special-requires
-special-requires c κs = search needs
 
 returns-6 : tie.Need-returns-6
 returns-6 c =
@@ -128,20 +95,20 @@ pub judge-bytes-spec : {M : Type 1} → statement M
 judge-bytes-spec =
     tie.close
     (tie.spec
-    sub-last
-    sub-n
-    shared-slice-read-stated
-    wrapping-sub-u8-requires
+    (λ c. search needs)
+    (λ c. search needs)
+    (λ c. search needs)
+    (λ c κs. search needs)
     returns
-    shared-slice-read-wide
-    wide-requires
+    (λ c. search needs)
+    (λ c κs. search needs)
     returns-2
-    shared-slice-read-kind
-    lay-down-requires
-    same-length
+    (λ c. search needs)
+    (λ c κs. search needs)
+    (λ c. search needs)
     returns-3
     returns-4
-    size-of-requires
+    (λ c κs. search needs)
     returns-5
-    special-requires
+    (λ c κs. search needs)
     returns-6)

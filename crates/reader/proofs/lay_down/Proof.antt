@@ -17,29 +17,11 @@ returns c =
     let n = part-length (now (s .args .buf)) 4 (s .args .n) (omega arith) in
     full (word (now (s .args .buf)) 1) (take (s .args .n) (drop 4 (now (s .args .buf)))) (now (s .args .pool)) (s .args .at) (omega arith)
 
-sub-if2 : tie.Need-sub-if2
-sub-if2 c = search needs
-
 returns-2 : tie.Need-returns-2
 returns-2 c =
     let s = c .before .before .before .before in
     let n = part-length (now (s .args .buf)) 4 (s .args .n) (omega arith) in
     full (word (now (s .args .buf)) 1) (take (s .args .n) (drop 4 (now (s .args .buf)))) (now (s .args .pool)) (s .args .at) (omega arith)
-
-pour-requires : tie.Need-pour-requires
-pour-requires c κs = search needs
-
-shared-slice-read-word16 : tie.Need-shared-slice-read-word16
-shared-slice-read-word16 c = search needs
-
-shared-slice-read-word16-2 : tie.Need-shared-slice-read-word16-2
-shared-slice-read-word16-2 c = search needs
-
-word16-requires : tie.Need-word16-requires
-word16-requires c κs = search needs
-
-same-length : tie.Need-same-length
-same-length c = search needs
 
 returns-3 : tie.Need-returns-3
 returns-3 c =
@@ -55,11 +37,11 @@ lay-down-spec =
     tie.close
     (tie.spec
     returns
-    sub-if2
+    (λ c. search needs)
     returns-2
-    pour-requires
-    shared-slice-read-word16
-    shared-slice-read-word16-2
-    word16-requires
-    same-length
+    (λ c κs. search needs)
+    (λ c. search needs)
+    (λ c. search needs)
+    (λ c κs. search needs)
+    (λ c. search needs)
     returns-3)

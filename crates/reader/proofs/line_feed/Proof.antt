@@ -19,36 +19,12 @@ abbrev μ-loop : tie.MeasureT-loop
 loop-holds : tie.Need-loop-holds Inv-loop μ-loop
 loop-holds c = (omega arith, λ k a b. absurd (omega arith))
 
-sub-loop : tie.Need-sub-loop Inv-loop μ-loop
-sub-loop c = search needs
-
-feed-among-requires : tie.Need-feed-among-requires Inv-loop μ-loop
-feed-among-requires c κs = search needs
-
-feed-from-requires : tie.Need-feed-from-requires Inv-loop μ-loop
-feed-from-requires c κs = search needs
-
-returns : tie.Need-returns Inv-loop μ-loop
-returns c = search needs
-
-add-i : tie.Need-add-i Inv-loop μ-loop
-add-i c = search needs
-
-loop-less : tie.Need-loop-less Inv-loop μ-loop
-loop-less c = search needs
-
 loop-again : tie.Need-loop-again Inv-loop μ-loop
 loop-again c =
     let s = c .before .before .before .loop in (
       search needs,
       none-joined (now (c .before .before .before .before .before .args .text)) 0 (s .i) (s .i + 16) (s .inv .1) (c .before .feed-among .ensures (c .if1 .left)),
     )
-
-feed-from-requires-2 : tie.Need-feed-from-requires-2 Inv-loop μ-loop
-feed-from-requires-2 c κs = search needs
-
-returns-2 : tie.Need-returns-2 Inv-loop μ-loop
-returns-2 c = search needs
 
 pub line-feed-spec : {M : Type 1} → statement M
 line-feed-spec =
@@ -57,12 +33,12 @@ line-feed-spec =
     Inv-loop
     μ-loop
     loop-holds
-    sub-loop
-    feed-among-requires
-    feed-from-requires
-    returns
-    add-i
-    loop-less
+    (λ c. search needs)
+    (λ c κs. search needs)
+    (λ c κs. search needs)
+    (λ c. search needs)
+    (λ c. search needs)
+    (λ c. search needs)
     loop-again
-    feed-from-requires-2
-    returns-2)
+    (λ c κs. search needs)
+    (λ c. search needs))

@@ -15,12 +15,6 @@ returns c =
 returns-2 : tie.Need-returns-2
 returns-2 c = empty-line _ _ (c .before .before .pre) (c .before .if1 .left) (c .if2 .taken)
 
-sub-before : tie.Need-sub-before
-sub-before c = search needs
-
-shared-slice-read-if3 : tie.Need-shared-slice-read-if3
-shared-slice-read-if3 c = search needs
-
 returns-3 : tie.Need-returns-3
 returns-3 c = with-CR _ _ (c .before .before .before .before .pre) (search needs) (search needs) (c .if3 .taken)
 
@@ -29,4 +23,4 @@ returns-4 c = with-LF-only _ _ (c .before .before .before .before .pre) (search 
 
 pub line-len-spec : {M : Type 1} → statement M
 line-len-spec =
-    tie.close (tie.spec returns returns-2 sub-before shared-slice-read-if3 returns-3 returns-4)
+    tie.close (tie.spec returns returns-2 (λ c. search needs) (λ c. search needs) returns-3 returns-4)

@@ -60,20 +60,11 @@ returns c =
     refused (said s) (now (s .args .pool)) (s .args .at) MissingStartCode
     (judge-none (line-of s) (omega arith))
 
-shared-slice-read-if2 : tie.Need-shared-slice-read-if2
-shared-slice-read-if2 c = search needs
-
 returns-2 : tie.Need-returns-2
 returns-2 c =
     let s = c .before .before .before .before .before .before in
     refused (said s) (now (s .args .pool)) (s .args .at) MissingStartCode
     (judge-other (line-of s) (c .if2 .taken))
-
-sub-n : tie.Need-sub-n
-sub-n c = search needs
-
-digits-or-requires : tie.Need-digits-or-requires
-digits-or-requires c κs = search needs
 
 returns-3 : tie.Need-returns-3
 returns-3 c =
@@ -81,17 +72,11 @@ returns-3 c =
     chosen (said s) (now (s .args .pool)) (s .args .at) (all-digits (drop 1 (line-of s))) (c .digits-or .result) RecordTooShort (invalid-at (line-of s))
     (judge-short (line-of s) (c .before .before .if2 .left) (c .before .if3 .taken)) (c .digits-or .ensures)
 
-digits-or-requires-2 : tie.Need-digits-or-requires-2
-digits-or-requires-2 c κs = search needs
-
 returns-4 : tie.Need-returns-4
 returns-4 c =
     let s = c .before .before .before .before .before .before .before .before .before in
     chosen (said s) (now (s .args .pool)) (s .args .at) (all-digits (drop 1 (line-of s))) (c .digits-or2 .result) RecordTooLong (invalid-at (line-of s))
     (judge-long (line-of s) (c .before .before .before .if2 .left) (c .before .if4 .taken)) (c .digits-or2 .ensures)
-
-digits-or-requires-3 : tie.Need-digits-or-requires-3
-digits-or-requires-3 c κs = search needs
 
 returns-5 : tie.Need-returns-5
 returns-5 c =
@@ -99,42 +84,12 @@ returns-5 c =
     chosen (said s) (now (s .args .pool)) (s .args .at) (all-digits (drop 1 (line-of s))) (c .digits-or3 .result) RecordNotEvenLength (invalid-at (line-of s))
     (judge-odd (line-of s) (c .before .before .before .before .if2 .left) (omega arith) (omega arith) (c .before .if5 .taken)) (c .digits-or3 .ensures)
 
-sub-decode : tie.Need-sub-decode
-sub-decode c = search needs
-
-part-decode-start : tie.Need-part-decode-start
-part-decode-start c = search needs
-
-part-decode-end : tie.Need-part-decode-end
-part-decode-end c = search needs
-
-decode-requires : tie.Need-decode-requires
-decode-requires c κs = search needs
-
-sub-first-other : tie.Need-sub-first-other
-sub-first-other c = search needs
-
-part-first-other-start : tie.Need-part-first-other-start
-part-first-other-start c = search needs
-
-part-first-other-end : tie.Need-part-first-other-end
-part-first-other-end c = search needs
-
-first-other-requires : tie.Need-first-other-requires
-first-other-requires c κs = search needs
-
 add-name-place : tie.Need-add-name-place
 add-name-place c =
     let l = line-of (c .before .before .before .before .before .before .before .before .before .before .before .before .before .before .before .before .before) in
     let place : c .first-other .result ≡ leading (take (length l - 1) (drop 1 l)) = c .first-other .ensures .answer in
     let e = place ∙ ap leading (rest-is l 1) in
     omega (arith, leading-most (drop 1 l), length-drop 1 l)
-
-name-place-requires : tie.Need-name-place-requires
-name-place-requires c κs = search needs
-
-same-length : tie.Need-same-length
-same-length c = search needs
 
 returns-6 : tie.Need-returns-6
 returns-6 c =
@@ -161,12 +116,6 @@ judge-bytes-requires c κs =
       sums = e .1 ∙ ap (λ (bs : List ℕ). sum bs % 256) (sym (e .0));
     }
 
-same-length-2 : tie.Need-same-length-2
-same-length-2 c = search needs
-
-same-length-3 : tie.Need-same-length-3
-same-length-3 c = search needs
-
 returns-7 : tie.Need-returns-7
 returns-7 c =
     let s = c .before .before .before .before .before .before .before .before .before .before .before .before .before .before .before .before .before .before .before .before in
@@ -179,28 +128,28 @@ read-with-spec =
     tie.close
     (tie.spec
     returns
-    shared-slice-read-if2
+    (λ c. search needs)
     returns-2
-    sub-n
-    digits-or-requires
+    (λ c. search needs)
+    (λ c κs. search needs)
     returns-3
-    digits-or-requires-2
+    (λ c κs. search needs)
     returns-4
-    digits-or-requires-3
+    (λ c κs. search needs)
     returns-5
-    sub-decode
-    part-decode-start
-    part-decode-end
-    decode-requires
-    sub-first-other
-    part-first-other-start
-    part-first-other-end
-    first-other-requires
+    (λ c. search needs)
+    (λ c. search needs)
+    (λ c. search needs)
+    (λ c κs. search needs)
+    (λ c. search needs)
+    (λ c. search needs)
+    (λ c. search needs)
+    (λ c κs. search needs)
     add-name-place
-    name-place-requires
-    same-length
+    (λ c κs. search needs)
+    (λ c. search needs)
     returns-6
     judge-bytes-requires
-    same-length-2
-    same-length-3
+    (λ c. search needs)
+    (λ c. search needs)
     returns-7)

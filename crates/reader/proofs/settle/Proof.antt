@@ -6,18 +6,6 @@ use borrow.Author.Needs.{needs}
 use Rattle.reader.proofs.settle.Statement.{statement}
 use Rattle.reader.proofs.settle.Tie as tie
 
-enum-known-answer : tie.Need-enum-known-answer
-enum-known-answer c = search needs
-
-ends-requires : tie.Need-ends-requires
-ends-requires c κs = search needs
-
-enum-known-answer-2 : tie.Need-enum-known-answer-2
-enum-known-answer-2 c = search needs
-
-is-pool-full-requires : tie.Need-is-pool-full-requires
-is-pool-full-requires c κs = search needs
-
 returns : tie.Need-returns
 returns c =
     let a = c .before .before .before .before .before .before .args in
@@ -37,10 +25,10 @@ pub settle-spec : {M : Type 1} → statement M
 settle-spec =
     tie.close
     (tie.spec
-    enum-known-answer
-    ends-requires
-    enum-known-answer-2
-    is-pool-full-requires
+    (λ c. search needs)
+    (λ c κs. search needs)
+    (λ c. search needs)
+    (λ c κs. search needs)
     returns
     returns-2
     returns-3)

@@ -10,15 +10,6 @@ use Rattle.reader.proofs.special.Tie as tie
 returns : tie.Need-returns
 returns c = let a = c .before .before .args in special-end (a .kind) (now (a .buf)) (omega arith) (c .if1 .taken)
 
-shared-slice-read-word16 : tie.Need-shared-slice-read-word16
-shared-slice-read-word16 c = search needs
-
-shared-slice-read-word16-2 : tie.Need-shared-slice-read-word16-2
-shared-slice-read-word16-2 c = search needs
-
-word16-requires : tie.Need-word16-requires
-word16-requires c κs = search needs
-
 returns-2 : tie.Need-returns-2
 returns-2 c =
     let a = c .before .before .before .before .before .before .args in
@@ -30,24 +21,12 @@ returns-3 c =
     let w = c .before .before .word16 in
     special-linear (a .kind) (now (a .buf)) (omega arith) (w .result) (w .ensures) (c .if3 .taken)
 
-shared-slice-read-word16-3 : tie.Need-shared-slice-read-word16-3
-shared-slice-read-word16-3 c = search needs
-
-shared-slice-read-word16-4 : tie.Need-shared-slice-read-word16-4
-shared-slice-read-word16-4 c = search needs
-
-word16-requires-2 : tie.Need-word16-requires-2
-word16-requires-2 c κs = search needs
-
 returns-4 : tie.Need-returns-4
 returns-4 c =
     let a = c .before .before .before .before .before .before .before .before .before .before .before .args in
     let w = c .before .before .before .before .before .before .word16 in
     let v = c .before .word162 in
     special-start (a .kind) (now (a .buf)) (omega arith) (w .result) (w .ensures) (v .result) (v .ensures) (c .if4 .taken)
-
-word32-requires : tie.Need-word32-requires
-word32-requires c κs = search needs
 
 returns-5 : tie.Need-returns-5
 returns-5 c =
@@ -61,14 +40,14 @@ special-spec =
     tie.close
     (tie.spec
     returns
-    shared-slice-read-word16
-    shared-slice-read-word16-2
-    word16-requires
+    (λ c. search needs)
+    (λ c. search needs)
+    (λ c κs. search needs)
     returns-2
     returns-3
-    shared-slice-read-word16-3
-    shared-slice-read-word16-4
-    word16-requires-2
+    (λ c. search needs)
+    (λ c. search needs)
+    (λ c κs. search needs)
     returns-4
-    word32-requires
+    (λ c κs. search needs)
     returns-5)

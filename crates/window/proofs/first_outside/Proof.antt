@@ -15,24 +15,15 @@ returns-2 c =
     let a = c .before .before .args in
     outside-first (a .first) (a .size) (a .address) (a .len) (omega (arith, c .before .if1 .left)) (below-false (a .first) (a .size) (a .address) (c .if2 .taken))
 
-cast-place : tie.Need-cast-place
-cast-place c = search needs
-
 returns-3 : tie.Need-returns-3
 returns-3 c =
     let a = c .before .before .before .args in
     outside-first (a .first) (a .size) (a .address) (a .len) (omega arith) (beyond-false (a .first) (a .size) (a .address) (omega arith))
 
-sub-if4 : tie.Need-sub-if4
-sub-if4 c = search needs
-
 returns-4 : tie.Need-returns-4
 returns-4 c =
     let a = c .before .before .before .before .args in
     outside-none (a .first) (a .size) (a .address) (a .len) (omega arith) (omega arith)
-
-sub-t8 : tie.Need-sub-t8
-sub-t8 c = search needs
 
 returns-5 : tie.Need-returns-5
 returns-5 c =
@@ -43,4 +34,4 @@ returns-5 c =
     (beyond-false (a .first) (a .size) (a .address + k) (omega arith))
 
 pub first-outside-spec : {M : Type 1} → statement M
-first-outside-spec = tie.close (tie.spec returns returns-2 cast-place returns-3 sub-if4 returns-4 sub-t8 returns-5)
+first-outside-spec = tie.close (tie.spec returns returns-2 (λ c. search needs) returns-3 (λ c. search needs) returns-4 (λ c. search needs) returns-5)

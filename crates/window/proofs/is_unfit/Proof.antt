@@ -17,9 +17,6 @@ returns-2 c =
     let a = c .before .before .args in
     record { answer = rw (eq-eqb (a .page) (a .marks) (omega arith), lt-ltb 65536 (a .page) (c .if2 .taken)) }
 
-add-result : tie.Need-add-result
-add-result c = search needs
-
 returns-3 : tie.Need-returns-3
 unfolding unfit
 returns-3 c =
@@ -27,4 +24,4 @@ returns-3 c =
     record { answer = rw (eq-eqb (a .page) (a .marks) (omega arith), le-ltb 65536 (a .page) (c .if2 .left)) }
 
 pub is-unfit-spec : {M : Type 1} → statement M
-is-unfit-spec = tie.close (tie.spec returns returns-2 add-result returns-3)
+is-unfit-spec = tie.close (tie.spec returns returns-2 (λ c. search needs) returns-3)

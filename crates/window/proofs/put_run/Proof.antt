@@ -7,33 +7,6 @@ use Rattle.window.proofs.Storing.{put-part}
 use Rattle.window.proofs.put_run.Statement.{statement}
 use Rattle.window.proofs.put_run.Tie as tie
 
-part-inside-requires : tie.Need-part-inside-requires
-part-inside-requires c κs = search needs
-
-add-end : tie.Need-add-end
-add-end c = search needs
-
-sub-copy-to : tie.Need-sub-copy-to
-sub-copy-to c = search needs
-
-part-copy-to-start : tie.Need-part-copy-to-start
-part-copy-to-start c = search needs
-
-part-copy-to-end : tie.Need-part-copy-to-end
-part-copy-to-end c = search needs
-
-copy-to-requires : tie.Need-copy-to-requires
-copy-to-requires c κs = search needs
-
-mark-run-requires : tie.Need-mark-run-requires
-mark-run-requires c κs = search needs
-
-same-length : tie.Need-same-length
-same-length c = search needs
-
-same-length-2 : tie.Need-same-length-2
-same-length-2 c = search needs
-
 returns : tie.Need-returns
 returns c =
     let s = c .before .before .before .before .before .before .before .before .before .before .before .before .before .before in
@@ -46,4 +19,4 @@ returns c =
 pub put-run-spec : {M : Type 1} → statement M
 put-run-spec =
     tie.close
-    (tie.spec part-inside-requires add-end sub-copy-to part-copy-to-start part-copy-to-end copy-to-requires mark-run-requires same-length same-length-2 returns)
+    (tie.spec (λ c κs. search needs) (λ c. search needs) (λ c. search needs) (λ c. search needs) (λ c. search needs) (λ c κs. search needs) (λ c κs. search needs) (λ c. search needs) (λ c. search needs) returns)

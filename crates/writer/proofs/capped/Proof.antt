@@ -8,19 +8,13 @@ use borrow.Author.Needs.{needs}
 use Rattle.writer.proofs.capped.Statement.{statement}
 use Rattle.writer.proofs.capped.Tie as tie
 
-sub-if1 : tie.Need-sub-if1
-sub-if1 c = search needs
-
 returns : tie.Need-returns
 unfolding cap
 returns c = rw (lt-leb (c .before .args .a + c .before .args .b) most (omega arith))
-
-add-result : tie.Need-add-result
-add-result c = search needs
 
 returns-2 : tie.Need-returns-2
 unfolding cap
 returns-2 c = rw (le-leb (c .before .args .a + c .before .args .b) most (omega arith))
 
 pub capped-spec : {M : Type 1} → statement M
-capped-spec = tie.close (tie.spec sub-if1 returns add-result returns-2)
+capped-spec = tie.close (tie.spec (λ c. search needs) returns (λ c. search needs) returns-2)

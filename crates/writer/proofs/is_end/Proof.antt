@@ -7,11 +7,8 @@ use borrow.Author.Needs.{needs}
 use Rattle.writer.proofs.is_end.Statement.{statement}
 use Rattle.writer.proofs.is_end.Tie as tie
 
-record-type-requires : tie.Need-record-type-requires
-record-type-requires c κs = search needs
-
 returns : tie.Need-returns
 returns c = ap (λ (k : ℕ). eqb k 1) (c .record-type .ensures .answer)
 
 pub is-end-spec : {M : Type 1} → statement M
-is-end-spec = tie.close (tie.spec record-type-requires returns)
+is-end-spec = tie.close (tie.spec (λ c κs. search needs) returns)

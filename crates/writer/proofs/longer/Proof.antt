@@ -9,24 +9,6 @@ use borrow.Author.Needs.{needs}
 use Rattle.writer.proofs.longer.Statement.{statement}
 use Rattle.writer.proofs.longer.Tie as tie
 
-enum-known-done : tie.Need-enum-known-done
-enum-known-done c = search needs
-
-enum-known-done-2 : tie.Need-enum-known-done-2
-enum-known-done-2 c = search needs
-
-enum-known-line : tie.Need-enum-known-line
-enum-known-line c = search needs
-
-enum-known-line-2 : tie.Need-enum-known-line-2
-enum-known-line-2 c = search needs
-
-capped-requires : tie.Need-capped-requires
-capped-requires c κs = search needs
-
-capped-requires-2 : tie.Need-capped-requires-2
-capped-requires-2 c κs = search needs
-
 returns : tie.Need-returns
 unfolding longer
 returns c = rw (c .before .done .given .1)
@@ -47,12 +29,12 @@ pub longer-spec : {M : Type 1} → statement M
 longer-spec =
     tie.close
     (tie.spec
-    enum-known-done
-    enum-known-done-2
-    enum-known-line
-    enum-known-line-2
-    capped-requires
-    capped-requires-2
+    (λ c. search needs)
+    (λ c. search needs)
+    (λ c. search needs)
+    (λ c. search needs)
+    (λ c κs. search needs)
+    (λ c κs. search needs)
     returns
     returns-2
     returns-3)

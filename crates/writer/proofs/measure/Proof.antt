@@ -7,16 +7,10 @@ use borrow.Author.Needs.{needs}
 use Rattle.writer.proofs.measure.Statement.{statement}
 use Rattle.writer.proofs.measure.Tie as tie
 
-enum-known-record : tie.Need-enum-known-record
-enum-known-record c = search needs
-
 returns : tie.Need-returns
 returns c =
     let f = c .before .before .«record» .given .0 in
     rw (c .before .before .«record» .given .1) (outside (f .0) (f .1 .0) (f .1 .1 .0) (now (c .before .before .before .before .args .pool)) (omega arith))
-
-sub-if2 : tie.Need-sub-if2
-sub-if2 c = search needs
 
 returns-2 : tie.Need-returns-2
 returns-2 c =
@@ -27,27 +21,6 @@ returns-3 : tie.Need-returns-3
 returns-3 c =
     let f = c .before .before .before .before .«record» .given .0 in
     rw (c .before .before .before .before .«record» .given .1) (too-long (f .0) (f .1 .0) (f .1 .1 .0) (now (c .before .before .before .before .before .before .args .pool)) (omega arith) (omega arith))
-
-mul-t6 : tie.Need-mul-t6
-mul-t6 c = search needs
-
-add-t9 : tie.Need-add-t9
-add-t9 c = search needs
-
-enum-told : tie.Need-enum-told
-enum-told c = search needs
-
-enum-told-2 : tie.Need-enum-told-2
-enum-told-2 c = search needs
-
-enum-told-3 : tie.Need-enum-told-3
-enum-told-3 c = search needs
-
-enum-told-4 : tie.Need-enum-told-4
-enum-told-4 c = search needs
-
-enum-told-5 : tie.Need-enum-told-5
-enum-told-5 c = search needs
 
 returns-4 : tie.Need-returns-4
 returns-4 c =
@@ -73,18 +46,18 @@ pub measure-spec : {M : Type 1} → statement M
 measure-spec =
     tie.close
     (tie.spec
-    enum-known-record
+    (λ c. search needs)
     returns
-    sub-if2
+    (λ c. search needs)
     returns-2
     returns-3
-    mul-t6
-    add-t9
-    enum-told
-    enum-told-2
-    enum-told-3
-    enum-told-4
-    enum-told-5
+    (λ c. search needs)
+    (λ c. search needs)
+    (λ c. search needs)
+    (λ c. search needs)
+    (λ c. search needs)
+    (λ c. search needs)
+    (λ c. search needs)
     returns-4
     returns-5
     returns-6

@@ -8,23 +8,8 @@ use borrow.Author.Needs.{needs}
 use Rattle.writer.proofs.put.Statement.{statement}
 use Rattle.writer.proofs.put.Tie as tie
 
-capital-digit-requires : tie.Need-capital-digit-requires
-capital-digit-requires c κs = search needs
-
-slice-write-out : tie.Need-slice-write-out
-slice-write-out c = search needs
-
-capital-digit-requires-2 : tie.Need-capital-digit-requires-2
-capital-digit-requires-2 c κs = search needs
-
-add-out : tie.Need-add-out
-add-out c = search needs
-
 slice-write-out-2 : tie.Need-slice-write-out-2
 slice-write-out-2 c = simp length-set (omega arith)
-
-same-length : tie.Need-same-length
-same-length c = search needs
 
 returns : tie.Need-returns
 returns c =
@@ -36,10 +21,10 @@ pub put-spec : {M : Type 1} → statement M
 put-spec =
     tie.close
     (tie.spec
-    capital-digit-requires
-    slice-write-out
-    capital-digit-requires-2
-    add-out
+    (λ c κs. search needs)
+    (λ c. search needs)
+    (λ c κs. search needs)
+    (λ c. search needs)
     slice-write-out-2
-    same-length
+    (λ c. search needs)
     returns)

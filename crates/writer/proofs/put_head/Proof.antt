@@ -22,47 +22,17 @@ sized3 c = c .put3 .kept .1 .0 ∙ sized2 (c .before .before .before .before)
 sized4 : (c : tie.After-put4) → length (c .put4 .last .1 .0) ≡ length (now (c .before .before .before .before .before .before .before .before .before .before .before .before .before .before .before .before .before .args .out))
 sized4 c = c .put4 .kept .1 .0 ∙ sized3 (c .before .before .before .before)
 
-high-requires : tie.Need-high-requires
-high-requires c κs = search needs
-
-low-requires : tie.Need-low-requires
-low-requires c κs = search needs
-
-slice-write-out : tie.Need-slice-write-out
-slice-write-out c = search needs
-
-add-put : tie.Need-add-put
-add-put c = search needs
-
 put-requires : tie.Need-put-requires
 put-requires c κs = simp length-set (omega arith)
-
-add-put-2 : tie.Need-add-put-2
-add-put-2 c = search needs
 
 put-requires-2 : tie.Need-put-requires-2
 put-requires-2 c κs = let l = sized (c .before .before .before) in omega arith
 
-add-put-3 : tie.Need-add-put-3
-add-put-3 c = search needs
-
 put-requires-3 : tie.Need-put-requires-3
 put-requires-3 c κs = let l = sized2 (c .before .before .before) in omega arith
 
-add-put-4 : tie.Need-add-put-4
-add-put-4 c = search needs
-
 put-requires-4 : tie.Need-put-requires-4
 put-requires-4 c κs = let l = sized3 (c .before .before .before) in omega arith
-
-wrapping-add-u8-requires : tie.Need-wrapping-add-u8-requires
-wrapping-add-u8-requires c κs = search needs
-
-wrapping-add-u8-requires-2 : tie.Need-wrapping-add-u8-requires-2
-wrapping-add-u8-requires-2 c κs = search needs
-
-wrapping-add-u8-requires-3 : tie.Need-wrapping-add-u8-requires-3
-wrapping-add-u8-requires-3 c κs = search needs
 
 same-length : tie.Need-same-length
 same-length c = sized4 (c .before .before .before .before .before)
@@ -86,19 +56,19 @@ pub put-head-spec : {M : Type 1} → statement M
 put-head-spec =
     tie.close
     (tie.spec
-    high-requires
-    low-requires
-    slice-write-out
-    add-put
+    (λ c κs. search needs)
+    (λ c κs. search needs)
+    (λ c. search needs)
+    (λ c. search needs)
     put-requires
-    add-put-2
+    (λ c. search needs)
     put-requires-2
-    add-put-3
+    (λ c. search needs)
     put-requires-3
-    add-put-4
+    (λ c. search needs)
     put-requires-4
-    wrapping-add-u8-requires
-    wrapping-add-u8-requires-2
-    wrapping-add-u8-requires-3
+    (λ c κs. search needs)
+    (λ c κs. search needs)
+    (λ c κs. search needs)
     same-length
     returns)

@@ -19,17 +19,8 @@ inside c =
     let f = c .before .«record» .given .0 in
     fine-data (f .0) (f .1 .0) (f .1 .1 .0) (length (now (c .before .before .before .before .before .args .pool))) (rw (c .before .«record» .given .1) at (c .before .before .before .before .before .pre .fine))
 
-enum-known-record : tie.Need-enum-known-record
-enum-known-record c = search needs
-
 add-end : tie.Need-add-end
 add-end c = let i = inside c in omega arith
-
-sub-put-line : tie.Need-sub-put-line
-sub-put-line c = search needs
-
-part-put-line-start : tie.Need-part-put-line-start
-part-put-line-start c = search needs
 
 part-put-line-end : tie.Need-part-put-line-end
 part-put-line-end c = let i = inside c in omega arith
@@ -44,111 +35,30 @@ put-line-requires c κs =
     fitting (a .«record») (now (a .pool)) (now (a .out)) (a .at) (take (f .1 .0 + f .1 .1 .0 - f .1 .0) (drop (f .1 .0) (now (a .pool)))) (c .before .before .before .before .before .before .before .pre)
     (rw (c .before .before .before .«record» .given .1) m) (omega arith)
 
-enum-told : tie.Need-enum-told
-enum-told c = search needs
-
-sub-put-line-2 : tie.Need-sub-put-line-2
-sub-put-line-2 c = search needs
-
-part-put-line-start-2 : tie.Need-part-put-line-start-2
-part-put-line-start-2 c = search needs
-
-part-put-line-end-2 : tie.Need-part-put-line-end-2
-part-put-line-end-2 c = search needs
-
 put-line-requires-2 : tie.Need-put-line-requires-2
 put-line-requires-2 c κs =
     let a = c .before .before .before .before .before .before .args in
     fitting (a .«record») (now (a .pool)) (now (a .out)) (a .at) ([]) (c .before .before .before .before .before .before .pre) (rw (c .before .before .enum-told .given .1)) (omega arith)
-
-enum-known-record-2 : tie.Need-enum-known-record-2
-enum-known-record-2 c = search needs
-
-high-requires : tie.Need-high-requires
-high-requires c κs = search needs
-
-low-requires : tie.Need-low-requires
-low-requires c κs = search needs
-
-slice-aggregate-put-line : tie.Need-slice-aggregate-put-line
-slice-aggregate-put-line c = search needs
 
 put-line-requires-3 : tie.Need-put-line-requires-3
 put-line-requires-3 c κs =
     let a = c .before .before .before .before .before .before .before .before .before .args in
     fitting (a .«record») (now (a .pool)) (now (a .out)) (a .at) (c .before .before .before .high .result ∷ c .before .before .low .result ∷ []) (c .before .before .before .before .before .before .before .before .before .pre) (rw (c .before .before .before .before .before .record2 .given .1)) (omega arith)
 
-enum-known-record-3 : tie.Need-enum-known-record-3
-enum-known-record-3 c = search needs
-
-high-requires-2 : tie.Need-high-requires-2
-high-requires-2 c κs = search needs
-
-low-requires-2 : tie.Need-low-requires-2
-low-requires-2 c κs = search needs
-
-high-requires-3 : tie.Need-high-requires-3
-high-requires-3 c κs = search needs
-
-low-requires-3 : tie.Need-low-requires-3
-low-requires-3 c κs = search needs
-
-slice-aggregate-put-line-2 : tie.Need-slice-aggregate-put-line-2
-slice-aggregate-put-line-2 c = search needs
-
 put-line-requires-4 : tie.Need-put-line-requires-4
 put-line-requires-4 c κs =
     let a = c .before .before .before .before .before .before .before .before .before .before .before .args in
     fitting (a .«record») (now (a .pool)) (now (a .out)) (a .at) (c .before .before .before .before .before .high2 .result ∷ c .before .before .before .before .low2 .result ∷ c .before .before .before .high3 .result ∷ c .before .before .low3 .result ∷ []) (c .before .before .before .before .before .before .before .before .before .before .before .pre) (rw (c .before .before .before .before .before .before .before .record3 .given .1)) (omega arith)
-
-enum-known-record-4 : tie.Need-enum-known-record-4
-enum-known-record-4 c = search needs
-
-high-requires-4 : tie.Need-high-requires-4
-high-requires-4 c κs = search needs
-
-low-requires-4 : tie.Need-low-requires-4
-low-requires-4 c κs = search needs
-
-slice-aggregate-put-line-3 : tie.Need-slice-aggregate-put-line-3
-slice-aggregate-put-line-3 c = search needs
 
 put-line-requires-5 : tie.Need-put-line-requires-5
 put-line-requires-5 c κs =
     let a = c .before .before .before .before .before .before .before .before .before .args in
     fitting (a .«record») (now (a .pool)) (now (a .out)) (a .at) (c .before .before .before .high4 .result ∷ c .before .before .low4 .result ∷ []) (c .before .before .before .before .before .before .before .before .before .pre) (rw (c .before .before .before .before .before .record4 .given .1)) (omega arith)
 
-enum-known-record-5 : tie.Need-enum-known-record-5
-enum-known-record-5 c = search needs
-
-cast-top : tie.Need-cast-top
-cast-top c = search needs
-
-cast-rest : tie.Need-cast-rest
-cast-rest c = search needs
-
-high-requires-5 : tie.Need-high-requires-5
-high-requires-5 c κs = search needs
-
-low-requires-5 : tie.Need-low-requires-5
-low-requires-5 c κs = search needs
-
-high-requires-6 : tie.Need-high-requires-6
-high-requires-6 c κs = search needs
-
-low-requires-6 : tie.Need-low-requires-6
-low-requires-6 c κs = search needs
-
-slice-aggregate-put-line-4 : tie.Need-slice-aggregate-put-line-4
-slice-aggregate-put-line-4 c = search needs
-
 put-line-requires-6 : tie.Need-put-line-requires-6
 put-line-requires-6 c κs =
     let a = c .before .before .before .before .before .before .before .before .before .before .before .args in
     fitting (a .«record») (now (a .pool)) (now (a .out)) (a .at) (c .before .before .before .before .before .high5 .result ∷ c .before .before .before .before .low5 .result ∷ c .before .before .before .high6 .result ∷ c .before .before .low6 .result ∷ []) (c .before .before .before .before .before .before .before .before .before .before .before .pre) (rw (c .before .before .before .before .before .before .before .record5 .given .1)) (omega arith)
-
-same-length : tie.Need-same-length
-same-length c = search needs
 
 returns : tie.Need-returns
 returns c =
@@ -156,14 +66,8 @@ returns c =
     let f = c .before .before .before .before .before .before .«record» .given .0 in
     rw (c .before .before .before .before .before .before .«record» .given .1) (put-part (now (a .out)) (a .at) (f .0) (now (a .pool)) (f .1 .0) (f .1 .1 .0) (c .before .before .put-line .ensures))
 
-same-length-2 : tie.Need-same-length-2
-same-length-2 c = search needs
-
 returns-2 : tie.Need-returns-2
 returns-2 c = rw (c .before .before .before .before .before .enum-told .given .1) (c .before .before .put-line2 .ensures)
-
-same-length-3 : tie.Need-same-length-3
-same-length-3 c = search needs
 
 returns-3 : tie.Need-returns-3
 returns-3 c =
@@ -172,9 +76,6 @@ returns-3 c =
     let l = c .before .before .before .before .before .low in
     rw (c .before .before .before .before .before .before .before .before .record2 .given .1)
     (put-two 2 (now (a .out)) (a .at) (c .before .before .before .before .before .before .before .before .record2 .given .0 .0) (h .result) (l .result) (h .ensures) (l .ensures) (c .before .before .put-line3 .ensures))
-
-same-length-4 : tie.Need-same-length-4
-same-length-4 c = search needs
 
 returns-4 : tie.Need-returns-4
 returns-4 c =
@@ -188,9 +89,6 @@ returns-4 c =
     (put-four 3 (now (a .out)) (a .at) (f .0) (f .1 .0) (h .result) (l .result) (h′ .result) (l′ .result)
     (h .ensures) (l .ensures) (h′ .ensures) (l′ .ensures) (c .before .before .put-line4 .ensures))
 
-same-length-5 : tie.Need-same-length-5
-same-length-5 c = search needs
-
 returns-5 : tie.Need-returns-5
 returns-5 c =
     let a = c .before .before .before .before .before .before .before .before .before .before .before .before .args in
@@ -198,9 +96,6 @@ returns-5 c =
     let l = c .before .before .before .before .before .low4 in
     rw (c .before .before .before .before .before .before .before .before .record4 .given .1)
     (put-two 4 (now (a .out)) (a .at) (c .before .before .before .before .before .before .before .before .record4 .given .0 .0) (h .result) (l .result) (h .ensures) (l .ensures) (c .before .before .put-line5 .ensures))
-
-same-length-6 : tie.Need-same-length-6
-same-length-6 c = search needs
 
 returns-6 : tie.Need-returns-6
 returns-6 c =
@@ -218,52 +113,52 @@ pub put-record-spec : {M : Type 1} → statement M
 put-record-spec =
     tie.close
     (tie.spec
-    enum-known-record
+    (λ c. search needs)
     add-end
-    sub-put-line
-    part-put-line-start
+    (λ c. search needs)
+    (λ c. search needs)
     part-put-line-end
     put-line-requires
-    enum-told
-    sub-put-line-2
-    part-put-line-start-2
-    part-put-line-end-2
+    (λ c. search needs)
+    (λ c. search needs)
+    (λ c. search needs)
+    (λ c. search needs)
     put-line-requires-2
-    enum-known-record-2
-    high-requires
-    low-requires
-    slice-aggregate-put-line
+    (λ c. search needs)
+    (λ c κs. search needs)
+    (λ c κs. search needs)
+    (λ c. search needs)
     put-line-requires-3
-    enum-known-record-3
-    high-requires-2
-    low-requires-2
-    high-requires-3
-    low-requires-3
-    slice-aggregate-put-line-2
+    (λ c. search needs)
+    (λ c κs. search needs)
+    (λ c κs. search needs)
+    (λ c κs. search needs)
+    (λ c κs. search needs)
+    (λ c. search needs)
     put-line-requires-4
-    enum-known-record-4
-    high-requires-4
-    low-requires-4
-    slice-aggregate-put-line-3
+    (λ c. search needs)
+    (λ c κs. search needs)
+    (λ c κs. search needs)
+    (λ c. search needs)
     put-line-requires-5
-    enum-known-record-5
-    cast-top
-    cast-rest
-    high-requires-5
-    low-requires-5
-    high-requires-6
-    low-requires-6
-    slice-aggregate-put-line-4
+    (λ c. search needs)
+    (λ c. search needs)
+    (λ c. search needs)
+    (λ c κs. search needs)
+    (λ c κs. search needs)
+    (λ c κs. search needs)
+    (λ c κs. search needs)
+    (λ c. search needs)
     put-line-requires-6
-    same-length
+    (λ c. search needs)
     returns
-    same-length-2
+    (λ c. search needs)
     returns-2
-    same-length-3
+    (λ c. search needs)
     returns-3
-    same-length-4
+    (λ c. search needs)
     returns-4
-    same-length-5
+    (λ c. search needs)
     returns-5
-    same-length-6
+    (λ c. search needs)
     returns-6)

@@ -5,20 +5,8 @@ use borrow.Author.Needs.{needs}
 use Rattle.writer.proofs.write_next.Statement.{statement}
 use Rattle.writer.proofs.write_next.Tie as tie
 
-enum-known-done : tie.Need-enum-known-done
-enum-known-done c = search needs
-
-enum-known-done-2 : tie.Need-enum-known-done-2
-enum-known-done-2 c = search needs
-
-write-step-requires : tie.Need-write-step-requires
-write-step-requires c κs = search needs
-
 returns : tie.Need-returns
 returns c = rw (c .before .done .given .1) (record { answer = refl; left = refl })
-
-same-length : tie.Need-same-length
-same-length c = search needs
 
 returns-2 : tie.Need-returns-2
 returns-2 c = rw (c .before .before .before .before .before .done2 .given .1) (c .before .before .write-step .ensures)
@@ -26,4 +14,4 @@ returns-2 c = rw (c .before .before .before .before .before .done2 .given .1) (c
 pub write-next-spec : {M : Type 1} → statement M
 write-next-spec =
     tie.close
-    (tie.spec enum-known-done enum-known-done-2 write-step-requires returns same-length returns-2)
+    (tie.spec (λ c. search needs) (λ c. search needs) (λ c κs. search needs) returns (λ c. search needs) returns-2)

@@ -24,24 +24,12 @@ measured c =
     there (line-refusal (a .«record») (length (now (a .pool)))) (line (a .«record») (now (a .pool))) (c .before .measured2 .given .0 .0)
     (sym (ap told-written (c .before .measured2 .given .1)) ∙ c .before .before .before .measure .ensures)
 
-measure-requires : tie.Need-measure-requires
-measure-requires c κs = search needs
-
-enum-known-measured : tie.Need-enum-known-measured
-enum-known-measured c = search needs
-
-enum-known-measured-2 : tie.Need-enum-known-measured-2
-enum-known-measured-2 c = search needs
-
 returns : tie.Need-returns
 returns c =
     let a = c .before .before .before .before .before .before .before .args in
     let m = measured (c .before) in
     full (line-refusal (a .«record») (length (now (a .pool)))) (ended-line (a .«record») (now (a .pool))) (now (a .out)) (a .at) (m .0)
     (let l = length-append (line (a .«record») (now (a .pool))) (10 ∷ []) in omega arith)
-
-sub-if2 : tie.Need-sub-if2
-sub-if2 c = search needs
 
 returns-2 : tie.Need-returns-2
 returns-2 c =
@@ -50,26 +38,14 @@ returns-2 c =
     full (line-refusal (a .«record») (length (now (a .pool)))) (ended-line (a .«record») (now (a .pool))) (now (a .out)) (a .at) (m .0)
     (let l = length-append (line (a .«record») (now (a .pool))) (10 ∷ []) in omega arith)
 
-add-end : tie.Need-add-end
-add-end c = search needs
-
 put-record-requires : tie.Need-put-record-requires
 put-record-requires c κs = let m = measured (c .before .before .before) in record { fine = m .0; room = omega arith }
-
-slice-write-out : tie.Need-slice-write-out
-slice-write-out c = search needs
-
-add-t10 : tie.Need-add-t10
-add-t10 c = search needs
 
 returns-3 : tie.Need-returns-3
 returns-3 c =
     let a = c .before .before .before .before .before .before .args in
     not-there (line-refusal (a .«record») (length (now (a .pool)))) (line (a .«record») (now (a .pool))) (ended-line (a .«record») (now (a .pool))) (now (a .out)) (a .at) (c .before .measured .given .0 .0)
     (sym (ap told-written (c .before .measured .given .1)) ∙ c .before .before .before .measure .ensures)
-
-same-length : tie.Need-same-length
-same-length c = search needs
 
 returns-4 : tie.Need-returns-4
 returns-4 c =
@@ -88,16 +64,16 @@ pub write-step-spec : {M : Type 1} → statement M
 write-step-spec =
     tie.close
     (tie.spec
-    measure-requires
-    enum-known-measured
-    enum-known-measured-2
+    (λ c κs. search needs)
+    (λ c. search needs)
+    (λ c. search needs)
     returns
-    sub-if2
+    (λ c. search needs)
     returns-2
-    add-end
+    (λ c. search needs)
     put-record-requires
-    slice-write-out
-    add-t10
+    (λ c. search needs)
+    (λ c. search needs)
     returns-3
-    same-length
+    (λ c. search needs)
     returns-4)

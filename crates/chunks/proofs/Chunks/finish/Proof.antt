@@ -10,44 +10,20 @@ use Rattle.chunks.proofs.FirstTests.{small-carry, much-used, big-enough
 use Rattle.chunks.proofs.Chunks.finish.Statement.{statement}
 use Rattle.chunks.proofs.Chunks.finish.Tie as tie
 
-plain-requires : tie.Need-plain-requires
-plain-requires c κs = search needs
-
 returns : tie.Need-returns
 returns c =
     let a = c .before .before .before .before .args in
     finish-small (a .self) (now (a .carry)) (now (a .pool)) (a .at) (c .plain .result) (small-carry (a .self) (now (a .carry)) (search needs)) (c .plain .ensures)
-
-plain-requires-2 : tie.Need-plain-requires-2
-plain-requires-2 c κs = search needs
 
 returns-2 : tie.Need-returns-2
 returns-2 c =
     let a = c .before .before .before .before .before .before .args in
     finish-small (a .self) (now (a .carry)) (now (a .pool)) (a .at) (c .plain2 .result) (much-used (a .self) (now (a .carry)) (search needs)) (c .plain2 .ensures)
 
-plain-requires-3 : tie.Need-plain-requires-3
-plain-requires-3 c κs = search needs
-
 returns-3 : tie.Need-returns-3
 returns-3 c =
     let a = c .before .before .before .before .before .before .before .args in
     finish-done (a .self) (now (a .carry)) (now (a .pool)) (a .at) (c .plain3 .result) (big-enough (a .self) (now (a .carry)) (search needs) (search needs)) (c .before .if3 .taken) (c .plain3 .ensures)
-
-left-out-requires : tie.Need-left-out-requires
-left-out-requires c κs = search needs
-
-with-cr-requires : tie.Need-with-cr-requires
-with-cr-requires c κs = search needs
-
-over-requires : tie.Need-over-requires
-over-requires c κs = search needs
-
-plain-requires-4 : tie.Need-plain-requires-4
-plain-requires-4 c κs = search needs
-
-same-length : tie.Need-same-length
-same-length c = search needs
 
 returns-4 : tie.Need-returns-4
 returns-4 c =
@@ -56,9 +32,6 @@ returns-4 c =
     let l = c .before .before .before .before .before .before .left-out in
     finish-none (a .self) (now (a .carry)) (now (a .pool)) (a .at) (w .result .used) (w .result .skipped) (w .last .0) (c .before .before .before .before .before .before .before .before .before .before .before .if1 .left) (c .before .before .before .before .before .before .before .before .before .if2 .left) (c .before .before .before .before .before .before .before .before .if3 .left) (rw (l .ensures) at (w .ensures)) (c .before .over .result) (c .plain4 .result) (c .before .before .if4 .taken) (c .before .over .ensures) (c .plain4 .ensures)
 
-slice-reshare-prefix-read-kept : tie.Need-slice-reshare-prefix-read-kept
-slice-reshare-prefix-read-kept c = search needs
-
 slice-aggregate-read-kept : tie.Need-slice-aggregate-read-kept
 slice-aggregate-read-kept c =
     let w = c .before .before .before .before .with-cr in
@@ -66,18 +39,6 @@ slice-aggregate-read-kept c =
 
 read-kept-requires : tie.Need-read-kept-requires
 read-kept-requires c κs = simp length-take (omega (arith, c .before .before .before .before .before .with-cr .ensures .within))
-
-number-behind-requires : tie.Need-number-behind-requires
-number-behind-requires c κs = search needs
-
-settle-requires : tie.Need-settle-requires
-settle-requires c κs = search needs
-
-same-length-2 : tie.Need-same-length-2
-same-length-2 c = search needs
-
-same-length-3 : tie.Need-same-length-3
-same-length-3 c = search needs
 
 returns-5 : tie.Need-returns-5
 returns-5 c =
@@ -92,23 +53,23 @@ pub finish-spec : {M : Type 1} → statement M
 finish-spec =
     tie.close
     (tie.spec
-    plain-requires
+    (λ c κs. search needs)
     returns
-    plain-requires-2
+    (λ c κs. search needs)
     returns-2
-    plain-requires-3
+    (λ c κs. search needs)
     returns-3
-    left-out-requires
-    with-cr-requires
-    over-requires
-    plain-requires-4
-    same-length
+    (λ c κs. search needs)
+    (λ c κs. search needs)
+    (λ c κs. search needs)
+    (λ c κs. search needs)
+    (λ c. search needs)
     returns-4
-    slice-reshare-prefix-read-kept
+    (λ c. search needs)
     slice-aggregate-read-kept
     read-kept-requires
-    number-behind-requires
-    settle-requires
-    same-length-2
-    same-length-3
+    (λ c κs. search needs)
+    (λ c κs. search needs)
+    (λ c. search needs)
+    (λ c. search needs)
     returns-5)

@@ -6,14 +6,8 @@ use borrow.Author.Needs.{needs}
 use Rattle.chunks.proofs.Chunks.new.Statement.{statement}
 use Rattle.chunks.proofs.Chunks.new.Tie as tie
 
-default-requires : tie.Need-default-requires
-default-requires c κs = search needs
-
-new-with-options-requires : tie.Need-new-with-options-requires
-new-with-options-requires c κs = search needs
-
 returns : tie.Need-returns
 returns c = record { answer = c .new-with-options .ensures .answer ∙ ap new-chunks (c .before .default .ensures .answer) }
 
 pub new-spec : {M : Type 1} → statement M
-new-spec = tie.close (tie.spec default-requires new-with-options-requires returns)
+new-spec = tie.close (tie.spec (λ c κs. search needs) (λ c κs. search needs) returns)

@@ -7,44 +7,20 @@ use Rattle.chunks.proofs.FirstTests.{small-carry, much-used, big-enough
 use Rattle.chunks.proofs.Chunks.next.Statement.{statement}
 use Rattle.chunks.proofs.Chunks.next.Tie as tie
 
-plain-requires : tie.Need-plain-requires
-plain-requires c κs = search needs
-
 returns : tie.Need-returns
 returns c =
     let a = c .before .before .before .before .before .args in
     next-small (a .self) (now (a .chunk)) (now (a .carry)) (now (a .pool)) (a .at) (c .plain .result) (small-carry (a .self) (now (a .carry)) (search needs)) (c .plain .ensures)
-
-plain-requires-2 : tie.Need-plain-requires-2
-plain-requires-2 c κs = search needs
 
 returns-2 : tie.Need-returns-2
 returns-2 c =
     let a = c .before .before .before .before .before .before .before .args in
     next-small (a .self) (now (a .chunk)) (now (a .carry)) (now (a .pool)) (a .at) (c .plain2 .result) (much-used (a .self) (now (a .carry)) (search needs)) (c .plain2 .ensures)
 
-plain-requires-3 : tie.Need-plain-requires-3
-plain-requires-3 c κs = search needs
-
 returns-3 : tie.Need-returns-3
 returns-3 c =
     let a = c .before .before .before .before .before .before .before .before .args in
     next-done (a .self) (now (a .chunk)) (now (a .carry)) (now (a .pool)) (a .at) (c .plain3 .result) (big-enough (a .self) (now (a .carry)) (search needs) (search needs)) (c .before .if3 .taken) (c .plain3 .ensures)
-
-within-requires : tie.Need-within-requires
-within-requires c κs = search needs
-
-has-line-requires : tie.Need-has-line-requires
-has-line-requires c κs = search needs
-
-older-requires : tie.Need-older-requires
-older-requires c κs = search needs
-
-same-length : tie.Need-same-length
-same-length c = search needs
-
-same-length-2 : tie.Need-same-length-2
-same-length-2 c = search needs
 
 returns-4 : tie.Need-returns-4
 returns-4 c =
@@ -53,15 +29,6 @@ returns-4 c =
     let l = c .before .before .before .before .before .before .before .before .has-line in
     let w = c .before .before .before .before .before .before .before .before .before .within in
     next-begun (a .self) (now (a .chunk)) (now (a .carry)) (now (a .pool)) (a .at) (w .result) (o .result) (o .last .1 .1 .1 .0) (o .last .1 .1 .1 .1 .0) (c .before .before .before .before .before .before .before .before .before .before .before .before .before .if1 .left) (c .before .before .before .before .before .before .before .before .before .before .before .if2 .left) (c .before .before .before .before .before .before .before .before .before .before .if3 .left) (w .ensures) (sym (l .ensures) ∙ c .before .before .before .before .before .before .before .if4 .taken) (o .ensures)
-
-fresh-requires : tie.Need-fresh-requires
-fresh-requires c κs = search needs
-
-same-length-3 : tie.Need-same-length-3
-same-length-3 c = search needs
-
-same-length-4 : tie.Need-same-length-4
-same-length-4 c = search needs
 
 returns-5 : tie.Need-returns-5
 returns-5 c =
@@ -75,19 +42,19 @@ pub next-spec : {M : Type 1} → statement M
 next-spec =
     tie.close
     (tie.spec
-    plain-requires
+    (λ c κs. search needs)
     returns
-    plain-requires-2
+    (λ c κs. search needs)
     returns-2
-    plain-requires-3
+    (λ c κs. search needs)
     returns-3
-    within-requires
-    has-line-requires
-    older-requires
-    same-length
-    same-length-2
+    (λ c κs. search needs)
+    (λ c κs. search needs)
+    (λ c κs. search needs)
+    (λ c. search needs)
+    (λ c. search needs)
     returns-4
-    fresh-requires
-    same-length-3
-    same-length-4
+    (λ c κs. search needs)
+    (λ c. search needs)
+    (λ c. search needs)
     returns-5)

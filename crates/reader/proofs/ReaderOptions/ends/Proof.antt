@@ -7,9 +7,6 @@ use borrow.Author.Needs.{needs}
 use Rattle.reader.proofs.ReaderOptions.ends.Statement.{statement}
 use Rattle.reader.proofs.ReaderOptions.ends.Tie as tie
 
-record-type-requires : tie.Need-record-type-requires
-record-type-requires c κs = search needs
-
 returns : tie.Need-returns
 unfolding ends-row
 returns c = record { answer = rw (eq-eqb _ 1 (sym (c .before .record-type .ensures .answer) ∙ c .if1 .taken)) }
@@ -19,4 +16,4 @@ unfolding ends-row
 returns-2 c = record { answer = rw (ne-eqb _ 1 (λ e. c .if1 .left (c .before .record-type .ensures .answer ∙ e))) }
 
 pub ends-spec : {M : Type 1} → statement M
-ends-spec = tie.close (tie.spec record-type-requires returns returns-2)
+ends-spec = tie.close (tie.spec (λ c κs. search needs) returns returns-2)

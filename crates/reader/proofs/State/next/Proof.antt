@@ -27,41 +27,14 @@ returns c =
     let a = c .before .before .before .args in
     next-finished (a .self) (now (a .text)) (now (a .pool)) (a .at) (c .if1 .taken)
 
-find-line-requires : tie.Need-find-line-requires
-find-line-requires c κs = search needs
-
-enum-told : tie.Need-enum-told
-enum-told c = search needs
-
-at-end-requires : tie.Need-at-end-requires
-at-end-requires c κs = search needs
-
-enum-known-from : tie.Need-enum-known-from
-enum-known-from c = search needs
-
 add-end : tie.Need-add-end
 add-end c = omega (arith, spotted (c .before) .inside)
 
 add-wrapping-add-usize : tie.Need-add-wrapping-add-usize
 add-wrapping-add-usize c = omega (arith, spotted (c .before) .small)
 
-wrapping-add-usize-requires : tie.Need-wrapping-add-usize-requires
-wrapping-add-usize-requires c κs = search needs
-
-sub-read-record : tie.Need-sub-read-record
-sub-read-record c = search needs
-
-part-read-record-start : tie.Need-part-read-record-start
-part-read-record-start c = search needs
-
 part-read-record-end : tie.Need-part-read-record-end
 part-read-record-end c = spotted (c .before .before) .inside
-
-read-record-requires : tie.Need-read-record-requires
-read-record-requires c κs = search needs
-
-settle-requires : tie.Need-settle-requires
-settle-requires c κs = search needs
 
 returns-2 : tie.Need-returns-2
 returns-2 c =
@@ -69,9 +42,6 @@ returns-2 c =
     let f = c .before .before .before .find-line in
     let none = subst (λ (x : Spot). Spotted (now (a .text)) (a .self .position) x) (c .before .enum-told .given .1) (f .ensures) in
     next-none (a .self) (now (a .text)) (now (a .pool)) (a .at) (none .0) (c .before .before .before .before .if1 .left) (none .1) (c .at-end .result) (c .at-end .ensures)
-
-same-length : tie.Need-same-length
-same-length c = search needs
 
 returns-3 : tie.Need-returns-3
 returns-3 c =
@@ -91,18 +61,18 @@ next-spec =
     tie.close
     (tie.spec
     returns
-    find-line-requires
-    enum-told
-    at-end-requires
-    enum-known-from
+    (λ c κs. search needs)
+    (λ c. search needs)
+    (λ c κs. search needs)
+    (λ c. search needs)
     add-end
     add-wrapping-add-usize
-    wrapping-add-usize-requires
-    sub-read-record
-    part-read-record-start
+    (λ c κs. search needs)
+    (λ c. search needs)
+    (λ c. search needs)
     part-read-record-end
-    read-record-requires
-    settle-requires
+    (λ c κs. search needs)
+    (λ c κs. search needs)
     returns-2
-    same-length
+    (λ c. search needs)
     returns-3)

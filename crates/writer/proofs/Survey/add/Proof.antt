@@ -4,18 +4,6 @@ use borrow.Author.Needs.{needs}
 use Rattle.writer.proofs.Survey.add.Statement.{statement}
 use Rattle.writer.proofs.Survey.add.Tie as tie
 
-is-end-requires : tie.Need-is-end-requires
-is-end-requires c κs = search needs
-
-counted-requires : tie.Need-counted-requires
-counted-requires c κs = search needs
-
-measure-requires : tie.Need-measure-requires
-measure-requires c κs = search needs
-
-longer-requires : tie.Need-longer-requires
-longer-requires c κs = search needs
-
 returns : tie.Need-returns
 returns c =
     record {
@@ -26,4 +14,4 @@ returns c =
 
 pub add-spec : {M : Type 1} → statement M
 add-spec =
-    tie.close (tie.spec is-end-requires counted-requires measure-requires longer-requires returns)
+    tie.close (tie.spec (λ c κs. search needs) (λ c κs. search needs) (λ c κs. search needs) (λ c κs. search needs) returns)

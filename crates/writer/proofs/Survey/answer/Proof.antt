@@ -14,12 +14,6 @@ returns-2 c =
     let s = c .before .before .args .self in
     record { answer = rw (not-false (s .ended) (c .before .if1 .left), lt-ltb 1 (s .ends) (omega arith)) }
 
-enum-known-total : tie.Need-enum-known-total
-enum-known-total c = search needs
-
-enum-known-total-2 : tie.Need-enum-known-total-2
-enum-known-total-2 c = search needs
-
 returns-3 : tie.Need-returns-3
 returns-3 c =
     let s = c .before .before .before .before .before .before .args .self in
@@ -44,4 +38,4 @@ returns-5 c =
 pub answer-spec : {M : Type 1} → statement M
 answer-spec =
     tie.close
-    (tie.spec returns returns-2 enum-known-total enum-known-total-2 returns-3 returns-4 returns-5)
+    (tie.spec returns returns-2 (λ c. search needs) (λ c. search needs) returns-3 returns-4 returns-5)

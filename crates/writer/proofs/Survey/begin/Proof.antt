@@ -7,15 +7,6 @@ use borrow.Author.Needs.{needs}
 use Rattle.writer.proofs.Survey.begin.Statement.{statement}
 use Rattle.writer.proofs.Survey.begin.Tie as tie
 
-answer-requires : tie.Need-answer-requires
-answer-requires c κs = search needs
-
-enum-known-why : tie.Need-enum-known-why
-enum-known-why c = search needs
-
-enum-told : tie.Need-enum-told
-enum-told c = search needs
-
 returns : tie.Need-returns
 returns c = record { answer = ap begun (sym (ap told-written (c .before .why .given .1)) ∙ c .before .before .before .answer .ensures .answer) }
 
@@ -23,4 +14,4 @@ returns-2 : tie.Need-returns-2
 returns-2 c = record { answer = ap begun (sym (ap told-written (c .enum-told .given .1)) ∙ c .before .before .answer .ensures .answer) }
 
 pub begin-spec : {M : Type 1} → statement M
-begin-spec = tie.close (tie.spec answer-requires enum-known-why enum-told returns returns-2)
+begin-spec = tie.close (tie.spec (λ c κs. search needs) (λ c. search needs) (λ c. search needs) returns returns-2)
