@@ -247,16 +247,12 @@ fn gather_bytes(
     }
 }
 
-// Copies a line into the carry, behind the used bytes.
+// Copies a line into the carry, after the used bytes.
 fn copy(line: &[u8], carry: &mut [u8], used: usize)
     requires { ⌜ used + length (now line) ≤ length (now carry) ⌝ }
     ensures { λ _. ⌜ now (carry .exit) ≡ paste (now (carry .entry)) used (now (line .entry)) (length (now (line .entry))) ⌝ }
 {
-    let mut i = 0;
-    while i < line.len() {
-        carry[used + i] = line[i];
-        i += 1;
-    }
+    bytes::copy(line, &mut carry[used..]);
 }
 
 fn ends_in_cr(line: &[u8]) -> bool

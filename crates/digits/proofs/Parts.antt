@@ -5,7 +5,7 @@ use mathlib.Core.Path.{_≡_, refl, sym, _∙_, ap, ap₂}
 use mathlib.Core.List.{List, [], _∷_, _++_, append-assoc, append-nil}
 use native.Mathlib.Omega.{arith}
 use lib.ListN.{length, take, drop, length-take, length-drop, drop-of-length-le}
-use lib.Seq.{take-all, drop-drop}
+use lib.Seq.{take-all, take-length, drop-drop}
 use Rattle.digits.specs.Common.{Every, pasted}
 
 pub rest-is : (l : List ℕ) (k : ℕ) → take (length l - k) (drop k l) ≡ drop k l
@@ -21,6 +21,13 @@ rest-pasted out at xs p =
     ap₂ (λ (a b : List ℕ). take at out ++ (a ++ b)) p none
     ∙ ap (λ (l : List ℕ). take at out ++ l) (append-nil (pasted (drop at out) 0 xs) ∙ ap (λ (l : List ℕ). xs ++ l) after)
     ∙ sym (append-assoc (take at out) xs (drop (at + length xs) out))
+
+-- and so was what was copied to its start
+pub rest-copied : (out : List ℕ) (at : ℕ) (xs : List ℕ)
+    → take at out ++ ((take (length xs) xs ++ drop (length xs) (take (length out - at) (drop at out))) ++ drop (length out - at) (drop at out)) ≡ pasted out at xs
+rest-copied out at xs =
+    let n : length xs ≡ 0 + length xs = omega arith in
+    rest-pasted out at xs (ap₂ (λ (a b : List ℕ). a ++ drop (length xs) b) (take-length xs) (rest-is out at) ∙ ap (λ (k : ℕ). xs ++ drop k (drop at out)) n)
 
 -- the part from a place to another, as the code takes it
 pub part-is : (pool : List ℕ) (at len : ℕ) → take (at + len - at) (drop at pool) ≡ take len (drop at pool)

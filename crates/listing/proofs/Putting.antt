@@ -6,8 +6,8 @@ use mathlib.Core.List.{List, [], _∷_, _++_}
 use native.Mathlib.Omega.{arith}
 use native.Mathlib.Nat.{add-zero}
 use native.Mathlib.Numerals.{add-one}
-use lib.ListN.{length, getD, take, drop, set, length-append}
-use lib.Seq.{length-take-le, take-length, take-suc, paste, paste-suc}
+use lib.ListN.{length, getD, take, set, length-append}
+use lib.Seq.{length-take-le, take-length, take-suc}
 use Rattle.digits.specs.Spelling.{spelt}
 use Rattle.digits.proofs.Spelt.{spelt-length, spelt-append}
 use Rattle.digits.proofs.Pasting.{pasted-none, pasted-one, pasted-more}
@@ -30,18 +30,6 @@ module _ (out : List ℕ) (at : ℕ) where
   -- the same characters, said otherwise
   pub put-as : {xs ys : List ℕ} {p : ℕ} {out₁ : List ℕ} → xs ≡ ys → Puts out at xs p out₁ → Puts out at ys p out₁
   put-as {p = p} {out₁ = out₁} e a = subst (λ (l : List ℕ). Puts out at l p out₁) e a
-
-  -- a turn of `put_text`, and its end
-  pub text-more : (s : List ℕ) (i : ℕ) (o : List ℕ) → o ≡ paste out at s i → at + i < length out → i < length s
-      → set o (at + i) (getD s i 0) ≡ paste out at s (i + 1)
-  text-more s i o e h k = rw (add-one, e) (paste-suc out at s i 0 h k)
-
-  pub text-last : (s : List ℕ) (i : ℕ) (o : List ℕ) → i ≡ length s → o ≡ paste out at s i → Puts out at s (at + i) o
-  text-last s i o e w =
-      record {
-        place = ap (λ (k : ℕ). at + k) e;
-        left = w ∙ ap (paste out at s) e ∙ ap (λ (l : List ℕ). take at out ++ l ++ drop (at + length s) out) (take-length s);
-      }
 
   -- a turn of `put_bytes`, and its end
   pub bytes-more : (s : List ℕ) (i p q : ℕ) (o o′ : List ℕ) → i < length s → at + 2 * length s ≤ length out

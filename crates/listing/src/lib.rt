@@ -74,12 +74,8 @@ fn put_text(s: &[u8], out: &mut [u8], at: usize) -> usize
     requires { ⌜ at + length (now s) ≤ length (now out) ⌝ }
     ensures { λ r. ⌜ Puts (now (out .entry)) at (now (s .entry)) r (now (out .exit)) ⌝ }
 {
-    let mut i = 0;
-    while i < s.len() {
-        out[at + i] = s[i];
-        i += 1;
-    }
-    at + i
+    let n = bytes::copy(s, &mut out[at..]);
+    at + n
 }
 
 // Bytes as capital digits.

@@ -1,14 +1,13 @@
 -- Each answer, from what was said: what the code's `return` has to show.
 -- Assumes nothing.
 use Prim.Native.Nat.{ℕ, _+_, _<_, _≤_}
-use mathlib.Core.Path.{_≡_, refl, sym, _∙_, ap₂}
+use mathlib.Core.Path.{_≡_, refl, sym, ap₂}
 use mathlib.Core.Bool.{Bool, true, false}
-use mathlib.Core.List.{List, [], _∷_, _++_}
+use mathlib.Core.List.{List, [], _∷_}
 use native.Mathlib.Omega.{arith}
-use lib.ListN.{length, take, drop}
-use lib.Seq.{paste}
+use lib.ListN.{length}
 use borrow.Author.Tests.{le-leb, lt-leb}
-use Rattle.digits.specs.Common.{if_then_else_}
+use Rattle.digits.specs.Common.{if_then_else_, pasted}
 use Rattle.record.specs.Line.{Said, says, wrong}
 use Rattle.record.specs.Meaning.{meaning}
 use Rattle.record.specs.declared.Record.{Record}
@@ -49,12 +48,12 @@ module _ (address : ℕ) (payload pool : List ℕ) (at : ℕ) where
   unfolding answered poured
   full h = record { answer = rw (lt-leb (at + length payload) (length pool) h); left = rw (lt-leb (at + length payload) (length pool) h) }
 
-  pub placed : (offset len : ℕ) (pool′ s : List ℕ) → at + length payload ≤ length pool
-      → offset ≡ address → length payload ≡ len → payload ≡ take len s → pool′ ≡ paste pool at s len
+  pub placed : (offset len : ℕ) (pool′ : List ℕ) → at + length payload ≤ length pool
+      → offset ≡ address → length payload ≡ len → pool′ ≡ pasted pool at payload
       → Reads (says 0 address payload) pool at (Read (Data offset at len)) pool′
   unfolding answered poured
-  placed offset len pool′ s h o l p e =
+  placed offset len pool′ h o l e =
       record {
         answer = rw (le-leb (at + length payload) (length pool) h) (ap₂ (λ (x y : ℕ). gives 0 (x ∷ at ∷ y ∷ [])) o (sym l));
-        left = rw (le-leb (at + length payload) (length pool) h) (e ∙ ap₂ (λ (xs : List ℕ) (n : ℕ). take at pool ++ xs ++ drop (at + n) pool) (sym p) (sym l));
+        left = rw (le-leb (at + length payload) (length pool) h) e;
       }

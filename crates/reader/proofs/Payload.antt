@@ -1,13 +1,11 @@
--- The payload: the bytes of the buffer from its fifth on. Each turn of `pour` sets one more of them in the pool; two or four of them, taken
--- out of the buffer one by one, are the number that their type means.
+-- The payload: the bytes of the buffer from its fifth on. Two or four of them, taken out of the buffer one by one, are the
+-- number that their type means.
 -- Assumes nothing.
-use Prim.Native.Nat.{ℕ, _+_, _*_, _-_, _<_, _≤_}
+use Prim.Native.Nat.{ℕ, _+_, _*_, _-_, _≤_}
 use mathlib.Core.Path.{_≡_, _∙_, ap, ap₂}
 use mathlib.Core.List.{List, [], _∷_}
 use native.Mathlib.Omega.{arith}
-use native.Mathlib.Numerals.{add-one}
-use lib.ListN.{length, getD, take, drop, set, length-drop}
-use lib.Seq.{paste, paste-suc, getD-drop}
+use lib.ListN.{length, getD, take, drop}
 use Rattle.record.specs.declared.Record.the-variants.{EndOfFile, ExtendedSegmentAddress, StartSegmentAddress, ExtendedLinearAddress, StartLinearAddress}
 use Rattle.digits.specs.Digits.{number-after}
 use Rattle.record.specs.Line.{size}
@@ -16,14 +14,6 @@ use Rattle.reader.specs.Told.{gives}
 use Rattle.reader.specs.Answer.{given}
 use Rattle.reader.specs.Helpers.{Special}
 use Rattle.reader.proofs.Decoding.{drop-two}
-
--- a turn of `pour`
-pub pour-more : (pool₀ : List ℕ) (at : ℕ) (buf : List ℕ) (i : ℕ) (pool : List ℕ)
-    → pool ≡ paste pool₀ at (drop 4 buf) i → at + i < length pool₀ → 4 + i < length buf
-    → set pool (at + i) (getD buf (4 + i) 0) ≡ paste pool₀ at (drop 4 buf) (i + 1)
-pour-more pool₀ at buf i pool e h k =
-    let inside : i < length (drop 4 buf) = omega (arith, length-drop 4 buf) in
-    rw (add-one, e, ← getD-drop 4 buf i 0) (paste-suc pool₀ at (drop 4 buf) i 0 h inside)
 
 -- the records of the types 01 to 05 are told as their type and payload are
 module _ (kind : ℕ) (buf : List ℕ) (size-known : 260 ≤ length buf) where

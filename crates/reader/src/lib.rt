@@ -10,9 +10,8 @@ ghost use mathlib.Core.Path.{_≡_};
 ghost use mathlib.Core.Bool.{true, false};
 ghost use Prim.Native.Nat.{_+_, _-_, _*_, _%_, _≤_, _<_};
 ghost use lib.ListN.{length, take, drop};
-ghost use lib.Seq.{paste};
 ghost use lib.Dec.{eqb};
-ghost use Rattle.digits.specs.Common.{if_then_else_};
+ghost use Rattle.digits.specs.Common.{if_then_else_, pasted};
 ghost use Rattle.digits.specs.Digits.{all-digits};
 ghost use Rattle.record.specs.Line.{size, judge-bytes, says};
 ghost use Rattle.reader.specs.declared.Values.the-variants.{Nothing};
@@ -162,13 +161,10 @@ fn special(kind: u8, buf: &[u8]) -> Record
 // Copies n bytes of the buffer from its fifth into the pool.
 fn pour(buf: &[u8], n: usize, pool: &mut [u8], at: usize)
     requires { ⌜ (4 + n ≤ length (now buf)) × (at + n ≤ length (now pool)) ⌝ }
-    ensures { λ _. ⌜ now (pool .exit) ≡ paste (now (pool .entry)) at (drop 4 (now (buf .entry))) n ⌝ }
+    ensures { λ _. ⌜ now (pool .exit) ≡ pasted (now (pool .entry)) at (take n (drop 4 (now (buf .entry)))) ⌝ }
 {
-    let mut i = 0;
-    while i < n {
-        pool[at + i] = buf[4 + i];
-        i += 1;
-    }
+    let end = 4 + n;
+    bytes::copy(&buf[4..end], &mut pool[at..]);
 }
 
 // A data record whose length byte is right: its payload goes into the pool, if there is room.

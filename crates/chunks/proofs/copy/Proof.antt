@@ -1,56 +1,23 @@
--- `chunks::copy` meets its contract. The loop's invariant: the carry is the old one with the first i bytes of the line pasted.
+-- `chunks::copy` meets its contract: what is copied to the start of the carry's rest stands at its place.
 -- Assumes nothing.
-use Prim.Native.Nat.{_-_, _≤_}
-use mathlib.Core.Path.{_≡_, refl, _∙_, ap}
-use native.Mathlib.Numerals.{add-one}
-use native.Mathlib.Omega.{arith}
-use borrow.Author.Needs.{needs}
+use Prim.Native.Nat.{ℕ, _+_, _-_}
+use mathlib.Core.Path.{sym, _∙_, ap}
+use mathlib.Core.List.{List, _++_}
 use denote.Ref.{now}
-use lib.ListN.{length, length-set}
-use lib.Seq.{paste, paste-zero, paste-suc}
+use lib.ListN.{length, take, drop}
+use lib.Seq.{take-length}
+use Rattle.digits.proofs.Parts.{rest-copied}
+use borrow.Author.Needs.{needs}
 use Rattle.chunks.proofs.copy.Statement.{statement}
 use Rattle.chunks.proofs.copy.Tie as tie
 
-abbrev Inv-loop : tie.InvT-loop
-Inv-loop line carry₀ used i₀ carry i = (i ≤ length line) × (length carry ≡ length carry₀) × (carry ≡ paste carry₀ used line i)
-
-abbrev μ-loop : tie.MeasureT-loop
-μ-loop line carry₀ used i₀ carry i = length line - i
-
-loop-holds : tie.Need-loop-holds Inv-loop μ-loop
-loop-holds c = (omega arith, refl, paste-zero (now (c .args .carry)) (c .args .used) (now (c .args .line)))
-
-loop-again : tie.Need-loop-again Inv-loop μ-loop
-loop-again c =
-    let a = c .before .before .before .args in
-    let t = c .before .before .loop in (
-      omega arith,
-      simp length-set (t .inv .1),
-      rw (add-one, t .inv .2) (paste-suc (now (a .carry)) (a .used) (now (a .line)) (t .i) 0 (search needs) (search needs)),
-    )
-
-same-length : tie.Need-same-length Inv-loop μ-loop
-same-length c = c .before .loop .inv .1
-
-returns : tie.Need-returns Inv-loop μ-loop
+returns : tie.Need-returns
 returns c =
-    let a = c .before .before .args in
-    let t = c .before .loop in
-    let e : t .i ≡ length (now (a .line)) = omega arith in
-    t .inv .2 ∙ ap (paste (now (a .carry)) (a .used) (now (a .line))) e
+    let a = c .before .before .before .before .before .before .args in
+    let carry : List ℕ = now (a .carry) in
+    let line : List ℕ = now (a .line) in
+    ap (λ (l : List ℕ). take (a .used) carry ++ (l ++ drop (length carry - a .used) (drop (a .used) carry))) (c .before .before .copy .ensures .1)
+    ∙ rest-copied carry (a .used) line ∙ ap (λ (l : List ℕ). take (a .used) carry ++ l ++ drop (a .used + length line) carry) (sym (take-length line))
 
 pub copy-spec : {M : Type 1} → statement M
-copy-spec =
-    tie.close
-    (tie.spec
-    Inv-loop
-    μ-loop
-    loop-holds
-    (λ c. search needs)
-    (λ c. search needs)
-    (λ c. search needs)
-    (λ c. search needs)
-    (λ c. search needs)
-    loop-again
-    same-length
-    returns)
+copy-spec = tie.close (tie.spec (λ c. search needs) (λ c. search needs) (λ c. search needs) (λ c κs. search needs) (λ c. search needs) returns)

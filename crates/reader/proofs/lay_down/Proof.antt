@@ -1,6 +1,5 @@
 -- `reader::lay_down` meets its contract: no room, or the payload poured.
 -- Assumes nothing.
-use mathlib.Core.Path.{refl}
 use native.Mathlib.Omega.{arith}
 use denote.Ref.{now}
 use lib.ListN.{take, drop}
@@ -29,8 +28,8 @@ returns-3 c =
     let p = c .before .before .before .before .before .pour in
     let n = part-length (now (s .args .buf)) 4 (s .args .n) (omega arith) in
     placed (word (now (s .args .buf)) 1) (take (s .args .n) (drop 4 (now (s .args .buf)))) (now (s .args .pool)) (s .args .at)
-    (c .word16 .result) (s .args .n) (p .last .1 .1 .0) (drop 4 (now (s .args .buf))) (omega arith)
-    (c .word16 .ensures) n refl (p .ensures)
+    (c .word16 .result) (s .args .n) (p .last .1 .1 .0) (omega arith)
+    (c .word16 .ensures) n (p .ensures)
 
 pub lay-down-spec : {M : Type 1} → statement M
 lay-down-spec =
