@@ -10,7 +10,7 @@ use lib.Dec.{leb}
 use lib.ListN.{length, getD}
 use borrow.Author.Tests.{leb-true, leb-false}
 use Rattle.marks.specs.Marks.{mark-at, first-bad, Next}
-use Rattle.marks.specs.Claims.{Mark, First-bad, Bad-found, None-bad, One-first-bad, Row-length-unique, First-bad-unique, Clear-unique, Mark-run-unique, Next-marked-unique, Next-unmarked-unique}
+use Rattle.marks.specs.Claims.{Mark, First-bad, Bad-found, None-bad, One-first-bad, Row-length-unique, Is-marked-unique, First-bad-unique, Clear-unique, Mark-run-unique, Next-marked-unique, Next-unmarked-unique}
 
 -- ---- bad marks
 
@@ -60,6 +60,12 @@ one-first-bad marks p q f g = equal p q (λ l. f .bad (g .none-before p l)) (λ 
 
 pub row-length-unique : Row-length-unique
 row-length-unique places r r′ x y = x ∙ sym y
+
+pub is-marked-unique : Is-marked-unique
+is-marked-unique marks place true true x y = refl
+is-marked-unique marks place true false x y = sym (y .answer .1 (x .answer .0 refl))
+is-marked-unique marks place false true x y = x .answer .1 (y .answer .0 refl)
+is-marked-unique marks place false false x y = refl
 
 pub first-bad-unique : First-bad-unique
 first-bad-unique marks r r′ x y = x ∙ sym y

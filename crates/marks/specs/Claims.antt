@@ -2,10 +2,11 @@
 -- Assumes nothing.
 use Prim.Native.Nat.{ℕ, _+_, _≤_, _<_}
 use mathlib.Core.Path.{_≡_}
+use mathlib.Core.Bool.{Bool}
 use mathlib.Core.Logic.{_⊎_}
 use mathlib.Core.List.{List}
 use lib.ListN.{length, getD, replicate}
-use Rattle.marks.specs.Marks.{row-length, mark-at, flags, first-bad, marked-run, NextMarked, NextUnmarked}
+use Rattle.marks.specs.Marks.{row-length, IsMarked, mark-at, flags, first-bad, marked-run, NextMarked, NextUnmarked}
 
 -- ---- the marks of places, as a list
 
@@ -77,6 +78,9 @@ One-first-bad = (marks : List ℕ) (p q : ℕ) → First-bad marks p → First-b
 
 abbrev pub Row-length-unique : Type 0
 Row-length-unique = (places r r′ : ℕ) → r ≡ row-length places → r′ ≡ row-length places → r ≡ r′
+
+abbrev pub Is-marked-unique : Type 0
+Is-marked-unique = (marks : List ℕ) (place : ℕ) (r r′ : Bool) → IsMarked marks place r → IsMarked marks place r′ → r ≡ r′
 
 abbrev pub First-bad-unique : Type 0
 First-bad-unique = (marks : List ℕ) (r r′ : ℕ) → r ≡ first-bad marks → r′ ≡ first-bad marks → r ≡ r′

@@ -2,8 +2,8 @@
 -- Assumes nothing.
 use Prim.Native.Nat.{ℕ, zero, suc, _≤_, _<_, max}
 use mathlib.Core.Path.{_≡_}
-use mathlib.Core.Logic.{_≢_, _⊎_}
-use mathlib.Core.Bool.{cond}
+use mathlib.Core.Logic.{_≢_, _⊎_, _↔_}
+use mathlib.Core.Bool.{Bool, true, cond}
 use mathlib.Core.List.{List, [], _∷_}
 use lib.Dec.{leb}
 use lib.ListN.{getD, set}
@@ -33,6 +33,10 @@ listed f (suc count) = f 0 ∷ listed (λ i. f (suc i)) count
 unfoldable pub flags : (places : ℕ) (marks : List ℕ) → List ℕ
 unfolding listed mark-at
 flags places marks = listed (mark-at marks) places
+
+-- the contract of `is_marked`
+pub record IsMarked (marks : List ℕ) (place : ℕ) (r : Bool) : Type 0 where
+  pub answer : (r ≡ true) ↔ Marked marks place
 
 -- the first place whose mark is neither 0 nor 1, or the length of the row
 unfoldable pub first-bad : (marks : List ℕ) → ℕ

@@ -2,13 +2,26 @@
 ghost use mathlib.Core.Path.{_≡_};
 ghost use Prim.Native.Nat.{min, max};
 ghost use lib.ListN.{length, replicate};
-ghost use Rattle.marks.specs.Marks.{row-length, first-bad, marked-run, NextMarked, NextUnmarked};
+ghost use Rattle.marks.specs.Marks.{row-length, IsMarked, first-bad, marked-run, NextMarked, NextUnmarked};
+
+// The mark of a place that is marked.
+const MARKED: u8 = 1;
 
 // How many bytes the row of so many places has.
 pub fn row_length(places: usize) -> usize
     ensures { λ r. ⌜ r ≡ row-length places ⌝ }
 {
     places
+}
+
+// Whether a place is marked. No place outside the row is.
+pub fn is_marked(marks: &[u8], place: usize) -> bool
+    ensures { λ r. ⌜ IsMarked (now (marks .entry)) place r ⌝ }
+{
+    if marks.len() <= place {
+        return false;
+    }
+    marks[place] == MARKED
 }
 
 // The first place whose mark is neither 0 nor 1, or the length of the row.
@@ -66,7 +79,7 @@ pub fn mark_run(marks: &mut [u8], from: usize, len: usize)
     let end = from + least(len, marks.len() - from);
     let mut i = from;
     while i < end {
-        marks[i] = 1;
+        marks[i] = MARKED;
         i += 1;
     }
 }
@@ -79,7 +92,7 @@ pub fn next_marked(marks: &[u8], places: usize, from: usize) -> usize
     let end = least(places, marks.len());
     let mut i = from;
     while i < end {
-        if marks[i] == 1 {
+        if marks[i] == MARKED {
             return i;
         }
         i += 1;
@@ -94,7 +107,7 @@ pub fn next_unmarked(marks: &[u8], places: usize, from: usize) -> usize
     let end = least(places, marks.len());
     let mut i = from;
     while i < end {
-        if marks[i] != 1 {
+        if marks[i] != MARKED {
             return i;
         }
         i += 1;

@@ -6,6 +6,7 @@ use mathlib.Core.Option.{Option, none, some}
 use lib.Dec.{eqb, leb, ltb}
 use Rattle.digits.specs.Common.{if_then_else_}
 use Rattle.record.specs.Refusals.{bad-window}
+use Rattle.marks.specs.Marks.{row-length}
 use Rattle.steps.specs.Sites.{Room}
 
 -- does the window of `size` places from `first` on hold the address?
@@ -16,9 +17,10 @@ within first size address = leb first address && ltb address (first + size)
 unfoldable pub window : (first size : ℕ) → ℕ → Option ℕ
 window first size i = if ltb i size then some (first + i) else none
 
--- page and marks differ in length, the page has over 65,536 places, or the window goes beyond 2^32
+-- the marks are not a row for the page's places, the page has over 65,536 places, or the window goes beyond 2^32
 unfoldable pub unfit : (first page marks : ℕ) → Bool
-unfit first page marks = not (eqb page marks) || ltb 65536 page || ltb (2 ^ 32) (first + page)
+unfolding row-length
+unfit first page marks = not (eqb (row-length page) marks) || ltb 65536 page || ltb (2 ^ 32) (first + page)
 
 -- a page and marks of these lengths as a room, with 16 for a window that is refused
 unfoldable pub one-window : (first page marks : ℕ) → Room

@@ -20,7 +20,7 @@ pub enum Reach {
 pub fn is_unfit(first: u32, page: usize, marks: usize) -> bool
     ensures { λ r. ⌜ IsUnfit first page marks r ⌝ }
 {
-    if page != marks {
+    if marks::row_length(page) != marks {
         return true;
     }
     if page > MOST_PLACES {
