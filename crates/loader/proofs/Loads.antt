@@ -50,13 +50,13 @@ module _ (inside : ℕ → Bool) (text pool : List ℕ) where
       rw e (record { under-way = start-under-way text h; few = start-few text; room = l; same = ap (decision inside nothing-yet) (start-ahead text) })
 
   module _ (w : Walk) (tally : CodeTally) (j : Judging inside text pool w tally) (t : Turn) (h : Judged inside text w tally t) where
-    onward : (w′ : Walk) (tally′ : CodeTally) → t ≡ On w′ tally′ → Onward inside text w tally w′ tally′
+    onward : (w′ : Walk) (tally′ : CodeTally) → t ≡ On tally′ w′ → Onward inside text w tally w′ tally′
     onward w′ tally′ e = subst (Judged inside text w tally) e h
 
-    pub judging-less : (w′ : Walk) (tally′ : CodeTally) → t ≡ On w′ tally′ → length (unread (w′ .state) text) < length (unread (w .state) text)
+    pub judging-less : (w′ : Walk) (tally′ : CodeTally) → t ≡ On tally′ w′ → length (unread (w′ .state) text) < length (unread (w .state) text)
     judging-less w′ tally′ e = onward w′ tally′ e .less
 
-    pub judging-again : (w′ : Walk) (tally′ : CodeTally) → t ≡ On w′ tally′ → (pool′ : List ℕ) → length pool′ ≡ length pool → Judging inside text pool′ w′ tally′
+    pub judging-again : (w′ : Walk) (tally′ : CodeTally) → t ≡ On tally′ w′ → (pool′ : List ℕ) → length pool′ ≡ length pool → Judging inside text pool′ w′ tally′
     judging-again w′ tally′ e pool′ l =
         let o = onward w′ tally′ e in
         record { under-way = o .under-way; few = o .few; room = l ∙ j .room; same = o .same ∙ j .same }

@@ -106,7 +106,7 @@ module _ (text : List ℕ) (w : Walk) (pool : List ℕ) (r : Replied) (pool′ :
 
   pub judged-record : (inside : ℕ → Bool) (tally : CodeTally) (x : Record) → Here x → Few text w tally → (t : Turn)
       → Met inside (record { state = r .state; base = w .base }) tally (meant x pool′) t → Judged inside text w tally t
-  judged-record inside tally x one few (On w′ tally′) p =
+  judged-record inside tally x one few (On tally′ w′) p =
       let less : length (unread (w′ .state) text) < length (unread (w .state) text) = rw (p .state) (shorter x one) in
       record {
         under-way = record { options = rw (p .state) (one .options); countable = rw (p .state) (one .countable) };

@@ -19,6 +19,7 @@ use Rattle.window.specs.declared.Reach.{Reach}
 use Rattle.window.specs.declared.Reach.the-variants.{Inside, Outside}
 use Rattle.window.specs.Window.{within, window}
 use Rattle.window.specs.Contracts.{first-byte, FirstOutside, Painted}
+use Rattle.window.proofs.Tests.{outside-nothing}
 use Rattle.loader.specs.declared.Base.{Base as CodeBase}
 use Rattle.loader.specs.declared.Base.the-variants.{Segment, Linear}
 use Rattle.loader.specs.Placing.{Base, byte-address, placed}
@@ -132,6 +133,12 @@ module _ (base : CodeBase) (offset len first size : ℕ) (o : offset < 65536) (l
 
   pub code-low : (r : Reach) → FirstOutside first size a k r → (i : ℕ) → r ≡ Outside i → Surveyed (based base) offset len first size (Outside i)
   code-low r f i e = surveyed-low (based base) offset k len first size i code-few runs (rw (e, is-a) at f)
+
+  -- where the first run is all of them
+  pub code-whole : k ≡ len → (r : Reach) → FirstOutside first size a len r → Surveyed (based base) offset len first size r
+  code-whole e (Outside i) f = code-low (Outside i) (rw e f) i refl
+  code-whole e Inside f =
+      surveyed-inside (based base) offset k len first size code-few runs (rw (e, ← is-a) f) (outside-nothing first size (byte-address (based base) offset k) (len - k) (omega arith))
 
   module _ (r : Reach) (f : FirstOutside first size a k r) (e : r ≡ Inside) (b : ℕ) (is-b : b ≡ byte-address (based base) offset k) (q : Reach) (g : FirstOutside first size b (len - k) q) where
     pub code-high : (i : ℕ) → q ≡ Outside i → Surveyed (based base) offset len first size (Outside (k + i))

@@ -95,7 +95,7 @@ pub record Passed (inside : ℕ → Bool) (w : Walk) (tally : CodeTally) (m : Me
   pub same : (rest : List Step) → decision inside (tallied tally′) rest ≡ decision inside (tallied tally) (does-on (w .state .line) (based (w .base)) m ++ rest)
 
 abbrev pub Met : (inside : ℕ → Bool) (w : Walk) (tally : CodeTally) (m : Meaning) → Turn → Type 0
-Met inside w tally m (On w′ tally′) = Passed inside w tally m w′ tally′
+Met inside w tally m (On tally′ w′) = Passed inside w tally m w′ tally′
 Met inside w tally m (Stop l) = (rest : List Step) → told-loading l ≡ verdict (decision inside (tallied tally) (does-on (w .state .line) (based (w .base)) m ++ rest))
 
 -- so it is, wherever the record's payload lies
@@ -110,7 +110,7 @@ pub record Onward (inside : ℕ → Bool) (text : List ℕ) (w : Walk) (tally : 
   pub less : length (unread (w′ .state) text) < length (unread (w .state) text)
 
 abbrev pub Judged : (inside : ℕ → Bool) (text : List ℕ) (w : Walk) (tally : CodeTally) → Turn → Type 0
-Judged inside text w tally (On w′ tally′) = Onward inside text w tally w′ tally′
+Judged inside text w tally (On tally′ w′) = Onward inside text w tally w′ tally′
 Judged inside text w tally (Stop l) = told-loading l ≡ verdict (decision inside (tallied tally) (ahead-of w text))
 
 -- ---- the second pass

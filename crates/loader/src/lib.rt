@@ -53,13 +53,13 @@ enum Base {
 
 // Where a pass stands in a text, and the base in force there.
 struct Walk {
-    state: State,
     base: Base,
+    state: State,
 }
 
-// What a line comes to in the first pass: the walk after it with the tally so far, or the answer.
+// What a line comes to in the first pass: the tally so far with the walk after it, or the answer.
 enum Turn {
-    On(Walk, Tally),
+    On(Tally, Walk),
     Stop(Loading),
 }
 
@@ -116,6 +116,9 @@ fn survey(base: Base, offset: u16, len: usize, first: u32, size: usize) -> Reach
     ensures { λ r. ⌜ Surveyed (based base) offset len first size r ⌝ }
 {
     let run = first_run(offset, len);
+    if run == len {
+        return window::first_outside(first, size, byte_address(base, offset, 0), len);
+    }
     match window::first_outside(first, size, byte_address(base, offset, 0), run) {
         Reach::Outside(i) => Reach::Outside(i),
         Reach::Inside => {
@@ -165,10 +168,10 @@ fn judge_record(first: u32, size: usize, w: Walk, tally: Tally, given: Record) -
     match given {
         Record::Data { offset, at: _, len } => match survey(base, offset, len, first, size) {
             Reach::Inside => Turn::On(
-                there,
                 Tally {
                     records: tally.records + 1,
                 },
+                there,
             ),
             Reach::Outside(i) => {
                 let address = byte_address(base, offset, i);
@@ -176,10 +179,10 @@ fn judge_record(first: u32, size: usize, w: Walk, tally: Tally, given: Record) -
             }
         },
         Record::EndOfFile => Turn::Stop(Loading::Accepted(tally)),
-        Record::ExtendedSegmentAddress(_) => Turn::On(there, tally),
-        Record::StartSegmentAddress { cs: _, ip: _ } => Turn::On(there, tally),
-        Record::ExtendedLinearAddress(_) => Turn::On(there, tally),
-        Record::StartLinearAddress(_) => Turn::On(there, tally),
+        Record::ExtendedSegmentAddress(_) => Turn::On(tally, there),
+        Record::StartSegmentAddress { cs: _, ip: _ } => Turn::On(tally, there),
+        Record::ExtendedLinearAddress(_) => Turn::On(tally, there),
+        Record::StartLinearAddress(_) => Turn::On(tally, there),
     }
 }
 
@@ -225,7 +228,7 @@ fn judge_text(text: &[u8], first: u32, size: usize) -> Loading
     let mut tally = Tally { records: 0 };
     loop {
         match judge_next(text, &mut pool, first, size, w, tally) {
-            Turn::On(next, t) => {
+            Turn::On(t, next) => {
                 w = next;
                 tally = t;
             }

@@ -33,16 +33,16 @@ loop-less c =
     let s = c .before .before .before .before .before .before .before .before .before .args in
     let l = c .before .before .before .before .before .before .loop in
     let t = c .before .before .before .before .judge-next in
-    let n = c .before .next .given in
-    judging-less (within (s .first) (s .size)) (now (s .text)) (l .pool) (l .w) (l .tally) (l .inv) (t .result) (t .ensures) (n .0 .0) (n .0 .1 .0) (n .1)
+    let n = c .before .t .given in
+    judging-less (within (s .first) (s .size)) (now (s .text)) (l .pool) (l .w) (l .tally) (l .inv) (t .result) (t .ensures) (n .0 .1 .0) (n .0 .0) (n .1)
 
 loop-again : tie.Need-loop-again Inv-loop μ-loop
 loop-again c =
     let s = c .before .before .before .before .before .before .before .before .before .args in
     let l = c .before .before .before .before .before .before .loop in
     let t = c .before .before .before .before .judge-next in
-    let n = c .before .next .given in
-    judging-again (within (s .first) (s .size)) (now (s .text)) (l .pool) (l .w) (l .tally) (l .inv) (t .result) (t .ensures) (n .0 .0) (n .0 .1 .0) (n .1) (t .last .1 .0) (t .kept .1 .0)
+    let n = c .before .t .given in
+    judging-again (within (s .first) (s .size)) (now (s .text)) (l .pool) (l .w) (l .tally) (l .inv) (t .result) (t .ensures) (n .0 .1 .0) (n .0 .0) (n .1) (t .last .1 .0) (t .kept .1 .0)
 
 returns : tie.Need-returns Inv-loop μ-loop
 returns c =

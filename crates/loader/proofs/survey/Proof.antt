@@ -4,41 +4,48 @@ use mathlib.Core.Path.{ap}
 use native.Mathlib.Omega.{arith}
 use Rattle.window.specs.Contracts.{first-byte}
 use borrow.Author.Needs.{needs}
-use Rattle.loader.proofs.Runs.{code-low, code-high, code-inside}
+use Rattle.loader.proofs.Runs.{code-whole, code-low, code-high, code-inside}
 use Rattle.loader.proofs.survey.Statement.{statement}
 use Rattle.loader.proofs.survey.Tie as tie
 
-byte-address-requires-2 : tie.Need-byte-address-requires-2
-byte-address-requires-2 c κs = omega (arith, c .before .before .before .before .first-run .ensures)
-
-sub-first-outside : tie.Need-sub-first-outside
-sub-first-outside c = omega (arith, c .before .before .before .before .before .first-run .ensures)
-
-add-t16 : tie.Need-add-t16
-add-t16 c = omega (arith, c .before .before .before .first-outside2 .ensures .among (c .before .i2 .given .0 .0) (ap first-byte (c .before .i2 .given .1)))
-
 returns : tie.Need-returns
 returns c =
-    let s = c .before .before .before .before .before .before in
+    let s = c .before .before .before .before in
     let a = s .args in
-    code-low (a .base) (a .offset) (a .len) (a .first) (a .size) (search needs) (s .pre) (c .before .before .before .before .before .first-run .result) (c .before .before .before .before .before .first-run .ensures)
-    (c .before .before .before .before .byte-address .result) (c .before .before .before .before .byte-address .ensures) (c .before .before .before .first-outside .result) (c .before .before .before .first-outside .ensures) (c .before .i .given .0 .0) (c .before .i .given .1)
+    code-whole (a .base) (a .offset) (a .len) (a .first) (a .size) (search needs) (s .pre) (c .before .before .before .first-run .result) (c .before .before .before .first-run .ensures)
+    (c .before .byte-address .result) (c .before .byte-address .ensures) (c .before .before .if1 .taken) (c .first-outside .result) (c .first-outside .ensures)
+
+byte-address-requires-3 : tie.Need-byte-address-requires-3
+byte-address-requires-3 c κs = omega (arith, c .before .before .before .before .before .first-run .ensures)
+
+sub-first-outside : tie.Need-sub-first-outside
+sub-first-outside c = omega (arith, c .before .before .before .before .before .before .first-run .ensures)
+
+add-t18 : tie.Need-add-t18
+add-t18 c = omega (arith, c .before .before .before .first-outside3 .ensures .among (c .before .i2 .given .0 .0) (ap first-byte (c .before .i2 .given .1)))
 
 returns-2 : tie.Need-returns-2
 returns-2 c =
-    let s = c .before .before .before .before .before .before .before .before .before .before in
+    let s = c .before .before .before .before .before .before .before in
     let a = s .args in
-    code-high (a .base) (a .offset) (a .len) (a .first) (a .size) (search needs) (s .pre) (c .before .before .before .before .before .before .before .before .before .first-run .result) (c .before .before .before .before .before .before .before .before .before .first-run .ensures)
-    (c .before .before .before .before .before .before .before .before .byte-address .result) (c .before .before .before .before .before .before .before .before .byte-address .ensures) (c .before .before .before .before .before .before .before .first-outside .result) (c .before .before .before .before .before .before .before .first-outside .ensures) (c .before .before .before .before .before .enum-told .given .1)
-    (c .before .before .before .before .byte-address2 .result) (c .before .before .before .before .byte-address2 .ensures) (c .before .before .before .first-outside2 .result) (c .before .before .before .first-outside2 .ensures) (c .before .i2 .given .0 .0) (c .before .i2 .given .1)
+    code-low (a .base) (a .offset) (a .len) (a .first) (a .size) (search needs) (s .pre) (c .before .before .before .before .before .before .first-run .result) (c .before .before .before .before .before .before .first-run .ensures)
+    (c .before .before .before .before .byte-address2 .result) (c .before .before .before .before .byte-address2 .ensures) (c .before .before .before .first-outside2 .result) (c .before .before .before .first-outside2 .ensures) (c .before .i .given .0 .0) (c .before .i .given .1)
 
 returns-3 : tie.Need-returns-3
 returns-3 c =
-    let s = c .before .before .before .before .before .before .before .before .before in
+    let s = c .before .before .before .before .before .before .before .before .before .before .before in
     let a = s .args in
-    code-inside (a .base) (a .offset) (a .len) (a .first) (a .size) (search needs) (s .pre) (c .before .before .before .before .before .before .before .before .first-run .result) (c .before .before .before .before .before .before .before .before .first-run .ensures)
-    (c .before .before .before .before .before .before .before .byte-address .result) (c .before .before .before .before .before .before .before .byte-address .ensures) (c .before .before .before .before .before .before .first-outside .result) (c .before .before .before .before .before .before .first-outside .ensures) (c .before .before .before .before .enum-told .given .1)
-    (c .before .before .before .byte-address2 .result) (c .before .before .before .byte-address2 .ensures) (c .before .before .first-outside2 .result) (c .before .before .first-outside2 .ensures) (c .enum-told2 .given .1)
+    code-high (a .base) (a .offset) (a .len) (a .first) (a .size) (search needs) (s .pre) (c .before .before .before .before .before .before .before .before .before .before .first-run .result) (c .before .before .before .before .before .before .before .before .before .before .first-run .ensures)
+    (c .before .before .before .before .before .before .before .before .byte-address2 .result) (c .before .before .before .before .before .before .before .before .byte-address2 .ensures) (c .before .before .before .before .before .before .before .first-outside2 .result) (c .before .before .before .before .before .before .before .first-outside2 .ensures) (c .before .before .before .before .before .enum-told .given .1)
+    (c .before .before .before .before .byte-address3 .result) (c .before .before .before .before .byte-address3 .ensures) (c .before .before .before .first-outside3 .result) (c .before .before .before .first-outside3 .ensures) (c .before .i2 .given .0 .0) (c .before .i2 .given .1)
+
+returns-4 : tie.Need-returns-4
+returns-4 c =
+    let s = c .before .before .before .before .before .before .before .before .before .before in
+    let a = s .args in
+    code-inside (a .base) (a .offset) (a .len) (a .first) (a .size) (search needs) (s .pre) (c .before .before .before .before .before .before .before .before .before .first-run .result) (c .before .before .before .before .before .before .before .before .before .first-run .ensures)
+    (c .before .before .before .before .before .before .before .byte-address2 .result) (c .before .before .before .before .before .before .before .byte-address2 .ensures) (c .before .before .before .before .before .before .first-outside2 .result) (c .before .before .before .before .before .before .first-outside2 .ensures) (c .before .before .before .before .enum-told .given .1)
+    (c .before .before .before .byte-address3 .result) (c .before .before .before .byte-address3 .ensures) (c .before .before .first-outside3 .result) (c .before .before .first-outside3 .ensures) (c .enum-told2 .given .1)
 
 pub survey-spec : {M : Type 1} → statement M
 survey-spec =
@@ -47,14 +54,17 @@ survey-spec =
     (λ c κs. search needs)
     (λ c κs. search needs)
     (λ c κs. search needs)
+    returns
+    (λ c κs. search needs)
+    (λ c κs. search needs)
     (λ c. search needs)
     (λ c. search needs)
-    byte-address-requires-2
+    byte-address-requires-3
     sub-first-outside
     (λ c κs. search needs)
     (λ c. search needs)
-    add-t16
+    add-t18
     (λ c. search needs)
-    returns
     returns-2
-    returns-3)
+    returns-3
+    returns-4)
