@@ -36,9 +36,6 @@ pub record Feed (chunk : List ℕ) (from e : ℕ) : Type 0 where
 pub feed-least : {chunk : List ℕ} {from e : ℕ} → Feed chunk from e → (k : ℕ) → from ≤ k → getD chunk k 0 ≡ LF → e ≤ k
 feed-least {e} f k h l = split e k (λ g. g) (λ g. absurd (f .none-before k h g l))
 
-pub feed-one : {chunk : List ℕ} {from e e′ : ℕ} → Feed chunk from e → Feed chunk from e′ → e ≡ e′
-feed-one f g = omega (arith, feed-least f _ (g .after) (g .feed), feed-least g _ (f .after) (f .feed))
-
 -- no byte of the first line is LF
 before-rest : (text : List ℕ) (k : ℕ) → suc k < length text - length (rest text) → getD text k 0 ≢ LF
 unfolding rest

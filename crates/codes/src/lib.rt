@@ -83,7 +83,7 @@ fn code_error(e: ReaderError) -> Coded
     let values = figures.values;
     match values {
         Values::Nothing => refused(number, 0, 0),
-        Values::Place(place) => refused(number, place as u64, 0),
+        Values::Position(place) => refused(number, place as u64, 0),
         Values::Byte(byte) => refused(number, byte as u64, 0),
         Values::Bytes(first, second) => refused(number, first as u64, second as u64),
     }

@@ -70,7 +70,7 @@ module _ (l : List ℕ) (i : ℕ) where
   unfolding leading
   lead-more h d = rw (drop-cons l i 0 h, lt-ltb (digit (getD l i 0)) 16 d, add-one i) (omega arith)
 
-  -- a byte that is none leads nothing
+  -- a byte that is not a digit leads nothing
   pub lead-found : i < length l → 16 ≤ digit (getD l i 0) → i + leading (drop i l) ≡ i
   unfolding leading
   lead-found h d = rw (drop-cons l i 0 h, le-ltb (digit (getD l i 0)) 16 d) (omega arith)
@@ -85,7 +85,7 @@ unfolding leading
 leading-most [] = omega arith
 leading-most (c ∷ l) = branch (λ (n : ℕ). n ≤ length (c ∷ l)) (is-digit c) (suc (leading l)) 0 (λ e. omega (arith, leading-most l)) (λ e. omega arith)
 
--- a search that ends inside has found one, and one that ends behind the last none
+-- a search that ends inside has found one, and one that ends after the last has found none
 pub found-other : (l : List ℕ) → leading l < length l → all-digits l ≡ false
 found-other l h = go (all-digits l) refl
   where

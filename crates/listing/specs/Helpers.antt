@@ -11,7 +11,7 @@ use Rattle.digits.specs.Spelling.{spelt}
 use Rattle.record.specs.Record.{meant, Inside}
 use Rattle.record.specs.declared.Record.{Record}
 use Rattle.reader.specs.declared.Values.{Values}
-use Rattle.reader.specs.declared.Values.the-variants.{Nothing, Place, Byte, Bytes}
+use Rattle.reader.specs.declared.Values.the-variants.{Nothing, Position, Byte, Bytes}
 use Rattle.reader.specs.declared.Reply.{Reply}
 use Rattle.reader.specs.declared.Reply.the-variants.{Read, Refused, Done}
 use Rattle.listing.specs.Listing.{spaced, record-entry, shown, entries, answers}
@@ -30,7 +30,7 @@ numbered character bytes = text "X" ++ (character ∷ []) ++ text " " ++ spelt b
 unfoldable pub values-put : Values → List ℕ
 unfolding spelt
 values-put Nothing = []
-values-put (Place place) = spaced (two-bytes place)
+values-put (Position place) = spaced (two-bytes place)
 values-put (Byte byte) = spaced (byte ∷ [])
 values-put (Bytes first second) = spaced (first ∷ []) ++ spaced (second ∷ [])
 

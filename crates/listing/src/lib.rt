@@ -5,6 +5,7 @@ use reader::Reply;
 use reader::State;
 use reader::Values;
 use record::Record;
+use record::chars;
 ghost use mathlib.Core.Path.{_≡_};
 ghost use mathlib.Core.List.{[], _∷_, _++_};
 ghost use Prim.Native.Nat.{_+_, _*_, _≤_, _<_};
@@ -187,7 +188,7 @@ fn put_values(values: Values, out: &mut [u8], at: usize) -> usize
 {
     match values {
         Values::Nothing => at,
-        Values::Place(place) => put_place(place, out, at),
+        Values::Position(place) => put_place(place, out, at),
         Values::Byte(byte) => put_value(byte, out, at),
         Values::Bytes(first, second) => {
             let next = put_value(first, out, at);
@@ -227,11 +228,11 @@ fn put_reply(reply: Reply, pool: &[u8], out: &mut [u8], at: usize) -> usize
     match reply {
         Reply::Read(given) => {
             let end = put_record(given, pool, out, at);
-            put_char(b'\n', out, end)
+            put_char(chars::LF, out, end)
         }
         Reply::Refused(e) => {
             let end = put_refusal(e, out, at);
-            put_char(b'\n', out, end)
+            put_char(chars::LF, out, end)
         }
         Reply::Done => at,
     }

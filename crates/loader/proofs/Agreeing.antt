@@ -1,7 +1,7 @@
 -- Two rows of lines that are both accepted: lines that say the same come to the same tally and state the same, wherever their numbers begin;
 -- empty lines do not count.
 -- Assumes nothing.
-use mathlib.Core.Path.{_≡_, refl, sym, ap, subst}
+use mathlib.Core.Path.{_≡_, refl, sym, ap}
 use Prim.Native.Nat.{ℕ, suc}
 use native.Mathlib.Omega.{arith}
 use mathlib.Core.Bool.{Bool}

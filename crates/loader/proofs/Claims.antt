@@ -1,14 +1,13 @@
 -- The claims of `specs/Claims.antt` beyond demand 3, proved: the walk of `Reasons` gives each answer its reason, and a reason its number.
 -- Assumes nothing.
 use mathlib.Core.Path.{_≡_, refl, sym, ap, _∙_, subst}
-use Prim.Native.Nat.{ℕ, _+_, _^_}
+use Prim.Native.Nat.{ℕ}
 use native.Mathlib.Omega.{arith}
-use mathlib.Core.Bool.{Bool, true, false, true≢false}
+use mathlib.Core.Bool.{Bool, true, false}
 use mathlib.Core.Option.{Option, none, some}
 use mathlib.Core.List.{List, []}
 use lib.Dec.{eqb}
 use lib.ListN.{length, getD}
-use borrow.Author.Tests.{eq-eqb, le-ltb}
 use Rattle.digits.specs.Common.{if_then_else_}
 use Rattle.record.specs.Refusals.{Refusal, refusal, number-of, contains-invalid-characters, missing-end-of-file-record, bad-window, outside-window}
 use Rattle.digits.specs.Digits.{number-after}
@@ -19,7 +18,6 @@ use Rattle.record.specs.Faults.{Fault, no-colon, no-digit, short, long, odd, su
 use Rattle.record.proofs.Standing.{Stands, stands}
 use Rattle.record.proofs.Claims.{names-the-offender}
 use Rattle.reader.specs.Lines.{lines}
-use Rattle.reader.specs.Row.{row}
 use Rattle.reader.specs.Claims.{Offends}
 use Rattle.reader.specs.declared.Answer.{Answer}
 use Rattle.reader.specs.declared.Answer.the-variants.{Read, Refused as AnswerRefused}
@@ -33,13 +31,12 @@ use Rattle.loader.specs.declared.Loading.{Loading}
 use Rattle.loader.specs.declared.Loading.the-variants.{Accepted, Refused}
 use Rattle.steps.specs.Steps.{nothing-yet, Verdict, accepted, refused, Decision, by, decision, verdict}
 use Rattle.steps.specs.Source as source
-use Rattle.steps.specs.Sites.{stopping-by, stopping-in}
+use Rattle.steps.specs.Sites.{stopping-by}
 use Rattle.window.specs.Window.{within, unfit, one-window}
 use Rattle.window.specs.Claims.{Window}
 use Rattle.window.proofs.Tests.{good-window, no-window}
-use Rattle.loader.specs.declared.Tally.{Tally as CodeTally}
 use Rattle.loader.specs.Placing.{intel-by}
-use Rattle.loader.specs.Load.{room-of, placements, steps-of, stopping, load}
+use Rattle.loader.specs.Load.{placements, steps-of, stopping, load}
 use Rattle.loader.specs.Told.{loader-refusal, told-loading}
 use Rattle.loader.specs.Claims.{in-force, data-records, Stops, the-end, no-record, first-outside, Decided, Why, bad-one, no-end, at-line, Reasons, Load-names-the-offender, Among, Total, Told-apart, Load-unique, Examples}
 use Rattle.loader.proofs.Demand3.{load-answer}

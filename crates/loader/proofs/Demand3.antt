@@ -1,19 +1,18 @@
 -- Demand 3 of a load into one window: what `steps` proves for any source and any room, of Intel's records and of a window whose every place
 -- shows an address.
 -- Assumes nothing.
-use mathlib.Core.Path.{_≡_, refl, sym, ap, _∙_}
+use mathlib.Core.Path.{_≡_, refl, sym, _∙_}
 use Prim.Native.Nat.{ℕ, _+_, _<_}
-use native.Mathlib.Nat.{add-zero}
 use native.Mathlib.Omega.{arith}
 use mathlib.Core.Bool.{Bool, true, false}
-use mathlib.Core.Option.{Option, none, some}
+use mathlib.Core.Option.{none, some}
 use mathlib.Core.List.{List}
 use lib.ListN.{length, getD, List·getD-eq-default}
 use lib.Seq.{ext-getD}
 use Rattle.digits.specs.Common.{if_then_else_}
-use Rattle.record.specs.Refusals.{Refusal, bad-window}
+use Rattle.record.specs.Refusals.{bad-window}
 use Rattle.steps.specs.Steps.{Step, Tally, nothing-yet, accepted, decision, verdict}
-use Rattle.steps.specs.Sites.{Loaded, stopping-by, stopping-in, painted, marked, Owed}
+use Rattle.steps.specs.Sites.{Loaded, stopping-by, stopping-in, painted, marked}
 use Rattle.steps.specs.Sites as sites
 use Rattle.steps.proofs.Sites as general
 use Rattle.window.specs.Window.{within, window, unfit, one-window}

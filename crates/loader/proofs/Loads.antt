@@ -9,7 +9,7 @@ use mathlib.Core.List.{List, [], _∷_, map}
 use lib.ListN.{length, replicate}
 use Rattle.record.specs.Refusals.{Refusal, bad-window}
 use Rattle.reader.specs.Along.{unread}
-use Rattle.steps.specs.Steps.{Tally, nothing-yet, accepted, refused, decision, verdict, stated}
+use Rattle.steps.specs.Steps.{nothing-yet, refused, decision, verdict}
 use Rattle.steps.specs.Sites.{Loaded, painted, marked, stopping-by}
 use Rattle.steps.specs.Runs.{as-mark, cleared}
 use Rattle.steps.proofs.Places.{painted-none}

@@ -21,7 +21,7 @@ use Rattle.steps.specs.Steps.{Placement, Tally, nothing-yet, Verdict, accepted,
 use Rattle.steps.specs.Source as source
 use Rattle.steps.specs.Sites.{painted, marked}
 use Rattle.steps.proofs.Sites.{accepted-by}
-use Rattle.window.specs.Window.{window, one-window}
+use Rattle.window.specs.Window.{window}
 use Rattle.loader.specs.Placing.{from-start, intel-by}
 use Rattle.loader.specs.Load.{room-of, steps-of, placements, stopping, load}
 use Rattle.loader.specs.Noise.{No-LF, Slips, the-rest, last-line, one-more, Damaged, one-slip, one-in-each-line, cut-off, Refused-or-same, is-refused, is-the-same, Damage-is-noticed, Examples}

@@ -5,7 +5,7 @@ use mathlib.Core.Path.{_≡_, refl, sym, ap, ap₂, _∙_}
 use Prim.Native.Nat.{ℕ, _+_, _^_, _≤_, _<_}
 use native.Mathlib.Omega.{arith}
 use mathlib.Core.Bool.{Bool, true, false, _&&_}
-use mathlib.Core.Option.{Option, none, some}
+use mathlib.Core.Option.{Option}
 use mathlib.Core.List.{List, [], _∷_, _++_, map, map-append}
 use lib.ListN.{length}
 use Rattle.digits.specs.Common.{if_then_else_}
@@ -19,9 +19,9 @@ use Rattle.reader.specs.declared.State.{State}
 use Rattle.reader.specs.declared.Replied.{Replied}
 use Rattle.reader.specs.Told.{refusal-of}
 use Rattle.reader.specs.Lines.{lines}
-use Rattle.reader.specs.Row.{Numbered, on, is-end, through-stop, row}
+use Rattle.reader.specs.Row.{Numbered, on, is-end, row}
 use Rattle.reader.specs.Text.{default-options, new-state, Next}
-use Rattle.reader.proofs.Texts.{lines-few, sayings-few, cut-behind}
+use Rattle.reader.proofs.Texts.{lines-few, sayings-few}
 use Rattle.reader.specs.Along.{unread}
 use Rattle.steps.specs.Steps.{Placement, Step, refused, turn, decision, verdict, stated}
 use Rattle.steps.specs.Sites.{painted}

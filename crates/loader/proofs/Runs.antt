@@ -1,11 +1,11 @@
 -- The bytes of a data record are at most two runs: up to the end of its segment, and from there on.
 -- Assumes nothing.
 use mathlib.Core.Path.{_≡_, refl, sym, ap, ap₂, _∙_}
-use Prim.Native.Nat.{ℕ, suc, _+_, _-_, _%_, _^_, _≤_, _<_, min}
+use Prim.Native.Nat.{ℕ, suc, _+_, _-_, _≤_, _<_, min}
 use native.Mathlib.Nat.{add-zero, zero-add}
 use native.Mathlib.Omega.{arith}
 use mathlib.Core.Bool.{Bool}
-use mathlib.Core.Option.{Option, none, some, Option·map}
+use mathlib.Core.Option.{some, Option·map}
 use mathlib.Core.List.{List, [], _∷_, _++_, map, map-append, append-nil}
 use lib.ListN.{length, take, drop, length-drop, take-append-drop, drop-of-length-le}
 use lib.Seq.{length-take-le, take-all}

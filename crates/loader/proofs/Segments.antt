@@ -26,7 +26,7 @@ use Rattle.loader.specs.Placing.{Base, from-segment, from-linear, segmen
 use Rattle.loader.specs.Load.{room-of, load}
 use Rattle.loader.specs.Helpers.{left, does-on}
 use Rattle.loader.specs.Claims.{record-on, sets, latest, in-force, states}
-use Rattle.loader.specs.Segments.{No-extension, Latest, At, in-segment, linearly, from-zero, Intel-rule, One-address, flat, flat-load, In-segment, In-segments, Record-unchanged, Text-unchanged, Load-unchanged, Examples}
+use Rattle.loader.specs.Segments.{No-extension, Latest, At, in-segment, linearly, from-zero, Intel-rule, One-address, flat, flat-load, In-segment, In-segments, Record-unchanged, Text-unchanged, Load-by-row, Load-unchanged, Examples}
 use Rattle.loader.proofs.Rows.{by-row}
 
 -- ---- each byte by its index
@@ -248,6 +248,9 @@ unchanged-record n base kind address payload row s h ends (there, back) =
 pub text-unchanged : Text-unchanged
 unfolding row along act
 text-unchanged text = by-rows Unchanged (λ base. ((λ e. tt), (λ k. refl))) (λ n base r. ((λ e. tt), (λ k. refl))) unchanged-record 1 (lines text) from-start low-start
+
+pub load-by-row : Load-by-row
+load-by-row f room text page marks = by-row f room text page marks
 
 pub load-unchanged : Load-unchanged
 unfolding flat-load load

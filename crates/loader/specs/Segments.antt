@@ -16,7 +16,7 @@ use Rattle.reader.specs.Lines.{lines}
 use Rattle.reader.specs.Row.{Numbered, on, row}
 use Rattle.reader.specs.Text.{default-options}
 use Rattle.steps.specs.Steps.{Tally, Verdict, accepted, refused, stated}
-use Rattle.steps.specs.Sites.{Loaded}
+use Rattle.steps.specs.Sites.{Loaded, Room}
 use Rattle.steps.specs.Sites as sites
 use Rattle.window.specs.Window.{within, one-window}
 use Rattle.loader.specs.Placing.{Base, from-segment, from-linear, segment, from-start, stated-by, base-behind, intel-by, along}
@@ -141,6 +141,12 @@ unfoldable pub flat-load : List ℕ → (first : ℕ) (page marks : List ℕ) �
 unfolding flat intel-by sites.load one-window
 flat-load text first page marks = sites.load (intel-by flat) (room-of first page marks) text page marks
 
+-- a load is that of what the reader says of the text with both stops on, by whatever function of the base bytes are placed
+abbrev pub Load-by-row : Type 0
+Load-by-row =
+    (f : Base → Base) (room : Room) (text page marks : List ℕ)
+    → sites.load (intel-by f) room text page marks ≡ sites.load-steps room (along f from-start (row default-options text)) page marks
+
 -- offsets up to this end lie in the base's segment, if it has one
 abbrev pub Fits : Base → (end : ℕ) → Type 0
 Fits (from-segment base) end = end ≤ 65536
@@ -169,7 +175,7 @@ Record-unchanged =
     (number offset : ℕ) (bytes : List ℕ) → number < 65536 → offset < 65536
     → (stated-by (flat (segment number)) (data-at offset bytes) ≡ stated-by (segment number) (data-at offset bytes)) ↔ (offset + length bytes ≤ 65536)
 
--- a text's steps are what they are without segments exactly if no data record passes its segment's end, through the line at which the
+-- the steps of what the reader says with both stops on are what they are without segments exactly if no data record passes its segment's end, through the line at which the
 -- reading stops: the first end record, or the first line that is refused
 abbrev pub Text-unchanged : Type 0
 Text-unchanged =

@@ -3,6 +3,7 @@ use reader::ReaderError;
 use reader::Reply;
 use reader::State;
 use record::Record;
+use record::payload_sizes;
 use window::Reach;
 ghost use mathlib.Core.Path.{_≡_};
 ghost use Prim.Native.Nat.{_+_, _^_, _≤_, _<_, min, _-_};
@@ -16,9 +17,6 @@ ghost use Rattle.loader.specs.Placing.{byte-address, placed};
 ghost use Rattle.loader.specs.Load.{placements, steps-of};
 ghost use Rattle.loader.specs.Told.{told-loading, Load};
 ghost use Rattle.loader.specs.Helpers.{based, Surveyed, stated-by, Short, Lies-in, Behind, Under-way, Few, Meets, Judged, is-accepted, Wrote};
-
-// The most bytes that a record can have.
-const MOST_BYTES: usize = 255;
 
 // How many bytes a segment has.
 const SEGMENT: usize = 65536;
@@ -223,7 +221,7 @@ fn begin() -> Walk
 fn judge_text(text: &[u8], first: u32, size: usize) -> Loading
     ensures { λ r. ⌜ told-loading r ≡ verdict (decision (within first size) nothing-yet (steps-of (now (text .entry)))) ⌝ }
 {
-    let mut pool = [0u8; MOST_BYTES];
+    let mut pool = [0u8; payload_sizes::MOST_DATA];
     let mut w = begin();
     let mut tally = Tally { records: 0 };
     loop {
@@ -296,7 +294,7 @@ fn write_next(
 fn write_text(text: &[u8], first: u32, page: &mut [u8], marks: &mut [u8])
     ensures { λ _. ⌜ Painted first (placements (now (text .entry))) (now (page .entry)) (now (marks .entry)) (now (page .exit)) (now (marks .exit)) ⌝ }
 {
-    let mut pool = [0u8; MOST_BYTES];
+    let mut pool = [0u8; payload_sizes::MOST_DATA];
     let mut w = begin();
     loop {
         match write_next(text, &mut pool, first, w, page, marks) {

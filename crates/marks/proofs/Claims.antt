@@ -59,7 +59,7 @@ one-first-bad marks p q f g = equal p q (λ l. f .bad (g .none-before p l)) (λ 
 -- ---- no second answer
 
 pub row-length-unique : Row-length-unique
-row-length-unique places r r′ x y = x ∙ sym y
+row-length-unique places r r′ x y = x .answer ∙ sym (y .answer)
 
 pub is-marked-unique : Is-marked-unique
 is-marked-unique marks place true true x y = refl
@@ -68,13 +68,13 @@ is-marked-unique marks place false true x y = x .answer .1 (y .answer .0 refl)
 is-marked-unique marks place false false x y = refl
 
 pub first-bad-unique : First-bad-unique
-first-bad-unique marks r r′ x y = x ∙ sym y
+first-bad-unique marks r r′ x y = x .answer ∙ sym (y .answer)
 
 pub clear-unique : Clear-unique
-clear-unique marks m m′ x y = x ∙ sym y
+clear-unique marks m m′ x y = x .left ∙ sym (y .left)
 
 pub mark-run-unique : Mark-run-unique
-mark-run-unique marks from len m m′ x y = x ∙ sym y
+mark-run-unique marks from len m m′ x y = x .left ∙ sym (y .left)
 
 -- a search has one answer, where nothing is both passed and found
 no-later : (Passed Found : ℕ → Type 0) (places from r r′ : ℕ) → ((p : ℕ) → Passed p → Found p → ⊥) → Next Passed Found places from r → Next Passed Found places from r′ → ¬ (r < r′)

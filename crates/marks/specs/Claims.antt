@@ -5,8 +5,8 @@ use mathlib.Core.Path.{_≡_}
 use mathlib.Core.Bool.{Bool}
 use mathlib.Core.Logic.{_⊎_}
 use mathlib.Core.List.{List}
-use lib.ListN.{length, getD, replicate}
-use Rattle.marks.specs.Marks.{row-length, IsMarked, mark-at, flags, first-bad, marked-run, NextMarked, NextUnmarked}
+use lib.ListN.{length, getD}
+use Rattle.marks.specs.Marks.{row-length, RowLength, IsMarked, FirstBad, Clear, MarkRun, mark-at, flags, first-bad, marked-run, NextMarked, NextUnmarked}
 
 -- ---- the marks of places, as a list
 
@@ -77,19 +77,19 @@ One-first-bad = (marks : List ℕ) (p q : ℕ) → First-bad marks p → First-b
 -- ---- no second answer meets a contract
 
 abbrev pub Row-length-unique : Type 0
-Row-length-unique = (places r r′ : ℕ) → r ≡ row-length places → r′ ≡ row-length places → r ≡ r′
+Row-length-unique = (places r r′ : ℕ) → RowLength places r → RowLength places r′ → r ≡ r′
 
 abbrev pub Is-marked-unique : Type 0
 Is-marked-unique = (marks : List ℕ) (place : ℕ) (r r′ : Bool) → IsMarked marks place r → IsMarked marks place r′ → r ≡ r′
 
 abbrev pub First-bad-unique : Type 0
-First-bad-unique = (marks : List ℕ) (r r′ : ℕ) → r ≡ first-bad marks → r′ ≡ first-bad marks → r ≡ r′
+First-bad-unique = (marks : List ℕ) (r r′ : ℕ) → FirstBad marks r → FirstBad marks r′ → r ≡ r′
 
 abbrev pub Clear-unique : Type 0
-Clear-unique = (marks m m′ : List ℕ) → m ≡ replicate (length marks) 0 → m′ ≡ replicate (length marks) 0 → m ≡ m′
+Clear-unique = (marks m m′ : List ℕ) → Clear marks m → Clear marks m′ → m ≡ m′
 
 abbrev pub Mark-run-unique : Type 0
-Mark-run-unique = (marks : List ℕ) (from len : ℕ) (m m′ : List ℕ) → m ≡ marked-run marks from len → m′ ≡ marked-run marks from len → m ≡ m′
+Mark-run-unique = (marks : List ℕ) (from len : ℕ) (m m′ : List ℕ) → MarkRun marks from len m → MarkRun marks from len m′ → m ≡ m′
 
 abbrev pub Next-marked-unique : Type 0
 Next-marked-unique = (marks : List ℕ) (places from r r′ : ℕ) → NextMarked marks places from r → NextMarked marks places from r′ → r ≡ r′

@@ -6,7 +6,7 @@ use mathlib.Core.Logic.{_≢_, _⊎_, _↔_}
 use mathlib.Core.Bool.{Bool, true, cond}
 use mathlib.Core.List.{List, [], _∷_}
 use lib.Dec.{leb}
-use lib.ListN.{getD, set}
+use lib.ListN.{getD, set, length, replicate}
 
 -- ---- what a row says
 
@@ -34,10 +34,6 @@ unfoldable pub flags : (places : ℕ) (marks : List ℕ) → List ℕ
 unfolding listed mark-at
 flags places marks = listed (mark-at marks) places
 
--- the contract of `is_marked`
-pub record IsMarked (marks : List ℕ) (place : ℕ) (r : Bool) : Type 0 where
-  pub answer : (r ≡ true) ↔ Marked marks place
-
 -- the first place whose mark is neither 0 nor 1, or the length of the row
 unfoldable pub first-bad : (marks : List ℕ) → ℕ
 first-bad [] = 0
@@ -50,7 +46,29 @@ unfoldable pub marked-run : (marks : List ℕ) (from len : ℕ) → List ℕ
 marked-run marks from zero = marks
 marked-run marks from (suc len) = marked-run (set marks from 1) (suc from) len
 
--- ---- the contracts of the searches
+-- ---- contracts
+
+-- of `row_length`
+pub record RowLength (places r : ℕ) : Type 0 where
+  pub answer : r ≡ row-length places
+
+-- of `is_marked`
+pub record IsMarked (marks : List ℕ) (place : ℕ) (r : Bool) : Type 0 where
+  pub answer : (r ≡ true) ↔ Marked marks place
+
+-- of `first_bad`
+pub record FirstBad (marks : List ℕ) (r : ℕ) : Type 0 where
+  pub answer : r ≡ first-bad marks
+
+-- of `clear`: as many zeros
+pub record Clear (marks marks′ : List ℕ) : Type 0 where
+  pub left : marks′ ≡ replicate (length marks) 0
+
+-- of `mark_run`
+pub record MarkRun (marks : List ℕ) (from len : ℕ) (marks′ : List ℕ) : Type 0 where
+  pub left : marks′ ≡ marked-run marks from len
+
+-- ---- contracts of the searches
 
 -- from a place on others are passed, up to the first that is found or to the number of places; from beyond that none is passed
 pub record Next (Passed Found : ℕ → Type 0) (places from r : ℕ) : Type 0 where

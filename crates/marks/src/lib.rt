@@ -1,15 +1,14 @@
 // A row of marks, a byte for each place: 1 where the place is marked, and 0 where it is not.
 ghost use mathlib.Core.Path.{_≡_};
 ghost use Prim.Native.Nat.{min, max};
-ghost use lib.ListN.{length, replicate};
-ghost use Rattle.marks.specs.Marks.{row-length, IsMarked, first-bad, marked-run, NextMarked, NextUnmarked};
+ghost use Rattle.marks.specs.Marks.{RowLength, IsMarked, FirstBad, Clear, MarkRun, NextMarked, NextUnmarked};
 
 // The mark of a place that is marked.
 const MARKED: u8 = 1;
 
 // How many bytes the row of so many places has.
 pub fn row_length(places: usize) -> usize
-    ensures { λ r. ⌜ r ≡ row-length places ⌝ }
+    ensures { λ r. ⌜ RowLength places r ⌝ }
 {
     places
 }
@@ -26,7 +25,7 @@ pub fn is_marked(marks: &[u8], place: usize) -> bool
 
 // The first place whose mark is neither 0 nor 1, or the length of the row.
 pub fn first_bad(marks: &[u8]) -> usize
-    ensures { λ r. ⌜ r ≡ first-bad (now (marks .entry)) ⌝ }
+    ensures { λ r. ⌜ FirstBad (now (marks .entry)) r ⌝ }
 {
     let mut i = 0;
     while i < marks.len() {
@@ -40,7 +39,7 @@ pub fn first_bad(marks: &[u8]) -> usize
 
 // Takes every mark away.
 pub fn clear(marks: &mut [u8])
-    ensures { λ _. ⌜ now (marks .exit) ≡ replicate (length (now (marks .entry))) 0 ⌝ }
+    ensures { λ _. ⌜ Clear (now (marks .entry)) (now (marks .exit)) ⌝ }
 {
     let mut i = 0;
     while i < marks.len() {
@@ -71,7 +70,7 @@ fn most(a: usize, b: usize) -> usize
 
 // Marks `len` places from a place on. Outside the row nothing changes.
 pub fn mark_run(marks: &mut [u8], from: usize, len: usize)
-    ensures { λ _. ⌜ now (marks .exit) ≡ marked-run (now (marks .entry)) from len ⌝ }
+    ensures { λ _. ⌜ MarkRun (now (marks .entry)) from len (now (marks .exit)) ⌝ }
 {
     if marks.len() <= from {
         return;

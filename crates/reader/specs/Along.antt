@@ -3,13 +3,13 @@
 use Prim.Native.Nat.{ℕ, suc, _+_, _^_, _<_}
 use mathlib.Core.Path.{_≡_}
 use mathlib.Core.Bool.{true, false}
-use mathlib.Core.List.{List, [], _∷_}
+use mathlib.Core.List.{List, []}
 use lib.ListN.{length, drop}
 use Rattle.digits.specs.Common.{if_then_else_}
 use Rattle.record.specs.Line.{Said}
 use Rattle.reader.specs.declared.State.{State}
 use Rattle.reader.specs.Lines.{lines}
-use Rattle.reader.specs.Row.{Numbered, on, sayings}
+use Rattle.reader.specs.Row.{Numbered, sayings}
 use Rattle.reader.specs.Told.{done}
 use Rattle.reader.specs.Answer.{answered, poured}
 use Rattle.reader.specs.Text.{is-full, ends-row, Outcome}

@@ -11,7 +11,7 @@ use Rattle.record.specs.Refusals.{Refusal, refusal, number-of, missing-start-co
 use Rattle.reader.specs.declared.ReaderError.{ReaderError}
 use Rattle.reader.specs.declared.ReaderError.the-variants.{MissingStartCode, RecordTooShort, RecordTooLong, RecordNotEvenLength, ContainsInvalidCharacters, ChecksumMismatch, PayloadLengthMismatch, UnsupportedRecordType, InvalidLengthForType, PoolFull}
 use Rattle.reader.specs.declared.Values.{Values}
-use Rattle.reader.specs.declared.Values.the-variants.{Nothing, Place, Byte, Bytes}
+use Rattle.reader.specs.declared.Values.the-variants.{Nothing, Position, Byte, Bytes}
 use Rattle.reader.specs.declared.Figures.{Figures}
 use Rattle.reader.specs.declared.Answer.{Answer}
 use Rattle.reader.specs.declared.Answer.the-variants.{Read, Refused}
@@ -52,7 +52,7 @@ told (Refused e) = refuses (refusal-of e)
 -- the values of a refusal in code: that of refusal 2 is a place, and each other value is a byte
 abbrev pub values-in : Refusal → Values
 values-in (refusal number []) = Nothing
-values-in (refusal number (v ∷ [])) = if eqb number 2 then Place v else Byte v
+values-in (refusal number (v ∷ [])) = if eqb number 2 then Position v else Byte v
 values-in (refusal number (v ∷ w ∷ more)) = Bytes v w
 
 -- the contract of `ReaderError::figures`

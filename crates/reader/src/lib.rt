@@ -42,7 +42,7 @@ pub enum ReaderError {
 // What a refusal has beside its number: nothing, a place of the line, a byte, or two bytes.
 pub enum Values {
     Nothing,
-    Place(u16),
+    Position(u16),
     Byte(u8),
     Bytes(u8, u8),
 }
@@ -404,7 +404,7 @@ impl ReaderError {
             ReaderError::MissingStartCode => bare(refusals::MISSING_START_CODE),
             ReaderError::ContainsInvalidCharacters(place) => Figures {
                 number: refusals::CONTAINS_INVALID_CHARACTERS,
-                values: Values::Place(place),
+                values: Values::Position(place),
             },
             ReaderError::RecordTooShort => bare(refusals::RECORD_TOO_SHORT),
             ReaderError::RecordTooLong => bare(refusals::RECORD_TOO_LONG),

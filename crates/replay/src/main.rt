@@ -45,6 +45,7 @@ use reader::Reply;
 use reader::State;
 use reader::Values;
 use record::Record;
+use record::chars;
 use record::refusals;
 use writer::WriterError;
 use writer::Written;
@@ -175,7 +176,7 @@ fn say_refused(number: u8) {
 fn say_values(values: Values) {
     match values {
         Values::Nothing => {}
-        Values::Place(place) => say_field(place as u64, 4),
+        Values::Position(place) => say_field(place as u64, 4),
         Values::Byte(byte) => say_field(wide(byte), 2),
         Values::Bytes(first, second) => {
             say_field(wide(first), 2);
@@ -714,7 +715,7 @@ fn run(text: &[u8]) {
 
 // Goes on with a byte of the input: a line that it ends is run. Answers the length of the line so far.
 fn take(b: u8, line: &mut [u8], n: usize) -> usize {
-    if b != b'\n' {
+    if b != chars::LF {
         return put(line, n, b);
     }
     run(front(line, n));

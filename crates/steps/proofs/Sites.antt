@@ -7,9 +7,8 @@ use mathlib.Core.Bool.{Bool, true, false}
 use mathlib.Core.Option.{Option, none, some, Option·getD}
 use mathlib.Core.List.{List, [], _∷_, _++_}
 use lib.ListN.{length, getD}
-use lib.Seq.{ext-getD}
 use Rattle.digits.specs.Common.{if_then_else_, Every}
-use Rattle.record.specs.Refusals.{Refusal, missing-end-of-file-record}
+use Rattle.record.specs.Refusals.{Refusal}
 use Rattle.reader.specs.Lines.{through}
 use Rattle.steps.specs.Steps.{Placement, Action, places, finishes, fails, Step, step, Tally, nothing-yet, Verdict, accepted, refused, Decision, by, outside, Turn, on, stop, turn, at-data, onward, decision, verdict, stated}
 use Rattle.steps.specs.Source.{Source, steps-of}

@@ -1,21 +1,38 @@
 -- What is claimed of a window.
 -- Assumes nothing.
 use mathlib.Core.Path.{_≡_, refl, sym, ap, _∙_}
-use Prim.Native.Nat.{ℕ, _+_}
+use Prim.Native.Nat.{ℕ, _+_, _-_}
 use native.Mathlib.Omega.{arith}
 use mathlib.Core.Bool.{Bool, true, false}
-use mathlib.Core.Option.{Option, none, some, Option·map}
+use mathlib.Core.Option.{none, some, Option·map}
 use mathlib.Core.List.{List}
+use lib.Dec.{ltb}
 use lib.ListN.{length, replicate, length-replicate}
+use borrow.Author.Tests.{ltb-true}
+use Rattle.digits.specs.Common.{if_then_else_}
 use Rattle.window.specs.declared.Reach.{Reach}
 use Rattle.window.specs.declared.Reach.the-variants.{Inside, Outside}
-use Rattle.window.specs.Window.{unfit}
+use Rattle.window.specs.Window.{within, window, unfit}
 use Rattle.window.specs.Contracts.{first-byte}
-use Rattle.window.specs.Claims.{Holds-its-addresses, Window, Unfit-is-no-window, Is-unfit-unique, First-outside-unique, Put-run-unique}
+use Rattle.window.specs.Claims.{Holds-its-addresses, Shown-iff-within, Window, Unfit-is-no-window, Is-unfit-unique, First-outside-unique, Put-run-unique}
+use Rattle.window.proofs.Storing.{shows}
 use Rattle.window.proofs.Tests.{within-true, true-within, good-window, no-window}
 
 pub holds-its-addresses : Holds-its-addresses
 holds-its-addresses first size address = (within-true first size address, λ (l, u). true-within first size address l u)
+
+pub shown-iff-within : Shown-iff-within
+unfolding window
+shown-iff-within first size address = (
+  λ e. let (l, u) = within-true first size address e in
+      let at : first + (address - first) ≡ address = omega arith in
+      (address - first, shows first size (address - first) (omega arith) ∙ ap some at),
+  λ (i, e). go i (ltb i size) refl e,
+)
+  where
+    go : (i : ℕ) (b : Bool) → ltb i size ≡ b → (if b then some (first + i) else none) ≡ some address → within first size address ≡ true
+    go i true h e = let a : first + i ≡ address = cc in true-within first size address (omega arith) (omega (arith, ltb-true i size h))
+    go i false h e = let z : _≡_ {A = ℕ} 0 1 = cc in absurd (omega arith)
 
 pub unfit-is-no-window : Unfit-is-no-window
 unfit-is-no-window first page marks r x =

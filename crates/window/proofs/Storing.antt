@@ -1,6 +1,6 @@
 -- A run upon a window, place by place.
 -- Assumes nothing.
-use mathlib.Core.Path.{_≡_, refl, sym, ap, _∙_}
+use mathlib.Core.Path.{_≡_, sym, ap, _∙_}
 use mathlib.Core.Logic.{_⊎_, inl, inr}
 use Prim.Native.Nat.{ℕ, _+_, _-_, _≤_, _<_}
 use native.Mathlib.Omega.{arith}
@@ -13,7 +13,7 @@ use Rattle.marks.proofs.Places.{split}
 use Rattle.marks.specs.Marks.{mark-at, marked-run}
 use Rattle.marks.specs.Claims.{Run-marked}
 use Rattle.marks.proofs.Runs.{run-made-so}
-use Rattle.steps.specs.Sites.{last-at, byte-shown, painted}
+use Rattle.steps.specs.Sites.{byte-shown, painted}
 use Rattle.steps.specs.Runs.{run}
 use Rattle.steps.proofs.Places.{length-painted, painted-at}
 use Rattle.steps.proofs.Runs.{last-before, last-within, last-beyond, marks-of-run}

@@ -4,15 +4,20 @@ use mathlib.Core.Path.{_≡_}
 use mathlib.Core.Logic.{_↔_, _⊎_}
 use Prim.Native.Nat.{ℕ, _+_, _^_, _≤_, _<_}
 use mathlib.Core.Bool.{Bool, true, false}
+use mathlib.Core.Option.{some}
 use mathlib.Core.List.{List}
 use lib.ListN.{length, getD}
 use Rattle.window.specs.declared.Reach.{Reach}
-use Rattle.window.specs.Window.{within}
+use Rattle.window.specs.Window.{within, window}
 use Rattle.window.specs.Contracts.{IsUnfit, FirstOutside, PutRun}
 
 -- an address is held exactly if it is one of the window's
 abbrev pub Holds-its-addresses : Type 0
 Holds-its-addresses = (first size address : ℕ) → (within first size address ≡ true) ↔ ((first ≤ address) × (address < first + size))
+
+-- and exactly if one of its places shows it: a load takes no address that it could not store
+abbrev pub Shown-iff-within : Type 0
+Shown-iff-within = (first size address : ℕ) → (within first size address ≡ true) ↔ ((i : ℕ) × (window first size i ≡ some address))
 
 -- a window that is not refused
 pub record Window (first : ℕ) (page marks : List ℕ) : Type 0 where
@@ -20,7 +25,7 @@ pub record Window (first : ℕ) (page marks : List ℕ) : Type 0 where
   pub small : length page ≤ 65536
   pub below : first + length page ≤ 2 ^ 32
 
--- `is_unfit` returns true exactly where a window is none
+-- `is_unfit` returns true exactly where 16 refuses the window
 abbrev pub Unfit-is-no-window : Type 0
 Unfit-is-no-window =
     (first : ℕ) (page marks : List ℕ) (r : Bool) → IsUnfit first (length page) (length marks) r → (r ≡ false) ↔ Window first page marks

@@ -1,4 +1,4 @@
--- `digits::put` meets its contract: two stores, one behind the other.
+-- `digits::put` meets its contract: two stores, one after the other.
 -- Assumes nothing.
 use native.Mathlib.Omega.{arith}
 use denote.Ref.{now}

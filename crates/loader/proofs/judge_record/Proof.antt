@@ -1,10 +1,7 @@
 -- `loader::judge_record` meets its contract, record by record; a data record goes by the survey of its bytes.
 -- Assumes nothing.
-use mathlib.Core.Path.{ap, sym, subst}
+use mathlib.Core.Path.{ap, subst}
 use native.Mathlib.Omega.{arith}
-use Rattle.record.specs.declared.Record.{Record}
-use Rattle.record.specs.declared.Record.the-variants.{Data}
-use Rattle.record.specs.Refusals.{outside-window}
 use Rattle.reader.specs.Row.{is-end}
 use Rattle.window.specs.declared.Reach.{Reach}
 use Rattle.window.specs.Contracts.{first-byte}

@@ -25,7 +25,7 @@ returns-2 c =
     let t = c .before .before .before .before .before .before .before .before .before .before .before .before .before .judge-text in
     let w = c .before .before .before .before .write-text in
     load-accepted (now (s .text)) (s .first) (now (s .page)) (now (s .marks)) (fit (c .before .before .before .before .before .before .before .before .before .before .before .before .before .before)) (t .result) (t .ensures) (sym (c .before .before .before .before .before .before .before .before .before .before .before .before .is-accepted .ensures) ∙ c .before .before .before .before .before .before .before .before .before .before .before .if2 .taken)
-    (c .before .before .before .before .before .before .before .before .before .clear .last .0) (w .last .1 .1 .0) (w .last .1 .1 .1 .0) (c .before .before .before .before .before .before .before .before .before .clear .ensures) (w .ensures)
+    (c .before .before .before .before .before .before .before .before .before .clear .last .0) (w .last .1 .1 .0) (w .last .1 .1 .1 .0) (c .before .before .before .before .before .before .before .before .before .clear .ensures .left) (w .ensures)
 
 returns-3 : tie.Need-returns-3
 returns-3 c =

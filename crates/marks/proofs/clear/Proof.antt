@@ -33,7 +33,7 @@ returns c =
     let m = now (c .before .before .args .marks) in
     let e : l .i ≡ length m = omega (arith, l .inv .1, l .inv .2, c .loop-test .left) in
     let n : length m ≤ length m = omega arith in
-    l .inv .0 ∙ rw (e, drop-of-length-le m n, append-nil)
+    record { left = l .inv .0 ∙ rw (e, drop-of-length-le m n, append-nil) }
 
 pub clear-spec : {M : Type 1} → statement M
 clear-spec =

@@ -22,7 +22,7 @@ loop-holds c = (omega arith, λ j l h. absurd (omega arith))
 returns : tie.Need-returns Inv-loop μ-loop
 returns c =
     let l = c .before .before .before .loop in
-    first-bad-is (now (c .before .before .before .before .args .marks)) (l .i) (l .inv .0) (λ j k. l .inv .1 j (omega arith) k) (inr (omega (arith, c .if1 .taken)))
+    record { answer = first-bad-is (now (c .before .before .before .before .args .marks)) (l .i) (l .inv .0) (λ j k. l .inv .1 j (omega arith) k) (inr (omega (arith, c .if1 .taken))) }
 
 loop-again : tie.Need-loop-again Inv-loop μ-loop
 loop-again c =
@@ -33,7 +33,7 @@ loop-again c =
 returns-2 : tie.Need-returns-2 Inv-loop μ-loop
 returns-2 c =
     let l = c .before .loop in
-    first-bad-is (now (c .before .before .args .marks)) (l .i) (l .inv .0) (λ j k. l .inv .1 j (omega arith) k) (inl (omega (arith, c .loop-test .left, l .inv .0)))
+    record { answer = first-bad-is (now (c .before .before .args .marks)) (l .i) (l .inv .0) (λ j k. l .inv .1 j (omega arith) k) (inl (omega (arith, c .loop-test .left, l .inv .0))) }
 
 pub first-bad-spec : {M : Type 1} → statement M
 first-bad-spec = tie.close (tie.spec Inv-loop μ-loop loop-holds (λ c. search needs) returns (λ c. search needs) (λ c. search needs) loop-again returns-2)

@@ -1,11 +1,8 @@
 -- `marks::is_marked` meets its contract: outside the row no place is marked, and in it the mark says so.
 -- Assumes nothing.
-use mathlib.Core.Path.{refl}
-use native.Mathlib.Omega.{arith}
 use borrow.Author.Needs.{needs}
 use borrow.Author.Tests.{eqb-true, eq-eqb}
 use denote.Ref.{now}
-use lib.ListN.{getD}
 use Rattle.marks.specs.Marks.{mark-at}
 use Rattle.marks.proofs.Places.{outside}
 use Rattle.marks.proofs.is_marked.Statement.{statement}

@@ -19,7 +19,7 @@ abbrev μ-loop : tie.MeasureT-loop
 μ-loop marks₀ from len end i₀ marks i = end - i
 
 returns : tie.Need-returns Inv-loop μ-loop
-returns c = let s = c .before .before .args in sym (run-outside (now (s .marks)) (s .from) (s .len) (c .if1 .taken))
+returns c = let s = c .before .before .args in record { left = sym (run-outside (now (s .marks)) (s .from) (s .len) (c .if1 .taken)) }
 
 loop-holds : tie.Need-loop-holds Inv-loop μ-loop
 loop-holds c =
@@ -39,7 +39,7 @@ loop-again c =
 returns-2 : tie.Need-returns-2 Inv-loop μ-loop
 returns-2 c =
     let l = c .before .loop in
-    sym (run-none (l .marks) (l .i) _ (c .loop-test .left)) ∙ l .inv .2
+    record { left = sym (run-none (l .marks) (l .i) _ (c .loop-test .left)) ∙ l .inv .2 }
 
 pub mark-run-spec : {M : Type 1} → statement M
 mark-run-spec =

@@ -7,7 +7,7 @@ use Rattle.marks.proofs.row_length.Tie as tie
 
 returns : tie.Need-returns
 unfolding row-length
-returns c = refl
+returns c = record { answer = refl }
 
 pub row-length-spec : {M : Type 1} → statement M
 row-length-spec = tie.close (tie.spec returns)

@@ -28,8 +28,8 @@ returns-2 : tie.Need-returns-2
 returns-2 c =
     let a = c .before .before .before .before .before .before .args in
     let g = c .before .first-bad in
-    text-bad (a .first) (now (a .page)) (now (a .marks)) (fit (c .before .before)) (omega (arith, c .if2 .taken, g .ensures))
-    ∙ ap (λ (n : ℕ). refused (bad-mark n)) (sym (g .ensures))
+    text-bad (a .first) (now (a .page)) (now (a .marks)) (fit (c .before .before)) (omega (arith, c .if2 .taken, g .ensures .answer))
+    ∙ ap (λ (n : ℕ). refused (bad-mark n)) (sym (g .ensures .answer))
 
 survey-requires : tie.Need-survey-requires
 survey-requires c κs =
@@ -43,7 +43,7 @@ returns-3 c =
     let f = fit (c .before .before .before) in
     record {
       window = good-window (a .first) (now (a .page)) (now (a .marks)) f;
-      text-is = text-good (a .first) (now (a .page)) (now (a .marks)) f (omega (arith, c .before .if2 .left, c .before .before .first-bad .ensures));
+      text-is = text-good (a .first) (now (a .page)) (now (a .marks)) f (omega (arith, c .before .if2 .left, c .before .before .first-bad .ensures .answer));
       surveys = c .survey .ensures;
     }
 

@@ -9,19 +9,19 @@ use Rattle.window.proofs.is_unfit.Tie as tie
 
 returns : tie.Need-returns
 unfolding unfit
-returns c = let a = c .before .before .args in record { answer = rw (ne-eqb (a .page) (a .marks) (rw (c .before .row-length .ensures) at (c .if1 .taken))) }
+returns c = let a = c .before .before .args in record { answer = rw (ne-eqb (a .page) (a .marks) (rw (c .before .row-length .ensures .answer) at (c .if1 .taken))) }
 
 returns-2 : tie.Need-returns-2
 unfolding unfit
 returns-2 c =
     let a = c .before .before .before .args in
-    record { answer = rw (eq-eqb (a .page) (a .marks) (omega (arith, c .before .before .row-length .ensures)), lt-ltb 65536 (a .page) (c .if2 .taken)) }
+    record { answer = rw (eq-eqb (a .page) (a .marks) (omega (arith, c .before .before .row-length .ensures .answer)), lt-ltb 65536 (a .page) (c .if2 .taken)) }
 
 returns-3 : tie.Need-returns-3
 unfolding unfit
 returns-3 c =
     let a = c .before .before .before .args in
-    record { answer = rw (eq-eqb (a .page) (a .marks) (omega (arith, c .before .before .row-length .ensures)), le-ltb 65536 (a .page) (c .if2 .left)) }
+    record { answer = rw (eq-eqb (a .page) (a .marks) (omega (arith, c .before .before .row-length .ensures .answer)), le-ltb 65536 (a .page) (c .if2 .left)) }
 
 pub is-unfit-spec : {M : Type 1} → statement M
 is-unfit-spec = tie.close (tie.spec (λ c κs. search needs) returns returns-2 (λ c. search needs) returns-3)

@@ -14,7 +14,7 @@ returns c =
     let k = c .before .before .before .before .before .before .copy-to in
     let m = c .before .before .mark-run in
     put-part (s .args .first) (s .args .address) (now (s .args .bytes)) (now (s .args .page)) (now (s .args .marks)) (p .result) _ _ (p .ensures)
-    (rw (part-is (now (s .args .bytes)) (p .result .skip) (p .result .len)) at (k .ensures)) (m .ensures)
+    (rw (part-is (now (s .args .bytes)) (p .result .skip) (p .result .len)) at (k .ensures)) (m .ensures .left)
 
 pub put-run-spec : {M : Type 1} → statement M
 put-run-spec =
