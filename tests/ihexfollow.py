@@ -391,7 +391,7 @@ refuses('./follow', b'records\n')
 helps('./follow', [b'usage: SENDER | ./follow, or ./follow < DEVICE', b'A read of nothing is the end of the input.', b'`stty min 0 time N`', b'`stty min 1 time 0 -icanon`',
                    b'0 every line is a record, and there is an end record', b'1 a line was refused, or there is no end record',
                    b'2 the input cannot be read, the output cannot be written, or the usage is wrong'])
-proves('ihexfollow', ['checksum', 'record', 'reader', 'chunks', 'listing', 'ihexfollow'])
+proves('ihexfollow', ['checksum', 'digits', 'record', 'reader', 'chunks', 'listing', 'ihexfollow'])
 
 
 def reading(child, notes):

@@ -242,6 +242,6 @@ started('two files', ['./list', 'samples/tank.hex', 'samples/tank.hex'], 2, b'',
 refuses('./list', b'')
 helps('./list', [b'usage: ./list [FILE]', b'more than 65,536 bytes is not listed', b'0 every line is a record, and there is an end record',
                  b'1 a line was refused, or there is no end record', b'2 the input cannot be read or is too long, the output cannot be written, or the usage is wrong'])
-proves('ihexlist', ['checksum', 'record', 'reader', 'listing', 'ihexlist'])
+proves('ihexlist', ['checksum', 'digits', 'record', 'reader', 'listing', 'ihexlist'])
 
 end()
