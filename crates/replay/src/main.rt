@@ -47,6 +47,7 @@ use reader::Values;
 use record::Record;
 use record::chars;
 use record::refusals;
+use record::types;
 use writer::WriterError;
 use writer::Written;
 ghost use mathlib.Core.Path.{_≡_};
@@ -54,6 +55,11 @@ ghost use lib.ListN.{length};
 
 // How many answers of a text are printed at most.
 const MOST_ANSWERS: usize = 40;
+
+// How many numbers of 16 bits there are, and how many of 32.
+const WORDS: u64 = 65536;
+
+const ADDRESSES: u64 = 4294967296;
 
 // Puts a byte at n, if there is room, and answers where the next one goes.
 fn put(out: &mut [u8], n: usize, b: u8) -> usize {
@@ -135,8 +141,21 @@ fn number_of(r: Record) -> u64 {
     }
 }
 
-// `X`, the type, and the payload.
-fn say_special(kind: u8, x: u64) {
+// `D` with offset, position and length, `E`, or `X` with the type and the payload.
+fn say_record(r: Record) {
+    let kind = r.record_type();
+    let x = number_of(r);
+    if kind == types::END_OF_FILE {
+        say(b"E");
+        return;
+    }
+    if let Record::Data { offset: _, at, len } = r {
+        say(b"D");
+        say_field(x, 4);
+        say_field(at as u64, 1);
+        say_field(len as u64, 1);
+        return;
+    }
     say(b"X");
     say_number(wide(kind), 1);
     if kind % 2 == 0 {
@@ -146,34 +165,17 @@ fn say_special(kind: u8, x: u64) {
     say_field(x, 8);
 }
 
-fn say_data(offset: u64, at: usize, len: usize) {
-    say(b"D");
-    say_field(offset, 4);
-    say_field(at as u64, 1);
-    say_field(len as u64, 1);
-}
-
-fn say_record(r: Record) {
-    let kind = r.record_type();
-    let x = number_of(r);
-    if kind == 1 {
-        say(b"E");
-        return;
-    }
-    if let Record::Data { offset: _, at, len } = r {
-        say_data(x, at, len);
-        return;
-    }
-    say_special(kind, x);
-}
-
 // `!`, and the number of a refusal in decimal.
 fn say_refused(number: u8) {
     say(b"! ");
     io::print_decimal(1, wide(number));
 }
 
-fn say_values(values: Values) {
+// A refusal of a line: its number, and its values.
+fn say_refusal(e: ReaderError) {
+    let figures = e.figures();
+    let values = figures.values;
+    say_refused(figures.number);
     match values {
         Values::Nothing => {}
         Values::Position(place) => say_field(place as u64, 4),
@@ -182,21 +184,6 @@ fn say_values(values: Values) {
             say_field(wide(first), 2);
             say_field(wide(second), 2);
         }
-    }
-}
-
-// A refusal of a line: its number, and its values.
-fn say_refusal(e: ReaderError) {
-    let figures = e.figures();
-    let values = figures.values;
-    say_refused(figures.number);
-    say_values(values);
-}
-
-fn say_answer(a: Answer) {
-    match a {
-        Answer::Read(r) => say_record(r),
-        Answer::Refused(e) => say_refusal(e),
     }
 }
 
@@ -275,20 +262,12 @@ fn preset(bytes: &mut [u8], b: u8) {
 
 fn read_line(line: &[u8], pool: &mut [u8], at: usize) {
     preset(pool, 0xEE);
-    let a = reader::read_record(line, pool, at);
-    say_answer(a);
+    match reader::read_record(line, pool, at) {
+        Answer::Read(r) => say_record(r),
+        Answer::Refused(e) => say_refusal(e),
+    }
     say(b" | ");
     say_bytes(pool);
-}
-
-fn read_into(line: &[u8], length: usize, at: usize) {
-    let mut space = io::buffer();
-    let pool: &mut [u8] = &mut space;
-    if length > pool.len() {
-        say(b"?");
-        return;
-    }
-    read_line(line, &mut pool[0..length], at);
 }
 
 fn line_case(text: &[u8]) {
@@ -296,15 +275,14 @@ fn line_case(text: &[u8]) {
     let place = read_number(text, size.next);
     let mut bytes = io::buffer();
     let k = unspell(text, place.next, &mut bytes);
-    read_into(front(&bytes, k), size.value as usize, place.value as usize);
-}
-
-// The stops that the flags name.
-fn options_of(flags: u64) -> ReaderOptions {
-    ReaderOptions {
-        stop_after_first_error: flags % 2 == 1,
-        stop_after_eof: flags / 2 % 2 == 1,
+    let length = size.value as usize;
+    let mut space = io::buffer();
+    let pool: &mut [u8] = &mut space;
+    if length > pool.len() {
+        say(b"?");
+        return;
     }
+    read_line(front(&bytes, k), &mut pool[0..length], place.value as usize);
 }
 
 // Prints a reply, and answers whether the row goes on behind it.
@@ -363,32 +341,22 @@ fn read_row(text: &[u8], pool: &mut [u8], options: ReaderOptions) -> State {
     state
 }
 
-// The first answer of a text.
-fn read_first(text: &[u8], pool: &mut [u8]) {
-    preset(pool, 0xEE);
-    let reply = lent::first_record(text, pool, 0);
-    say_reply(reply);
-    say(b" | ");
-    say_bytes(pool);
-}
-
+// The answers of a text with the stops that the flags name, or the first one alone.
 fn read_text(text: &[u8], pool: &mut [u8], flags: u64) {
     if flags / 4 % 2 == 1 {
-        read_first(text, pool);
+        preset(pool, 0xEE);
+        let reply = lent::first_record(text, pool, 0);
+        say_reply(reply);
+        say(b" | ");
+        say_bytes(pool);
         return;
     }
-    let state = read_row(text, pool, options_of(flags));
+    let options = ReaderOptions {
+        stop_after_first_error: flags % 2 == 1,
+        stop_after_eof: flags / 2 % 2 == 1,
+    };
+    let state = read_row(text, pool, options);
     read_more(text, state);
-}
-
-fn read_text_into(text: &[u8], flags: u64, length: usize) {
-    let mut space = io::buffer();
-    let pool: &mut [u8] = &mut space;
-    if length > pool.len() {
-        say(b"?");
-        return;
-    }
-    read_text(text, &mut pool[0..length], flags);
 }
 
 fn text_case(text: &[u8]) {
@@ -396,40 +364,39 @@ fn text_case(text: &[u8]) {
     let size = read_number(text, flags.next);
     let mut bytes = io::buffer();
     let k = unspell(text, size.next, &mut bytes);
-    read_text_into(front(&bytes, k), flags.value, size.value as usize);
-}
-
-fn low16(x: u64) -> u16 {
-    (x % 65536) as u16
-}
-
-fn low32(x: u64) -> u32 {
-    (x % 4294967296) as u32
+    let length = size.value as usize;
+    let mut space = io::buffer();
+    let pool: &mut [u8] = &mut space;
+    if length > pool.len() {
+        say(b"?");
+        return;
+    }
+    read_text(front(&bytes, k), &mut pool[0..length], flags.value);
 }
 
 // The record of a type, its numbers, and the place of its payload.
 fn record_of(kind: u64, x: u64, second: u64, at: usize, len: usize) -> Record {
     if kind == 0 {
         return Record::Data {
-            offset: low16(x),
+            offset: (x % WORDS) as u16,
             at,
             len,
         };
     }
     if kind == 2 {
-        return Record::ExtendedSegmentAddress(low16(x));
+        return Record::ExtendedSegmentAddress((x % WORDS) as u16);
     }
     if kind == 3 {
         return Record::StartSegmentAddress {
-            cs: low16(x),
-            ip: low16(second),
+            cs: (x % WORDS) as u16,
+            ip: (second % WORDS) as u16,
         };
     }
     if kind == 4 {
-        return Record::ExtendedLinearAddress(low16(x));
+        return Record::ExtendedLinearAddress((x % WORDS) as u16);
     }
     if kind == 5 {
-        return Record::StartLinearAddress(low32(x));
+        return Record::StartLinearAddress((x % ADDRESSES) as u32);
     }
     Record::EndOfFile
 }
@@ -459,29 +426,27 @@ fn record_at(text: &[u8], from: usize) -> Given {
     }
 }
 
-fn say_writer_error(e: WriterError) {
-    match e {
-        WriterError::PayloadOutsidePool => say_refused(refusals::PAYLOAD_OUTSIDE_POOL),
-        WriterError::DataExceedsMaximumLength(n) => {
-            say_refused(refusals::DATA_EXCEEDS_MAXIMUM_LENGTH);
-            say_field(n as u64, 1);
-        }
-        WriterError::MissingEndOfFileRecord => say_refused(refusals::MISSING_END_OF_FILE_RECORD),
-        WriterError::MultipleEndOfFileRecords(n) => {
-            say_refused(refusals::MULTIPLE_END_OF_FILE_RECORDS);
-            say_field(n as u64, 1);
-        }
-        WriterError::OutputFull => say_refused(refusals::OUTPUT_FULL),
-    }
-}
-
 fn say_written(w: Written) {
     match w {
         Written::Wrote(n) => {
             say(b"W");
             say_field(n as u64, 1);
         }
-        Written::Refused(e) => say_writer_error(e),
+        Written::Refused(e) => match e {
+            WriterError::PayloadOutsidePool => say_refused(refusals::PAYLOAD_OUTSIDE_POOL),
+            WriterError::DataExceedsMaximumLength(n) => {
+                say_refused(refusals::DATA_EXCEEDS_MAXIMUM_LENGTH);
+                say_field(n as u64, 1);
+            }
+            WriterError::MissingEndOfFileRecord => {
+                say_refused(refusals::MISSING_END_OF_FILE_RECORD)
+            }
+            WriterError::MultipleEndOfFileRecords(n) => {
+                say_refused(refusals::MULTIPLE_END_OF_FILE_RECORDS);
+                say_field(n as u64, 1);
+            }
+            WriterError::OutputFull => say_refused(refusals::OUTPUT_FULL),
+        },
     }
 }
 
@@ -493,23 +458,20 @@ fn write_line(r: Record, pool: &[u8], out: &mut [u8]) {
     say_bytes(out);
 }
 
-fn write_into(r: Record, pool: &[u8], length: usize) {
-    let mut space = io::buffer();
-    let out: &mut [u8] = &mut space;
-    if length > out.len() {
-        say(b"?");
-        return;
-    }
-    write_line(r, pool, &mut out[0..length]);
-}
-
 fn record_case(text: &[u8]) {
     let g = record_at(text, 2);
     let r = g.record;
     let size = read_number(text, g.next);
     let mut bytes = io::buffer();
     let k = unspell(text, size.next, &mut bytes);
-    write_into(r, front(&bytes, k), size.value as usize);
+    let length = size.value as usize;
+    let mut space = io::buffer();
+    let out: &mut [u8] = &mut space;
+    if length > out.len() {
+        say(b"?");
+        return;
+    }
+    write_line(r, front(&bytes, k), &mut out[0..length]);
 }
 
 // The object of the records from a place on, as a lent list. A case has at most 64 of them.
@@ -538,35 +500,20 @@ fn write_object(text: &[u8], from: usize, pool: &[u8], out: &mut [u8]) {
     say_bytes(out);
 }
 
-fn write_object_into(text: &[u8], from: usize, pool: &[u8], length: usize) {
-    let mut space = io::buffer();
-    let out: &mut [u8] = &mut space;
-    if length > out.len() {
-        say(b"?");
-        return;
-    }
-    write_object(text, from, pool, &mut out[0..length]);
-}
-
 // The pool's digits end at a space, which is the first of no pair and so spells no byte.
 fn object_case(text: &[u8]) {
     let size = read_number(text, 2);
     let behind = read_number(text, size.next);
     let mut bytes = io::buffer();
     let k = unspell(front(text, behind.next), size.next, &mut bytes);
-    write_object_into(text, behind.next, front(&bytes, k), size.value as usize);
-}
-
-fn say_loader_error(e: LoaderError) {
-    match e {
-        LoaderError::Line(why) => say_refusal(why),
-        LoaderError::MissingEndOfFileRecord => say_refused(refusals::MISSING_END_OF_FILE_RECORD),
-        LoaderError::BadWindow => say_refused(refusals::BAD_WINDOW),
-        LoaderError::OutsideWindow(a) => {
-            say_refused(refusals::OUTSIDE_WINDOW);
-            say_field(a as u64, 8);
-        }
+    let length = size.value as usize;
+    let mut space = io::buffer();
+    let out: &mut [u8] = &mut space;
+    if length > out.len() {
+        say(b"?");
+        return;
     }
+    write_object(text, behind.next, front(&bytes, k), &mut out[0..length]);
 }
 
 fn say_loading(l: Loading) {
@@ -576,7 +523,17 @@ fn say_loading(l: Loading) {
             say_field(tally.records as u64, 1);
         }
         Loading::Refused(e, line) => {
-            say_loader_error(e);
+            match e {
+                LoaderError::Line(why) => say_refusal(why),
+                LoaderError::MissingEndOfFileRecord => {
+                    say_refused(refusals::MISSING_END_OF_FILE_RECORD)
+                }
+                LoaderError::BadWindow => say_refused(refusals::BAD_WINDOW),
+                LoaderError::OutsideWindow(a) => {
+                    say_refused(refusals::OUTSIDE_WINDOW);
+                    say_field(a as u64, 8);
+                }
+            }
             say_line(line);
         }
     }
@@ -631,59 +588,32 @@ fn much_space() -> [u8; 65537]
     [0; 65537]
 }
 
-fn load_beside(text: &[u8], first: u32, page: &mut [u8], length: usize) {
-    let mut space = much_space();
-    let marks: &mut [u8] = &mut space;
-    if length > marks.len() {
-        say(b"?");
-        return;
-    }
-    load(text, first, page, &mut marks[0..length]);
-}
-
-fn load_into(text: &[u8], first: u32, length: usize, marks: usize) {
-    let mut space = much_space();
-    let page: &mut [u8] = &mut space;
-    if length > page.len() {
-        say(b"?");
-        return;
-    }
-    load_beside(text, first, &mut page[0..length], marks);
-}
-
 fn load_case(text: &[u8]) {
     let first = read_number(text, 2);
     let page = read_number(text, first.next);
     let marks = read_number(text, page.next);
     let mut bytes = io::buffer();
     let k = unspell(text, marks.next, &mut bytes);
-    load_into(
+    let mut page_space = much_space();
+    let mut marks_space = much_space();
+    let pages: &mut [u8] = &mut page_space;
+    let rows: &mut [u8] = &mut marks_space;
+    let places = page.value as usize;
+    let row = marks.value as usize;
+    if places > pages.len() {
+        say(b"?");
+        return;
+    }
+    if row > rows.len() {
+        say(b"?");
+        return;
+    }
+    load(
         front(&bytes, k),
-        low32(first.value),
-        page.value as usize,
-        marks.value as usize,
+        (first.value % ADDRESSES) as u32,
+        &mut pages[0..places],
+        &mut rows[0..row],
     );
-}
-
-// The answer to a case of texts or records.
-fn answer_whole(kind: u8, text: &[u8]) {
-    if kind == b'T' {
-        text_case(text);
-        return;
-    }
-    if kind == b'W' {
-        record_case(text);
-        return;
-    }
-    if kind == b'O' {
-        object_case(text);
-        return;
-    }
-    if kind == b'M' {
-        load_case(text);
-        return;
-    }
-    say(b"?");
 }
 
 // The answer to a case.
@@ -692,25 +622,18 @@ fn answer(text: &[u8]) {
         say(b"?");
         return;
     }
-    let kind = text[0];
-    if kind == b'C' {
-        checksum_case(text);
-        return;
+    match text[0] {
+        b'#' => {
+            io::write_all(1, text);
+        }
+        b'C' => checksum_case(text),
+        b'L' => line_case(text),
+        b'T' => text_case(text),
+        b'W' => record_case(text),
+        b'O' => object_case(text),
+        b'M' => load_case(text),
+        _ => say(b"?"),
     }
-    if kind == b'L' {
-        line_case(text);
-        return;
-    }
-    if kind == b'#' {
-        io::write_all(1, text);
-        return;
-    }
-    answer_whole(kind, text);
-}
-
-fn run(text: &[u8]) {
-    answer(text);
-    say(b"\n");
 }
 
 // Goes on with a byte of the input: a line that it ends is run. Answers the length of the line so far.
@@ -718,7 +641,8 @@ fn take(b: u8, line: &mut [u8], n: usize) -> usize {
     if b != chars::LF {
         return put(line, n, b);
     }
-    run(front(line, n));
+    answer(front(line, n));
+    say(b"\n");
     0
 }
 
