@@ -56,19 +56,17 @@ ghost use lib.ListN.{length};
 // How many answers of a text are printed at most.
 const MOST_ANSWERS: usize = 40;
 
-// How many numbers of 16 bits there are, and how many of 32.
+// How many bytes of a buffer are printed one by one at most: of a page and of marks, and of any other.
+const MOST_OF_PAGE: usize = 64;
+
+const MOST_OF_POOL: usize = 4096;
+
+// How many numbers of 16 bits there are, of 32, and of 60.
 const WORDS: u64 = 65536;
 
 const ADDRESSES: u64 = 4294967296;
 
-// Puts a byte at n, if there is room, and answers where the next one goes.
-fn put(out: &mut [u8], n: usize, b: u8) -> usize {
-    if n < out.len() {
-        out[n] = b;
-        return n + 1;
-    }
-    n
-}
+const FIFTEEN_DIGITS: u64 = 1152921504606846976;
 
 // The first n bytes, or all where there are fewer.
 fn front(s: &[u8], n: usize) -> &[u8] {
@@ -78,130 +76,109 @@ fn front(s: &[u8], n: usize) -> &[u8] {
     s
 }
 
-fn capital(b: u8) -> u8 {
-    if b < b'a' {
-        return b;
-    }
-    if b > b'f' {
-        return b;
-    }
-    b - 32
-}
-
-// Prints a text, with its digits in capitals.
-fn say(text: &[u8]) {
+// Prints digits, in capitals.
+fn say_digits(text: &[u8]) {
     let mut i = 0;
     while i < text.len() {
-        let c = [capital(text[i])];
+        let c = [digits::capital_digit(digits::digit_value(text[i]))];
         io::write_all(1, &c);
         i += 1;
     }
 }
 
-// Prints a number with at least so many digits.
-fn say_number(x: u64, width: usize) {
+// Prints a text, and then a number with at least so many digits.
+fn say_number(before: &[u8], x: u64, width: usize) {
     let mut text = [0u8; 16];
     let k = io::hex(x, width, &mut text);
-    say(&text[..k]);
+    io::write_all(1, before);
+    say_digits(&text[..k]);
 }
 
-fn wide(b: u8) -> u64
-    ensures { λ r. ⌜ r ≡ b ⌝ }
-{
-    b as u64
+// Prints a run of equal bytes that ends ahead of a place: the byte, and the place. Nothing where the run goes on there.
+fn say_run(bytes: &[u8], b: u8, next: usize) {
+    if next < bytes.len() {
+        if bytes[next] == b {
+            return;
+        }
+    }
+    say_number(b" ", b as u64, 2);
+    say_number(b"<", next as u64, 1);
 }
 
-fn say_bytes(bytes: &[u8]) {
+fn say_runs(bytes: &[u8]) {
     let mut i = 0;
     while i < bytes.len() {
-        say_number(wide(bytes[i]), 2);
+        let b = bytes[i];
         i += 1;
+        say_run(bytes, b, i);
     }
 }
 
-// Prints a space and a number.
-fn say_field(x: u64, width: usize) {
-    say(b" ");
-    say_number(x, width);
-}
-
-// The number of a record: the offset of data, the payload of types 02 to 05.
-fn number_of(r: Record) -> u64 {
-    match r {
-        Record::Data {
-            offset,
-            at: _,
-            len: _,
-        } => offset as u64,
-        Record::EndOfFile => 0,
-        Record::ExtendedSegmentAddress(a) => a as u64,
-        Record::StartSegmentAddress { cs, ip } => (cs as u64) * 65536 + (ip as u64),
-        Record::ExtendedLinearAddress(a) => a as u64,
-        Record::StartLinearAddress(a) => a as u64,
+// Prints a buffer: its bytes, or its runs where it has more than so many bytes.
+fn say_buffer(bytes: &[u8], most: usize) {
+    io::write_all(1, b" |");
+    if bytes.len() > most {
+        say_runs(bytes);
+        return;
     }
+    let mut text = io::large_buffer();
+    digits::spell(bytes, 0, &mut text);
+    io::write_all(1, b" ");
+    io::write_all(
+        1,
+        front(&text, std::num::wrapping_add_usize(bytes.len(), bytes.len())),
+    );
 }
 
 // `D` with offset, position and length, `E`, or `X` with the type and the payload.
 fn say_record(r: Record) {
     let kind = r.record_type();
-    let x = number_of(r);
     if kind == types::END_OF_FILE {
-        say(b"E");
+        io::write_all(1, b"E");
         return;
     }
-    if let Record::Data { offset: _, at, len } = r {
-        say(b"D");
-        say_field(x, 4);
-        say_field(at as u64, 1);
-        say_field(len as u64, 1);
-        return;
+    if kind != types::DATA {
+        say_number(b"X", kind as u64, 1);
     }
-    say(b"X");
-    say_number(wide(kind), 1);
-    if kind % 2 == 0 {
-        say_field(x, 4);
-        return;
+    match r {
+        Record::Data { offset, at, len } => {
+            say_number(b"D ", offset as u64, 4);
+            say_number(b" ", at as u64, 1);
+            say_number(b" ", len as u64, 1);
+        }
+        Record::EndOfFile => {}
+        Record::ExtendedSegmentAddress(a) => say_number(b" ", a as u64, 4),
+        Record::StartSegmentAddress { cs, ip } => {
+            say_number(b" ", (cs as u64) * 65536 + (ip as u64), 8)
+        }
+        Record::ExtendedLinearAddress(a) => say_number(b" ", a as u64, 4),
+        Record::StartLinearAddress(a) => say_number(b" ", a as u64, 8),
     }
-    say_field(x, 8);
 }
 
-// `!`, and the number of a refusal in decimal.
-fn say_refused(number: u8) {
-    say(b"! ");
-    io::print_decimal(1, wide(number));
+// `!`, the number of a refusal in decimal, and its value with at least so many digits; no value where that is 0.
+fn say_refused(number: u8, x: u64, width: usize) {
+    io::write_all(1, b"! ");
+    io::print_decimal(1, number as u64);
+    if width > 0 {
+        say_number(b" ", x, width);
+    }
 }
 
 // A refusal of a line: its number, and its values.
 fn say_refusal(e: ReaderError) {
     let figures = e.figures();
+    let number = figures.number;
     let values = figures.values;
-    say_refused(figures.number);
     match values {
-        Values::Nothing => {}
-        Values::Position(place) => say_field(place as u64, 4),
-        Values::Byte(byte) => say_field(wide(byte), 2),
+        Values::Nothing => say_refused(number, 0, 0),
+        Values::Position(place) => say_refused(number, place as u64, 4),
+        Values::Byte(byte) => say_refused(number, byte as u64, 2),
         Values::Bytes(first, second) => {
-            say_field(wide(first), 2);
-            say_field(wide(second), 2);
+            say_refused(number, first as u64, 2);
+            say_number(b" ", second as u64, 2);
         }
     }
-}
-
-// The value of a digit in capitals, or 16.
-fn digit(c: u8) -> u8 {
-    if c < b'0' {
-        return 16;
-    }
-    if c <= b'9' {
-        return c - b'0';
-    }
-    if c < b'A' {
-        return 16;
-    }
-    if c <= b'F' {
-        return c - b'A' + 10;
-    }
-    16
 }
 
 // A number, and where the text goes on behind it and the character that ended it.
@@ -210,46 +187,36 @@ struct Spelt {
     next: usize,
 }
 
-// A digit appended to a number; what does not fit 64 bits is lost.
-fn appended(x: u64, d: u8) -> u64 {
-    (x % 1152921504606846976) * 16 + wide(d % 16)
-}
-
+// The number that stands at a place; what does not fit 64 bits is lost.
 fn read_number(text: &[u8], from: usize) -> Spelt {
     let mut value: u64 = 0;
     let mut i = from;
     while i < text.len() {
-        let d = digit(text[i]);
+        let d = digits::digit_value(text[i]);
         i += 1;
         if d > 15 {
             break;
         }
-        value = appended(value, d);
+        value = (value % FIFTEEN_DIGITS) * 16 + (d as u64);
     }
     Spelt { value, next: i }
 }
 
-// Stores the bytes that the text spells from a place on, and answers how many.
+// Stores the bytes that the digits from a place on spell, and answers how many.
 fn unspell(text: &[u8], from: usize, bytes: &mut [u8]) -> usize {
-    let mut n = 0;
-    let mut i = from;
-    while i < text.len() {
-        let high = digit(text[i]);
-        i += 1;
-        if i < text.len() {
-            let low = digit(text[i]);
-            i += 1;
-            n = put(bytes, n, (high % 16) * 16 + low % 16);
-        }
+    if from > text.len() {
+        return 0;
     }
-    n
+    let spelt = &text[from..];
+    digits::decode(spelt, bytes);
+    digits::first_other(spelt) / 2
 }
 
 fn checksum_case(text: &[u8]) {
     let mut bytes = io::buffer();
     let k = unspell(text, 2, &mut bytes);
     let sum = checksum::checksum(front(&bytes, k));
-    say_number(wide(sum), 2);
+    say_number(b"", sum as u64, 2);
 }
 
 fn preset(bytes: &mut [u8], b: u8) {
@@ -266,23 +233,7 @@ fn read_line(line: &[u8], pool: &mut [u8], at: usize) {
         Answer::Read(r) => say_record(r),
         Answer::Refused(e) => say_refusal(e),
     }
-    say(b" | ");
-    say_bytes(pool);
-}
-
-fn line_case(text: &[u8]) {
-    let size = read_number(text, 2);
-    let place = read_number(text, size.next);
-    let mut bytes = io::buffer();
-    let k = unspell(text, place.next, &mut bytes);
-    let length = size.value as usize;
-    let mut space = io::buffer();
-    let pool: &mut [u8] = &mut space;
-    if length > pool.len() {
-        say(b"?");
-        return;
-    }
-    read_line(front(&bytes, k), &mut pool[0..length], place.value as usize);
+    say_buffer(pool, MOST_OF_POOL);
 }
 
 // Prints a reply, and answers whether the row goes on behind it.
@@ -303,22 +254,6 @@ fn say_reply(reply: Reply) -> bool {
     }
 }
 
-// Prints the line behind which a reader stands.
-fn say_line(line: usize) {
-    say(b" @");
-    say_number(line as u64, 1);
-}
-
-// One more call, with much room.
-fn read_more(text: &[u8], state: State) {
-    let mut pool = io::buffer();
-    let step = lent::next_of(text, state, &mut pool, 0);
-    let reply = step.reply;
-    let behind = step.state;
-    say_reply(reply);
-    say_line(behind.line);
-}
-
 // The answers of a text, and the state after them. Each is the last answer of one reader, which has given all answers before it.
 fn read_row(text: &[u8], pool: &mut [u8], options: ReaderOptions) -> State {
     let mut state = State::new_with_options(options);
@@ -329,10 +264,9 @@ fn read_row(text: &[u8], pool: &mut [u8], options: ReaderOptions) -> State {
         let reply = step.reply;
         state = step.state;
         let more = say_reply(reply);
-        say_line(state.line);
-        say(b" | ");
-        say_bytes(pool);
-        say(b"; ");
+        say_number(b" @", state.line as u64, 1);
+        say_buffer(pool, MOST_OF_POOL);
+        io::write_all(1, b"; ");
         if !more {
             break;
         }
@@ -341,14 +275,13 @@ fn read_row(text: &[u8], pool: &mut [u8], options: ReaderOptions) -> State {
     state
 }
 
-// The answers of a text with the stops that the flags name, or the first one alone.
-fn read_text(text: &[u8], pool: &mut [u8], flags: u64) {
+// The answers of a text with the stops that the flags name and one more, or the first one alone.
+fn read_text(text: &[u8], pool: &mut [u8], flags: usize) {
     if flags / 4 % 2 == 1 {
         preset(pool, 0xEE);
         let reply = lent::first_record(text, pool, 0);
         say_reply(reply);
-        say(b" | ");
-        say_bytes(pool);
+        say_buffer(pool, MOST_OF_POOL);
         return;
     }
     let options = ReaderOptions {
@@ -356,49 +289,32 @@ fn read_text(text: &[u8], pool: &mut [u8], flags: u64) {
         stop_after_eof: flags / 2 % 2 == 1,
     };
     let state = read_row(text, pool, options);
-    read_more(text, state);
-}
-
-fn text_case(text: &[u8]) {
-    let flags = read_number(text, 2);
-    let size = read_number(text, flags.next);
-    let mut bytes = io::buffer();
-    let k = unspell(text, size.next, &mut bytes);
-    let length = size.value as usize;
-    let mut space = io::buffer();
-    let pool: &mut [u8] = &mut space;
-    if length > pool.len() {
-        say(b"?");
-        return;
-    }
-    read_text(front(&bytes, k), &mut pool[0..length], flags.value);
+    let mut much = io::buffer();
+    let step = lent::next_of(text, state, &mut much, 0);
+    let reply = step.reply;
+    let behind = step.state;
+    say_reply(reply);
+    say_number(b" @", behind.line as u64, 1);
 }
 
 // The record of a type, its numbers, and the place of its payload.
 fn record_of(kind: u64, x: u64, second: u64, at: usize, len: usize) -> Record {
-    if kind == 0 {
-        return Record::Data {
-            offset: (x % WORDS) as u16,
+    let word = (x % WORDS) as u16;
+    match kind {
+        0 => Record::Data {
+            offset: word,
             at,
             len,
-        };
-    }
-    if kind == 2 {
-        return Record::ExtendedSegmentAddress((x % WORDS) as u16);
-    }
-    if kind == 3 {
-        return Record::StartSegmentAddress {
-            cs: (x % WORDS) as u16,
+        },
+        2 => Record::ExtendedSegmentAddress(word),
+        3 => Record::StartSegmentAddress {
+            cs: word,
             ip: (second % WORDS) as u16,
-        };
+        },
+        4 => Record::ExtendedLinearAddress(word),
+        5 => Record::StartLinearAddress((x % ADDRESSES) as u32),
+        _ => Record::EndOfFile,
     }
-    if kind == 4 {
-        return Record::ExtendedLinearAddress((x % WORDS) as u16);
-    }
-    if kind == 5 {
-        return Record::StartLinearAddress((x % ADDRESSES) as u32);
-    }
-    Record::EndOfFile
 }
 
 // A record, and where the text goes on behind it.
@@ -428,50 +344,31 @@ fn record_at(text: &[u8], from: usize) -> Given {
 
 fn say_written(w: Written) {
     match w {
-        Written::Wrote(n) => {
-            say(b"W");
-            say_field(n as u64, 1);
-        }
+        Written::Wrote(n) => say_number(b"W ", n as u64, 1),
         Written::Refused(e) => match e {
-            WriterError::PayloadOutsidePool => say_refused(refusals::PAYLOAD_OUTSIDE_POOL),
+            WriterError::PayloadOutsidePool => say_refused(refusals::PAYLOAD_OUTSIDE_POOL, 0, 0),
             WriterError::DataExceedsMaximumLength(n) => {
-                say_refused(refusals::DATA_EXCEEDS_MAXIMUM_LENGTH);
-                say_field(n as u64, 1);
+                say_refused(refusals::DATA_EXCEEDS_MAXIMUM_LENGTH, n as u64, 1)
             }
             WriterError::MissingEndOfFileRecord => {
-                say_refused(refusals::MISSING_END_OF_FILE_RECORD)
+                say_refused(refusals::MISSING_END_OF_FILE_RECORD, 0, 0)
             }
             WriterError::MultipleEndOfFileRecords(n) => {
-                say_refused(refusals::MULTIPLE_END_OF_FILE_RECORDS);
-                say_field(n as u64, 1);
+                say_refused(refusals::MULTIPLE_END_OF_FILE_RECORDS, n as u64, 1)
             }
-            WriterError::OutputFull => say_refused(refusals::OUTPUT_FULL),
+            WriterError::OutputFull => say_refused(refusals::OUTPUT_FULL, 0, 0),
         },
     }
 }
 
-fn write_line(r: Record, pool: &[u8], out: &mut [u8]) {
+// The line of the record that a case begins with.
+fn write_line(text: &[u8], pool: &[u8], out: &mut [u8]) {
     preset(out, 0xDD);
-    let w = writer::to_record_string(r, pool, out);
-    say_written(w);
-    say(b" | ");
-    say_bytes(out);
-}
-
-fn record_case(text: &[u8]) {
     let g = record_at(text, 2);
     let r = g.record;
-    let size = read_number(text, g.next);
-    let mut bytes = io::buffer();
-    let k = unspell(text, size.next, &mut bytes);
-    let length = size.value as usize;
-    let mut space = io::buffer();
-    let out: &mut [u8] = &mut space;
-    if length > out.len() {
-        say(b"?");
-        return;
-    }
-    write_line(r, front(&bytes, k), &mut out[0..length]);
+    let w = writer::to_record_string(r, pool, out);
+    say_written(w);
+    say_buffer(out, MOST_OF_POOL);
 }
 
 // The object of the records from a place on, as a lent list. A case has at most 64 of them.
@@ -491,83 +388,53 @@ fn write_object(text: &[u8], from: usize, pool: &[u8], out: &mut [u8]) {
         n += 1;
     }
     if i < text.len() {
-        say(b"?");
+        io::write_all(1, b"?");
         return;
     }
     let w = lent::object_of(records, n, pool, out);
     say_written(w);
-    say(b" | ");
-    say_bytes(out);
+    say_buffer(out, MOST_OF_POOL);
 }
 
-// The pool's digits end at a space, which is the first of no pair and so spells no byte.
-fn object_case(text: &[u8]) {
-    let size = read_number(text, 2);
-    let behind = read_number(text, size.next);
+// A case of a kind that lends one buffer, of `size` bytes. Its own bytes stand at `from`; `x` is a number that its kind has beside them.
+fn lend(kind: u8, text: &[u8], from: usize, size: usize, x: usize) {
     let mut bytes = io::buffer();
-    let k = unspell(front(text, behind.next), size.next, &mut bytes);
-    let length = size.value as usize;
+    let k = unspell(text, from, &mut bytes);
     let mut space = io::buffer();
-    let out: &mut [u8] = &mut space;
-    if length > out.len() {
-        say(b"?");
+    let lent: &mut [u8] = &mut space;
+    if size > lent.len() {
+        io::write_all(1, b"?");
         return;
     }
-    write_object(text, behind.next, front(&bytes, k), &mut out[0..length]);
+    match kind {
+        b'L' => read_line(front(&bytes, k), &mut lent[0..size], x),
+        b'T' => read_text(front(&bytes, k), &mut lent[0..size], x),
+        b'W' => write_line(text, front(&bytes, k), &mut lent[0..size]),
+        _ => write_object(text, x, front(&bytes, k), &mut lent[0..size]),
+    }
+}
+
+fn record_case(text: &[u8]) {
+    let g = record_at(text, 2);
+    let size = read_number(text, g.next);
+    lend(b'W', text, size.next, size.value as usize, 0);
 }
 
 fn say_loading(l: Loading) {
     match l {
-        Loading::Accepted(tally) => {
-            say(b"A");
-            say_field(tally.records as u64, 1);
-        }
+        Loading::Accepted(tally) => say_number(b"A ", tally.records as u64, 1),
         Loading::Refused(e, line) => {
             match e {
                 LoaderError::Line(why) => say_refusal(why),
                 LoaderError::MissingEndOfFileRecord => {
-                    say_refused(refusals::MISSING_END_OF_FILE_RECORD)
+                    say_refused(refusals::MISSING_END_OF_FILE_RECORD, 0, 0)
                 }
-                LoaderError::BadWindow => say_refused(refusals::BAD_WINDOW),
-                LoaderError::OutsideWindow(a) => {
-                    say_refused(refusals::OUTSIDE_WINDOW);
-                    say_field(a as u64, 8);
-                }
+                LoaderError::BadWindow => say_refused(refusals::BAD_WINDOW, 0, 0),
+                LoaderError::OutsideWindow(a) => say_refused(refusals::OUTSIDE_WINDOW, a as u64, 8),
             }
-            say_line(line);
+            say_number(b" @", line as u64, 1);
         }
     }
-}
-
-// Whether a run of equal bytes ends ahead of a place.
-fn ends_run(bytes: &[u8], b: u8, next: usize) -> bool {
-    if next >= bytes.len() {
-        return true;
-    }
-    bytes[next] != b
-}
-
-// Prints each run of equal bytes: the byte, and the place behind it.
-fn say_runs(bytes: &[u8]) {
-    let mut i = 0;
-    while i < bytes.len() {
-        let b = bytes[i];
-        i += 1;
-        if ends_run(bytes, b, i) {
-            say_field(wide(b), 2);
-            say(b"<");
-            say_number(i as u64, 1);
-        }
-    }
-}
-
-fn say_long(bytes: &[u8]) {
-    if bytes.len() > 64 {
-        say_runs(bytes);
-        return;
-    }
-    say(b" ");
-    say_bytes(bytes);
 }
 
 fn load(text: &[u8], first: u32, page: &mut [u8], marks: &mut [u8]) {
@@ -575,10 +442,8 @@ fn load(text: &[u8], first: u32, page: &mut [u8], marks: &mut [u8]) {
     preset(marks, 0xAA);
     let l = loader::load(text, first, page, marks);
     say_loading(l);
-    say(b" |");
-    say_long(page);
-    say(b" |");
-    say_long(marks);
+    say_buffer(page, MOST_OF_PAGE);
+    say_buffer(marks, MOST_OF_PAGE);
 }
 
 // One byte more than a page may have.
@@ -588,29 +453,27 @@ fn much_space() -> [u8; 65537]
     [0; 65537]
 }
 
-fn load_case(text: &[u8]) {
-    let first = read_number(text, 2);
-    let page = read_number(text, first.next);
-    let marks = read_number(text, page.next);
+// Loads what a case spells behind the number of its marks, which stands at `from`.
+fn load_case(text: &[u8], first: u64, places: usize, from: usize) {
+    let marks = read_number(text, from);
     let mut bytes = io::buffer();
     let k = unspell(text, marks.next, &mut bytes);
     let mut page_space = much_space();
     let mut marks_space = much_space();
     let pages: &mut [u8] = &mut page_space;
     let rows: &mut [u8] = &mut marks_space;
-    let places = page.value as usize;
     let row = marks.value as usize;
     if places > pages.len() {
-        say(b"?");
+        io::write_all(1, b"?");
         return;
     }
     if row > rows.len() {
-        say(b"?");
+        io::write_all(1, b"?");
         return;
     }
     load(
         front(&bytes, k),
-        (first.value % ADDRESSES) as u32,
+        (first % ADDRESSES) as u32,
         &mut pages[0..places],
         &mut rows[0..row],
     );
@@ -619,31 +482,39 @@ fn load_case(text: &[u8]) {
 // The answer to a case.
 fn answer(text: &[u8]) {
     if text.len() == 0 {
-        say(b"?");
+        io::write_all(1, b"?");
         return;
     }
+    let a = read_number(text, 2);
+    let b = read_number(text, a.next);
     match text[0] {
         b'#' => {
             io::write_all(1, text);
         }
         b'C' => checksum_case(text),
-        b'L' => line_case(text),
-        b'T' => text_case(text),
+        b'L' => lend(b'L', text, b.next, a.value as usize, b.value as usize),
+        b'T' => lend(b'T', text, b.next, b.value as usize, a.value as usize),
         b'W' => record_case(text),
-        b'O' => object_case(text),
-        b'M' => load_case(text),
-        _ => say(b"?"),
+        b'O' => lend(b'O', text, a.next, a.value as usize, b.next),
+        b'M' => load_case(text, a.value, b.value as usize, b.next),
+        _ => {
+            io::write_all(1, b"?");
+        }
     }
 }
 
 // Goes on with a byte of the input: a line that it ends is run. Answers the length of the line so far.
 fn take(b: u8, line: &mut [u8], n: usize) -> usize {
-    if b != chars::LF {
-        return put(line, n, b);
+    if b == chars::LF {
+        answer(front(line, n));
+        io::write_all(1, b"\n");
+        return 0;
     }
-    answer(front(line, n));
-    say(b"\n");
-    0
+    if n < line.len() {
+        line[n] = b;
+        return n + 1;
+    }
+    n
 }
 
 fn take_all(chunk: &[u8], line: &mut [u8], n: usize) -> usize {
@@ -656,34 +527,17 @@ fn take_all(chunk: &[u8], line: &mut [u8], n: usize) -> usize {
     m
 }
 
-// The length of the line so far, and whether the input goes on.
-struct Progress {
-    n: usize,
-    more: bool,
-}
-
-// Reads once, and runs the cases that end in what came.
-fn some(line: &mut [u8], n: usize) -> Progress {
-    let mut chunk = io::large_buffer();
-    let got = libc::read(0, &mut chunk);
-    if got <= 0 {
-        return Progress { n, more: false };
-    }
-    let k = io::count(got, &chunk);
-    let m = take_all(&chunk[..k], line, n);
-    Progress { n: m, more: true }
-}
-
-// Nothing says that an input ends, so the turns are counted down from a number that no run uses up.
+// Runs the cases of the input. Nothing says that an input ends, so the turns are counted down from a number that no run uses up.
 fn all(line: &mut [u8]) {
     let mut n = 0;
     let mut turns = u64::MAX;
     while turns > 0 {
-        let p = some(line, n);
-        if !p.more {
+        let mut chunk = io::large_buffer();
+        let k = io::read_full(0, &mut chunk);
+        if k == 0 {
             break;
         }
-        n = p.n;
+        n = take_all(&chunk[..k], line, n);
         turns -= 1;
     }
 }

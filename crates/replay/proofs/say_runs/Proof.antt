@@ -7,10 +7,10 @@ use Rattle.replay.proofs.say_runs.Statement.{statement}
 use Rattle.replay.proofs.say_runs.Tie as tie
 
 abbrev Inv-loop : tie.InvT-loop
-Inv-loop bytes i₀ t4 i = Unit {0}
+Inv-loop bytes i₀ i = Unit {0}
 
 abbrev μ-loop : tie.MeasureT-loop
-μ-loop bytes i₀ t4 i = length bytes - i
+μ-loop bytes i₀ i = length bytes - i
 
 pub say-runs-spec : {M : Type 1} → statement M
 say-runs-spec =
@@ -22,13 +22,6 @@ say-runs-spec =
     (λ c. search needs)
     (λ c. search needs)
     (λ c κs. search needs)
-    (λ c κs. search needs)
-    (λ c κs. search needs)
-    (λ c. search needs)
-    (λ c κs. search needs)
-    (λ c κs. search needs)
-    (λ c. search needs)
-    (λ c. search needs)
     (λ c. search needs)
     (λ c. search needs)
     (λ c. search needs))
