@@ -41,8 +41,8 @@ use loader::Loading;
 use reader::Answer;
 use reader::ReaderError;
 use reader::ReaderOptions;
+use reader::Replied;
 use reader::Reply;
-use reader::State;
 use reader::Values;
 use record::Record;
 use record::chars;
@@ -61,6 +61,15 @@ const MOST_OF_PAGE: usize = 64;
 
 const MOST_OF_POOL: usize = 4096;
 
+// What a lent buffer holds in each place before the call.
+const POOL_BYTE: u8 = 0xEE;
+
+const OUTPUT_BYTE: u8 = 0xDD;
+
+const PAGE_BYTE: u8 = 0xCC;
+
+const MARKS_BYTE: u8 = 0xAA;
+
 // How many numbers of 16 bits there are, of 32, and of 60.
 const WORDS: u64 = 65536;
 
@@ -76,22 +85,30 @@ fn front(s: &[u8], n: usize) -> &[u8] {
     s
 }
 
+fn say_char(c: u8) {
+    io::write_all(1, &[c]);
+}
+
 // Prints digits, in capitals.
 fn say_digits(text: &[u8]) {
     let mut i = 0;
     while i < text.len() {
-        let c = [digits::capital_digit(digits::digit_value(text[i]))];
-        io::write_all(1, &c);
+        say_char(digits::capital_digit(digits::digit_value(text[i])));
         i += 1;
     }
 }
 
-// Prints a text, and then a number with at least so many digits.
-fn say_number(before: &[u8], x: u64, width: usize) {
+// Prints a number with at least so many digits.
+fn say_number(x: u64, width: usize) {
     let mut text = [0u8; 16];
     let k = io::hex(x, width, &mut text);
-    io::write_all(1, before);
     say_digits(&text[..k]);
+}
+
+// Prints a character, and then a number.
+fn say_field(mark: u8, x: u64, width: usize) {
+    say_char(mark);
+    say_number(x, width);
 }
 
 // Prints a run of equal bytes that ends ahead of a place: the byte, and the place. Nothing where the run goes on there.
@@ -101,8 +118,8 @@ fn say_run(bytes: &[u8], b: u8, next: usize) {
             return;
         }
     }
-    say_number(b" ", b as u64, 2);
-    say_number(b"<", next as u64, 1);
+    say_field(b' ', b as u64, 2);
+    say_field(b'<', next as u64, 1);
 }
 
 fn say_runs(bytes: &[u8]) {
@@ -116,17 +133,26 @@ fn say_runs(bytes: &[u8]) {
 
 // Prints a buffer: its bytes, or its runs where it has more than so many bytes.
 fn say_buffer(bytes: &[u8], most: usize) {
-    io::write_all(1, b" |");
+    say_char(b' ');
+    say_char(b'|');
     if bytes.len() > most {
         say_runs(bytes);
         return;
     }
+    say_char(b' ');
+    say_spelt(bytes);
+}
+
+// Prints bytes.
+fn say_spelt(bytes: &[u8]) {
     let mut text = io::large_buffer();
     digits::spell(bytes, 0, &mut text);
-    io::write_all(1, b" ");
     io::write_all(
         1,
-        front(&text, std::num::wrapping_add_usize(bytes.len(), bytes.len())),
+        front(
+            &text,
+            std::num::wrapping_add_usize(bytes.len(), bytes.len()),
+        ),
     );
 }
 
@@ -134,34 +160,41 @@ fn say_buffer(bytes: &[u8], most: usize) {
 fn say_record(r: Record) {
     let kind = r.record_type();
     if kind == types::END_OF_FILE {
-        io::write_all(1, b"E");
+        say_char(b'E');
         return;
     }
     if kind != types::DATA {
-        say_number(b"X", kind as u64, 1);
+        say_field(b'X', kind as u64, 1);
     }
+    say_values(r);
+}
+
+// The offset, position and length of data behind `D`, and the payload of types 02 to 05.
+fn say_values(r: Record) {
     match r {
         Record::Data { offset, at, len } => {
-            say_number(b"D ", offset as u64, 4);
-            say_number(b" ", at as u64, 1);
-            say_number(b" ", len as u64, 1);
+            say_char(b'D');
+            say_field(b' ', offset as u64, 4);
+            say_field(b' ', at as u64, 1);
+            say_field(b' ', len as u64, 1);
         }
         Record::EndOfFile => {}
-        Record::ExtendedSegmentAddress(a) => say_number(b" ", a as u64, 4),
+        Record::ExtendedSegmentAddress(a) => say_field(b' ', a as u64, 4),
         Record::StartSegmentAddress { cs, ip } => {
-            say_number(b" ", (cs as u64) * 65536 + (ip as u64), 8)
+            say_field(b' ', (cs as u64) * 65536 + (ip as u64), 8)
         }
-        Record::ExtendedLinearAddress(a) => say_number(b" ", a as u64, 4),
-        Record::StartLinearAddress(a) => say_number(b" ", a as u64, 8),
+        Record::ExtendedLinearAddress(a) => say_field(b' ', a as u64, 4),
+        Record::StartLinearAddress(a) => say_field(b' ', a as u64, 8),
     }
 }
 
 // `!`, the number of a refusal in decimal, and its value with at least so many digits; no value where that is 0.
 fn say_refused(number: u8, x: u64, width: usize) {
-    io::write_all(1, b"! ");
+    say_char(b'!');
+    say_char(b' ');
     io::print_decimal(1, number as u64);
     if width > 0 {
-        say_number(b" ", x, width);
+        say_field(b' ', x, width);
     }
 }
 
@@ -176,7 +209,7 @@ fn say_refusal(e: ReaderError) {
         Values::Byte(byte) => say_refused(number, byte as u64, 2),
         Values::Bytes(first, second) => {
             say_refused(number, first as u64, 2);
-            say_number(b" ", second as u64, 2);
+            say_field(b' ', second as u64, 2);
         }
     }
 }
@@ -212,11 +245,9 @@ fn unspell(text: &[u8], from: usize, bytes: &mut [u8]) -> usize {
     digits::first_other(spelt) / 2
 }
 
-fn checksum_case(text: &[u8]) {
-    let mut bytes = io::buffer();
-    let k = unspell(text, 2, &mut bytes);
-    let sum = checksum::checksum(front(&bytes, k));
-    say_number(b"", sum as u64, 2);
+fn say_checksum(bytes: &[u8]) {
+    let sum = checksum::checksum(bytes);
+    say_number(sum as u64, 2);
 }
 
 fn preset(bytes: &mut [u8], b: u8) {
@@ -227,12 +258,16 @@ fn preset(bytes: &mut [u8], b: u8) {
     }
 }
 
-fn read_line(line: &[u8], pool: &mut [u8], at: usize) {
-    preset(pool, 0xEE);
-    match reader::read_record(line, pool, at) {
+fn say_answer(a: Answer) {
+    match a {
         Answer::Read(r) => say_record(r),
         Answer::Refused(e) => say_refusal(e),
     }
+}
+
+fn read_line(line: &[u8], pool: &mut [u8], at: usize) {
+    let a = reader::read_record(line, pool, at);
+    say_answer(a);
     say_buffer(pool, MOST_OF_POOL);
 }
 
@@ -254,47 +289,71 @@ fn say_reply(reply: Reply) -> bool {
     }
 }
 
-// The answers of a text, and the state after them. Each is the last answer of one reader, which has given all answers before it.
-fn read_row(text: &[u8], pool: &mut [u8], options: ReaderOptions) -> State {
-    let mut state = State::new_with_options(options);
+// Prints the line behind which a reader stands.
+fn say_line(line: usize) {
+    say_char(b' ');
+    say_field(b'@', line as u64, 1);
+}
+
+// Prints a reply and the line behind which the reader stands then, and answers whether the row goes on.
+fn say_step(step: Replied) -> bool {
+    let reply = step.reply;
+    let state = step.state;
+    let more = say_reply(reply);
+    say_line(state.line);
+    more
+}
+
+// Prints the answer of a text after n others, with the pool, and answers whether the row goes on. One reader is asked for all of them.
+fn say_nth(text: &[u8], pool: &mut [u8], options: ReaderOptions, n: usize) -> bool {
+    preset(pool, POOL_BYTE);
+    let step = lent::nth_of(text, options, pool, 0, n);
+    let more = say_step(step);
+    say_buffer(pool, MOST_OF_POOL);
+    say_char(b';');
+    say_char(b' ');
+    more
+}
+
+// Prints the answers of a text, and answers how many stand before the last one.
+fn say_row(text: &[u8], pool: &mut [u8], options: ReaderOptions) -> usize {
     let mut n = 0;
     while n < MOST_ANSWERS {
-        preset(pool, 0xEE);
-        let step = lent::nth_of(text, options, pool, 0, n);
-        let reply = step.reply;
-        state = step.state;
-        let more = say_reply(reply);
-        say_number(b" @", state.line as u64, 1);
-        say_buffer(pool, MOST_OF_POOL);
-        io::write_all(1, b"; ");
-        if !more {
-            break;
+        if !say_nth(text, pool, options, n) {
+            return n;
         }
         n += 1;
     }
-    state
+    MOST_ANSWERS - 1
 }
 
-// The answers of a text with the stops that the flags name and one more, or the first one alone.
+// One more call, with much room, from where the reader stands after the answer that follows n others.
+fn read_more(text: &[u8], pool: &mut [u8], options: ReaderOptions, n: usize) {
+    let last = lent::nth_of(text, options, pool, 0, n);
+    let state = last.state;
+    let mut much = io::buffer();
+    let step = lent::next_of(text, state, &mut much, 0);
+    say_step(step);
+}
+
+fn read_first(text: &[u8], pool: &mut [u8]) {
+    let reply = lent::first_record(text, pool, 0);
+    say_reply(reply);
+    say_buffer(pool, MOST_OF_POOL);
+}
+
+// The answers of a text with the stops that the flags name, or the first one alone.
 fn read_text(text: &[u8], pool: &mut [u8], flags: usize) {
     if flags / 4 % 2 == 1 {
-        preset(pool, 0xEE);
-        let reply = lent::first_record(text, pool, 0);
-        say_reply(reply);
-        say_buffer(pool, MOST_OF_POOL);
+        read_first(text, pool);
         return;
     }
     let options = ReaderOptions {
         stop_after_first_error: flags % 2 == 1,
         stop_after_eof: flags / 2 % 2 == 1,
     };
-    let state = read_row(text, pool, options);
-    let mut much = io::buffer();
-    let step = lent::next_of(text, state, &mut much, 0);
-    let reply = step.reply;
-    let behind = step.state;
-    say_reply(reply);
-    say_number(b" @", behind.line as u64, 1);
+    let n = say_row(text, pool, options);
+    read_more(text, pool, options, n);
 }
 
 // The record of a type, its numbers, and the place of its payload.
@@ -344,7 +403,10 @@ fn record_at(text: &[u8], from: usize) -> Given {
 
 fn say_written(w: Written) {
     match w {
-        Written::Wrote(n) => say_number(b"W ", n as u64, 1),
+        Written::Wrote(n) => {
+            say_char(b'W');
+            say_field(b' ', n as u64, 1);
+        }
         Written::Refused(e) => match e {
             WriterError::PayloadOutsidePool => say_refused(refusals::PAYLOAD_OUTSIDE_POOL, 0, 0),
             WriterError::DataExceedsMaximumLength(n) => {
@@ -361,19 +423,22 @@ fn say_written(w: Written) {
     }
 }
 
-// The line of the record that a case begins with.
-fn write_line(text: &[u8], pool: &[u8], out: &mut [u8]) {
-    preset(out, 0xDD);
-    let g = record_at(text, 2);
-    let r = g.record;
-    let w = writer::to_record_string(r, pool, out);
+// Prints what came of writing, and the output.
+fn say_output(w: Written, out: &[u8]) {
     say_written(w);
     say_buffer(out, MOST_OF_POOL);
 }
 
+// The line of the record that a case begins with.
+fn write_line(text: &[u8], pool: &[u8], out: &mut [u8]) {
+    let g = record_at(text, 2);
+    let r = g.record;
+    let w = writer::to_record_string(r, pool, out);
+    say_output(w, out);
+}
+
 // The object of the records from a place on, as a lent list. A case has at most 64 of them.
 fn write_object(text: &[u8], from: usize, pool: &[u8], out: &mut [u8]) {
-    preset(out, 0xDD);
     let mut records = [Record::EndOfFile; 64];
     let mut n = 0;
     let mut i = from;
@@ -388,41 +453,61 @@ fn write_object(text: &[u8], from: usize, pool: &[u8], out: &mut [u8]) {
         n += 1;
     }
     if i < text.len() {
-        io::write_all(1, b"?");
+        say_char(b'?');
         return;
     }
     let w = lent::object_of(records, n, pool, out);
-    say_written(w);
-    say_buffer(out, MOST_OF_POOL);
+    say_output(w, out);
 }
 
-// A case of a kind that lends one buffer, of `size` bytes. Its own bytes stand at `from`; `x` is a number that its kind has beside them.
-fn lend(kind: u8, text: &[u8], from: usize, size: usize, x: usize) {
-    let mut bytes = io::buffer();
-    let k = unspell(text, from, &mut bytes);
-    let mut space = io::buffer();
-    let lent: &mut [u8] = &mut space;
-    if size > lent.len() {
-        io::write_all(1, b"?");
+// More space than a page may have, with one byte in each place.
+fn filled(b: u8) -> [u8; 65537]
+    ensures { λ r. ⌜ 65537 ≡ length r ⌝ }
+{
+    [b; 65537]
+}
+
+// Runs a case on the buffer that it lends. `x` is the position of L, the flags of T, and where the records of O begin.
+fn run(kind: u8, text: &[u8], bytes: &[u8], lent: &mut [u8], x: usize) {
+    match kind {
+        b'C' => say_checksum(bytes),
+        b'L' => read_line(bytes, lent, x),
+        b'T' => read_text(bytes, lent, x),
+        b'W' => write_line(text, bytes, lent),
+        _ => write_object(text, x, bytes, lent),
+    }
+}
+
+// Lends a case a buffer of `size` bytes, with `b` in each place; one of C has none.
+fn lend(kind: u8, b: u8, text: &[u8], bytes: &[u8], size: usize, x: usize) {
+    if size > MOST_OF_POOL {
+        say_char(b'?');
         return;
     }
-    match kind {
-        b'L' => read_line(front(&bytes, k), &mut lent[0..size], x),
-        b'T' => read_text(front(&bytes, k), &mut lent[0..size], x),
-        b'W' => write_line(text, front(&bytes, k), &mut lent[0..size]),
-        _ => write_object(text, x, front(&bytes, k), &mut lent[0..size]),
-    }
+    let mut space = filled(b);
+    let lent: &mut [u8] = &mut space;
+    run(kind, text, bytes, &mut lent[0..size], x);
+}
+
+// A case that lends one buffer; its own bytes stand at `from`.
+fn lending_case(kind: u8, b: u8, text: &[u8], from: usize, size: usize, x: usize) {
+    let mut bytes = io::buffer();
+    let k = unspell(text, from, &mut bytes);
+    lend(kind, b, text, front(&bytes, k), size, x);
 }
 
 fn record_case(text: &[u8]) {
     let g = record_at(text, 2);
     let size = read_number(text, g.next);
-    lend(b'W', text, size.next, size.value as usize, 0);
+    lending_case(b'W', OUTPUT_BYTE, text, size.next, size.value as usize, 0);
 }
 
 fn say_loading(l: Loading) {
     match l {
-        Loading::Accepted(tally) => say_number(b"A ", tally.records as u64, 1),
+        Loading::Accepted(tally) => {
+            say_char(b'A');
+            say_field(b' ', tally.records as u64, 1);
+        }
         Loading::Refused(e, line) => {
             match e {
                 LoaderError::Line(why) => say_refusal(why),
@@ -432,74 +517,69 @@ fn say_loading(l: Loading) {
                 LoaderError::BadWindow => say_refused(refusals::BAD_WINDOW, 0, 0),
                 LoaderError::OutsideWindow(a) => say_refused(refusals::OUTSIDE_WINDOW, a as u64, 8),
             }
-            say_number(b" @", line as u64, 1);
+            say_line(line);
         }
     }
 }
 
 fn load(text: &[u8], first: u32, page: &mut [u8], marks: &mut [u8]) {
-    preset(page, 0xCC);
-    preset(marks, 0xAA);
     let l = loader::load(text, first, page, marks);
     say_loading(l);
     say_buffer(page, MOST_OF_PAGE);
     say_buffer(marks, MOST_OF_PAGE);
 }
 
-// One byte more than a page may have.
-fn much_space() -> [u8; 65537]
-    ensures { λ r. ⌜ 65537 ≡ length r ⌝ }
-{
-    [0; 65537]
+// Lends marks of `size` bytes to a load.
+fn lend_marks(text: &[u8], first: u64, page: &mut [u8], size: usize) {
+    let mut space = filled(MARKS_BYTE);
+    let marks: &mut [u8] = &mut space;
+    if size > marks.len() {
+        say_char(b'?');
+        return;
+    }
+    load(text, (first % ADDRESSES) as u32, page, &mut marks[0..size]);
 }
 
-// Loads what a case spells behind the number of its marks, which stands at `from`.
-fn load_case(text: &[u8], first: u64, places: usize, from: usize) {
+// Lends a page of `size` bytes to a load, with marks of `row` bytes.
+fn lend_page(text: &[u8], first: u64, size: usize, row: usize) {
+    let mut space = filled(PAGE_BYTE);
+    let page: &mut [u8] = &mut space;
+    if size > page.len() {
+        say_char(b'?');
+        return;
+    }
+    lend_marks(text, first, &mut page[0..size], row);
+}
+
+// Loads what a case spells behind the size of its marks, which stands at `from`.
+fn load_case(text: &[u8], first: u64, size: usize, from: usize) {
     let marks = read_number(text, from);
     let mut bytes = io::buffer();
     let k = unspell(text, marks.next, &mut bytes);
-    let mut page_space = much_space();
-    let mut marks_space = much_space();
-    let pages: &mut [u8] = &mut page_space;
-    let rows: &mut [u8] = &mut marks_space;
-    let row = marks.value as usize;
-    if places > pages.len() {
-        io::write_all(1, b"?");
-        return;
-    }
-    if row > rows.len() {
-        io::write_all(1, b"?");
-        return;
-    }
-    load(
-        front(&bytes, k),
-        (first % ADDRESSES) as u32,
-        &mut pages[0..places],
-        &mut rows[0..row],
-    );
+    lend_page(front(&bytes, k), first, size, marks.value as usize);
 }
 
 // The answer to a case.
 fn answer(text: &[u8]) {
     if text.len() == 0 {
-        io::write_all(1, b"?");
+        say_char(b'?');
         return;
     }
     let a = read_number(text, 2);
     let b = read_number(text, a.next);
+    let x = a.value as usize;
+    let y = b.value as usize;
     match text[0] {
         b'#' => {
             io::write_all(1, text);
         }
-        b'C' => checksum_case(text),
-        b'L' => lend(b'L', text, b.next, a.value as usize, b.value as usize),
-        b'T' => lend(b'T', text, b.next, b.value as usize, a.value as usize),
+        b'C' => lending_case(b'C', 0, text, 2, 0, 0),
+        b'L' => lending_case(b'L', POOL_BYTE, text, b.next, x, y),
+        b'T' => lending_case(b'T', POOL_BYTE, text, b.next, y, x),
         b'W' => record_case(text),
-        b'O' => lend(b'O', text, a.next, a.value as usize, b.next),
-        b'M' => load_case(text, a.value, b.value as usize, b.next),
-        _ => {
-            io::write_all(1, b"?");
-        }
+        b'O' => lending_case(b'O', OUTPUT_BYTE, text, a.next, x, b.next),
+        b'M' => load_case(text, a.value, y, b.next),
+        _ => say_char(b'?'),
     }
 }
 
@@ -507,7 +587,7 @@ fn answer(text: &[u8]) {
 fn take(b: u8, line: &mut [u8], n: usize) -> usize {
     if b == chars::LF {
         answer(front(line, n));
-        io::write_all(1, b"\n");
+        say_char(chars::LF);
         return 0;
     }
     if n < line.len() {

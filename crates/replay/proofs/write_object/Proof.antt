@@ -8,10 +8,10 @@ use Rattle.replay.proofs.write_object.Statement.{statement}
 use Rattle.replay.proofs.write_object.Tie as tie
 
 abbrev Inv-loop : tie.InvT-loop
-Inv-loop text from pool out records₀ n₀ i₀ t11 records n i = length records ≡ 64
+Inv-loop text from pool out records₀ n₀ i₀ records n i = length records ≡ 64
 
 abbrev μ-loop : tie.MeasureT-loop
-μ-loop text from pool out records₀ n₀ i₀ t11 records n i = 64 - n
+μ-loop text from pool out records₀ n₀ i₀ records n i = 64 - n
 
 pub write-object-spec : {M : Type 1} → statement M
 write-object-spec =
@@ -19,7 +19,6 @@ write-object-spec =
     (tie.spec
     Inv-loop
     μ-loop
-    (λ c κs. search needs)
     (λ c. search needs)
     (λ c κs. search needs)
     (λ c. search needs)
@@ -27,11 +26,8 @@ write-object-spec =
     (λ c. search needs)
     (λ c. search needs)
     (λ c. search needs)
-    (λ c. search needs)
     (λ c κs. search needs)
     (λ c. search needs)
-    (λ c. search needs)
-    (λ c κs. search needs)
     (λ c κs. search needs)
     (λ c κs. search needs)
     (λ c. search needs)
