@@ -467,41 +467,6 @@ fn filled(b: u8) -> [u8; 65537]
     [b; 65537]
 }
 
-// Runs a case on the buffer that it lends. `x` is the position of L, the flags of T, and where the records of O begin.
-fn run(kind: u8, text: &[u8], bytes: &[u8], lent: &mut [u8], x: usize) {
-    match kind {
-        b'C' => say_checksum(bytes),
-        b'L' => read_line(bytes, lent, x),
-        b'T' => read_text(bytes, lent, x),
-        b'W' => write_line(text, bytes, lent),
-        _ => write_object(text, x, bytes, lent),
-    }
-}
-
-// Lends a case a buffer of `size` bytes, with `b` in each place; one of C has none.
-fn lend(kind: u8, b: u8, text: &[u8], bytes: &[u8], size: usize, x: usize) {
-    if size > MOST_OF_POOL {
-        say_char(b'?');
-        return;
-    }
-    let mut space = filled(b);
-    let lent: &mut [u8] = &mut space;
-    run(kind, text, bytes, &mut lent[0..size], x);
-}
-
-// A case that lends one buffer; its own bytes stand at `from`.
-fn lending_case(kind: u8, b: u8, text: &[u8], from: usize, size: usize, x: usize) {
-    let mut bytes = io::buffer();
-    let k = unspell(text, from, &mut bytes);
-    lend(kind, b, text, front(&bytes, k), size, x);
-}
-
-fn record_case(text: &[u8]) {
-    let g = record_at(text, 2);
-    let size = read_number(text, g.next);
-    lending_case(b'W', OUTPUT_BYTE, text, size.next, size.value as usize, 0);
-}
-
 fn say_loading(l: Loading) {
     match l {
         Loading::Accepted(tally) => {
@@ -529,34 +494,67 @@ fn load(text: &[u8], first: u32, page: &mut [u8], marks: &mut [u8]) {
     say_buffer(marks, MOST_OF_PAGE);
 }
 
-// Lends marks of `size` bytes to a load.
-fn lend_marks(text: &[u8], first: u64, page: &mut [u8], size: usize) {
+// Lends marks to a load of a page. The text of the case has the first address, the page's size and the size of the marks.
+fn lend_marks(text: &[u8], bytes: &[u8], page: &mut [u8]) {
+    let first = read_number(text, 2);
+    let size = read_number(text, first.next);
+    let row = read_number(text, size.next);
+    let n = row.value as usize;
     let mut space = filled(MARKS_BYTE);
     let marks: &mut [u8] = &mut space;
-    if size > marks.len() {
+    if n > marks.len() {
         say_char(b'?');
         return;
     }
-    load(text, (first % ADDRESSES) as u32, page, &mut marks[0..size]);
+    load(bytes, (first.value % ADDRESSES) as u32, page, &mut marks[0..n]);
 }
 
-// Lends a page of `size` bytes to a load, with marks of `row` bytes.
-fn lend_page(text: &[u8], first: u64, size: usize, row: usize) {
-    let mut space = filled(PAGE_BYTE);
-    let page: &mut [u8] = &mut space;
-    if size > page.len() {
+// Runs a case on the buffer that it lends, of which M alone may have more than 4,096 bytes. `x` is the position of L, the flags of T, and
+// where the records of O begin.
+fn run(kind: u8, text: &[u8], bytes: &[u8], lent: &mut [u8], x: usize) {
+    if lent.len() > MOST_OF_POOL {
+        if kind != b'M' {
+            say_char(b'?');
+            return;
+        }
+    }
+    match kind {
+        b'C' => say_checksum(bytes),
+        b'L' => read_line(bytes, lent, x),
+        b'T' => read_text(bytes, lent, x),
+        b'W' => write_line(text, bytes, lent),
+        b'M' => lend_marks(text, bytes, lent),
+        _ => write_object(text, x, bytes, lent),
+    }
+}
+
+// Lends a case a buffer of `size` bytes, with `b` in each place; one of C has none.
+fn lend(kind: u8, b: u8, text: &[u8], bytes: &[u8], size: usize, x: usize) {
+    let mut space = filled(b);
+    let lent: &mut [u8] = &mut space;
+    if size > lent.len() {
         say_char(b'?');
         return;
     }
-    lend_marks(text, first, &mut page[0..size], row);
+    run(kind, text, bytes, &mut lent[0..size], x);
 }
 
-// Loads what a case spells behind the size of its marks, which stands at `from`.
-fn load_case(text: &[u8], first: u64, size: usize, from: usize) {
-    let marks = read_number(text, from);
+// A case that lends a buffer; its own bytes stand at `from`.
+fn lending_case(kind: u8, b: u8, text: &[u8], from: usize, size: usize, x: usize) {
     let mut bytes = io::buffer();
-    let k = unspell(text, marks.next, &mut bytes);
-    lend_page(front(&bytes, k), first, size, marks.value as usize);
+    let k = unspell(text, from, &mut bytes);
+    lend(kind, b, text, front(&bytes, k), size, x);
+}
+
+fn record_case(text: &[u8]) {
+    let g = record_at(text, 2);
+    let size = read_number(text, g.next);
+    lending_case(b'W', OUTPUT_BYTE, text, size.next, size.value as usize, 0);
+}
+
+fn load_case(text: &[u8], size: usize, from: usize) {
+    let marks = read_number(text, from);
+    lending_case(b'M', PAGE_BYTE, text, marks.next, size, 0);
 }
 
 // The answer to a case.
@@ -578,7 +576,7 @@ fn answer(text: &[u8]) {
         b'T' => lending_case(b'T', POOL_BYTE, text, b.next, y, x),
         b'W' => record_case(text),
         b'O' => lending_case(b'O', OUTPUT_BYTE, text, a.next, x, b.next),
-        b'M' => load_case(text, a.value, y, b.next),
+        b'M' => load_case(text, y, b.next),
         _ => say_char(b'?'),
     }
 }
