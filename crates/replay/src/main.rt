@@ -506,7 +506,12 @@ fn lend_marks(text: &[u8], bytes: &[u8], page: &mut [u8]) {
         say_char(b'?');
         return;
     }
-    load(bytes, (first.value % ADDRESSES) as u32, page, &mut marks[0..n]);
+    load(
+        bytes,
+        (first.value % ADDRESSES) as u32,
+        page,
+        &mut marks[0..n],
+    );
 }
 
 // Runs a case on the buffer that it lends, of which M alone may have more than 4,096 bytes. `x` is the position of L, the flags of T, and
@@ -595,27 +600,16 @@ fn take(b: u8, line: &mut [u8], n: usize) -> usize {
     n
 }
 
-fn take_all(chunk: &[u8], line: &mut [u8], n: usize) -> usize {
-    let mut m = n;
-    let mut i = 0;
-    while i < chunk.len() {
-        m = take(chunk[i], line, m);
-        i += 1;
-    }
-    m
-}
-
-// Runs the cases of the input. Nothing says that an input ends, so the turns are counted down from a number that no run uses up.
+// Runs the cases of the input, which it reads byte by byte. Nothing says that an input ends, so the turns are counted down from a number that no run uses up.
 fn all(line: &mut [u8]) {
     let mut n = 0;
     let mut turns = u64::MAX;
     while turns > 0 {
-        let mut chunk = io::large_buffer();
-        let k = io::read_full(0, &mut chunk);
-        if k == 0 {
+        let mut c = [0u8; 1];
+        if io::read_full(0, &mut c) == 0 {
             break;
         }
-        n = take_all(&chunk[..k], line, n);
+        n = take(c[0], line, n);
         turns -= 1;
     }
 }
