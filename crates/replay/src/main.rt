@@ -70,7 +70,7 @@ const PAGE_BYTE: u8 = 0xCC;
 
 const MARKS_BYTE: u8 = 0xAA;
 
-// How many numbers of 16 bits there are, of 32, and of 60.
+// How many numbers of 16 bits there are, of 32, and of 15 digits.
 const WORDS: u64 = 65536;
 
 const ADDRESSES: u64 = 4294967296;
@@ -111,7 +111,20 @@ fn say_field(mark: u8, x: u64, width: usize) {
     say_number(x, width);
 }
 
-// Prints a run of equal bytes that ends ahead of a place: the byte, and the place. Nothing where the run goes on there.
+// Prints the digits of bytes.
+fn say_spelt(bytes: &[u8]) {
+    let mut text = io::large_buffer();
+    digits::spell(bytes, 0, &mut text);
+    io::write_all(
+        1,
+        front(
+            &text,
+            std::num::wrapping_add_usize(bytes.len(), bytes.len()),
+        ),
+    );
+}
+
+// Prints a run of equal bytes that ends before a place: the byte, and the place. Nothing where the run goes on there.
 fn say_run(bytes: &[u8], b: u8, next: usize) {
     if next < bytes.len() {
         if bytes[next] == b {
@@ -143,19 +156,6 @@ fn say_buffer(bytes: &[u8], most: usize) {
     say_spelt(bytes);
 }
 
-// Prints bytes.
-fn say_spelt(bytes: &[u8]) {
-    let mut text = io::large_buffer();
-    digits::spell(bytes, 0, &mut text);
-    io::write_all(
-        1,
-        front(
-            &text,
-            std::num::wrapping_add_usize(bytes.len(), bytes.len()),
-        ),
-    );
-}
-
 // `D` with offset, position and length, `E`, or `X` with the type and the payload.
 fn say_record(r: Record) {
     let kind = r.record_type();
@@ -169,7 +169,7 @@ fn say_record(r: Record) {
     say_values(r);
 }
 
-// The offset, position and length of data behind `D`, and the payload of types 02 to 05.
+// `D` with the offset, position and length of data, or the payload of types 02 to 05.
 fn say_values(r: Record) {
     match r {
         Record::Data { offset, at, len } => {
@@ -214,7 +214,7 @@ fn say_refusal(e: ReaderError) {
     }
 }
 
-// A number, and where the text goes on behind it and the character that ended it.
+// A number, and where the text goes on after it and the character that ended it.
 struct Spelt {
     value: u64,
     next: usize,
@@ -271,7 +271,7 @@ fn read_line(line: &[u8], pool: &mut [u8], at: usize) {
     say_buffer(pool, MOST_OF_POOL);
 }
 
-// Prints a reply, and answers whether the row goes on behind it.
+// Prints a reply, and answers whether the row goes on after it.
 fn say_reply(reply: Reply) -> bool {
     match reply {
         Reply::Read(r) => {
@@ -289,13 +289,13 @@ fn say_reply(reply: Reply) -> bool {
     }
 }
 
-// Prints the line behind which a reader stands.
+// Prints the number of a line, or of the lines that a reader has passed.
 fn say_line(line: usize) {
     say_char(b' ');
     say_field(b'@', line as u64, 1);
 }
 
-// Prints a reply and the line behind which the reader stands then, and answers whether the row goes on.
+// Prints a reply and how many lines the reader has passed then, and answers whether the row goes on.
 fn say_step(step: Replied) -> bool {
     let reply = step.reply;
     let state = step.state;
@@ -376,7 +376,7 @@ fn record_of(kind: u64, x: u64, second: u64, at: usize, len: usize) -> Record {
     }
 }
 
-// A record, and where the text goes on behind it.
+// A record, and where the text goes on after it.
 struct Given {
     record: Record,
     next: usize,
@@ -600,7 +600,8 @@ fn take(b: u8, line: &mut [u8], n: usize) -> usize {
     n
 }
 
-// Runs the cases of the input, which it reads byte by byte. Nothing says that an input ends, so the turns are counted down from a number that no run uses up.
+// Runs the cases of the input, which it reads byte by byte. Nothing says that an input ends, so the turns are counted down from a
+// number that no run uses up.
 fn all(line: &mut [u8]) {
     let mut n = 0;
     let mut turns = u64::MAX;
