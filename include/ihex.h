@@ -1,11 +1,12 @@
 /* Intel's hexadecimal object file format: the functions of libihex.a, on numbers and bytes.
  *
- * Each function of the library is proved to do what is said of it here, for all inputs. What it leaves to its caller:
+ * Each function of the library is proved to do what is said of it here, for all inputs. The inline functions and IHEX_MARKS of this
+ * header are tested, not proved. The header needs C99 or C++. What a function leaves to its caller:
  * - A slice is a pointer and a length in bytes, below 2^63; with the length 0 the pointer is not used and may be null.
  * - A pointer to a number is not null. Nothing that a function writes overlaps anything else that it is given.
  *
  * No function allocates or keeps anything. Of the C library memcpy and memset are called, and nothing else. A writer changes no byte of
- * the output behind the length that it tells. A refusal changes no byte of any slice but of a carry, in which its line may have been
+ * the output after the length that it returns. A refusal changes no byte of any slice but of a carry, in which its line may have been
  * gathered; of that IHEX_POOL_FULL keeps the used bytes, and IHEX_CARRY_TOO_SMALL all.
  */
 #ifndef IHEX_H
@@ -27,15 +28,15 @@ extern "C" {
 #define IHEX_START_LINEAR_ADDRESS 5     /* a: EIP */
 
 /* The other codes that are returned. */
-#define IHEX_OK 0             /* a writer wrote all or a length is told, a load was accepted */
+#define IHEX_OK 0             /* a writer wrote all, a length is returned, or a load was accepted */
 #define IHEX_REFUSED 256      /* and the number of a refusal, below */
 #define IHEX_DONE 512         /* the text has no more answers */
 #define IHEX_USED_UP 513      /* the chunk has no more answers: the next one is wanted, or ihex_finish; no values */
-#define IHEX_BAD_RECORD 1024  /* what is to be written is no record; no values */
+#define IHEX_BAD_RECORD 1024  /* what is to be written is not a record; no values */
 
 /* The refusals: their numbers, and their values (0 where there is none). */
-#define IHEX_MISSING_START_CODE 1           /* the line's first byte is no colon, or there is none */
-#define IHEX_CONTAINS_INVALID_CHARACTERS 2  /* a byte behind the colon is no digit; a: the place of the first such byte, up to IHEX_MAX_PLACE */
+#define IHEX_MISSING_START_CODE 1           /* the line's first byte is not a colon, or there is none */
+#define IHEX_CONTAINS_INVALID_CHARACTERS 2  /* a byte after the colon is not a digit; a: the place of the first such byte, up to IHEX_MAX_PLACE */
 #define IHEX_RECORD_TOO_SHORT 3             /* under 10 digits */
 #define IHEX_RECORD_TOO_LONG 4              /* over 520 digits */
 #define IHEX_RECORD_NOT_EVEN_LENGTH 5       /* an odd number of digits */
@@ -46,19 +47,19 @@ extern "C" {
 #define IHEX_POOL_FULL 10                   /* a good data record; position + length exceeds the pool */
 #define IHEX_PAYLOAD_OUTSIDE_POOL 11        /* a record to be written; position + length exceeds the pool */
 #define IHEX_DATA_EXCEEDS_MAXIMUM_LENGTH 12 /* a payload over 255 bytes; a, or value: its length */
-#define IHEX_MISSING_END_OF_FILE_RECORD 13  /* the list's last record is no end; the text has no end record */
+#define IHEX_MISSING_END_OF_FILE_RECORD 13  /* the list's last record is not an end record; the text has no end record */
 #define IHEX_MULTIPLE_END_OF_FILE_RECORDS 14 /* a, or value: how many end records the list has */
 #define IHEX_OUTPUT_FULL 15                 /* the whole result is longer than the output */
-#define IHEX_BAD_WINDOW 16                  /* page and marks differ in length, have over IHEX_MAX_PAGE places, or end beyond 2^32 */
+#define IHEX_BAD_WINDOW 16                  /* marks_len is not IHEX_MARKS(page_len), page_len is over IHEX_MAX_PAGE, or the page ends beyond 2^32 */
 #define IHEX_OUTSIDE_WINDOW 17              /* a: the address of a data record's first byte that lies outside */
 #define IHEX_CARRY_TOO_SMALL 18             /* a carry under IHEX_CARRY bytes, or a state that counts more than that used */
-#define IHEX_BAD_MARK 19                    /* a page to be written; value: the place of the first mark that is neither 0 nor 1 */
+#define IHEX_BAD_MARK 19                    /* a page to be written; value: the place of the lowest unused bit of its marks that is set */
 
 /* The flags of a state. The other bits are not read, and are 0 at exit; ihex_next has the first three only. */
 #define IHEX_STOP_AFTER_FIRST_ERROR 1 /* after a refused line, only "done" */
 #define IHEX_STOP_AFTER_EOF 2         /* after an end record, only "done" */
 #define IHEX_FINISHED 4               /* only "done" */
-#define IHEX_CR_WAITS 8               /* chunks: a CR stands behind the carry's used bytes, and the next byte says whose it is */
+#define IHEX_CR_WAITS 8               /* chunks: a CR comes after the carry's used bytes, and the next byte says whose it is */
 
 /* A payload has at most so many bytes, and a line at most so many characters, without its line end. */
 #define IHEX_MAX_PAYLOAD 255
@@ -75,9 +76,21 @@ extern "C" {
 #define IHEX_IN_CHUNK 1 /* len bytes of the chunk, from `from` on */
 #define IHEX_IN_CARRY 2 /* the carry's first len bytes; from is 0 */
 
-/* A page has at most so many places, and its file at most so many bytes: 7 for each place, and 58. */
+/* A page has at most so many places, its marks at most so many bytes, and its file at most so many bytes: 7 for each place, and 58. */
 #define IHEX_MAX_PAGE 65536
+#define IHEX_MAX_MARKS 8192
 #define IHEX_MAX_PAGE_FILE 458810
+
+/* The marks of a page have one bit a place: place p is bit p modulo 8 of byte p / 8, lowest bit first. The bits of the last byte after
+ * the last place are unused. IHEX_MARKS is the length of the marks in bytes. It is a constant if its argument is one, and evaluates its
+ * argument twice. It is 0 for no places: then no array of marks is wanted, and any pointer will do with marks_len 0, also null. */
+#define IHEX_MARKS(places) ((places) / 8 + ((places) % 8 != 0))
+
+/* Returns 1 if a place is marked, else 0. The place must be one of the page: the byte that holds its mark is read. */
+static inline int ihex_marked(const uint8_t *marks, size_t place)
+{
+    return (marks[place / 8] >> (place % 8)) & 1;
+}
 
 /* A record in a list. Its 24 bytes, each number low byte first: 0 type, 1 not read, 2 and 3 second, 4 to 7 number,
  * 8 to 15 at, 16 to 23 len; so on a little-endian machine a list is an array of this struct. */
@@ -115,9 +128,9 @@ uint32_t ihex_next(const uint8_t *text, size_t text_len,
 /* Reads a text that comes in chunks to the answers that ihex_next gives of the whole text: the chunk's next answer, or IHEX_USED_UP,
  * and then it wants the next chunk. Until then it is called with the same chunk. The state is position (in the chunk), line, empties,
  * used, skipped and flags; it begins with 0 but for the stops. The carry's first `used` bytes belong to it: a line that is begun. Nobody
- * else writes to them between calls. The other bytes of the carry may change in any call but 18, and "done" behind the end. `skipped`
- * counts, up to 65,535, the digits of a line over IHEX_CARRY bytes that were left out ahead of the last byte that the carry holds. It is 0
- * behind each line that was answered, and not read while fewer than IHEX_CARRY bytes are used.
+ * else writes to them between calls. The other bytes of the carry may change in any call but 18, and "done" after the end. `skipped`
+ * counts, up to 65,535, the digits of a line over IHEX_CARRY bytes that were left out before the last byte that the carry holds. It is 0
+ * after each line that was answered, and not read while fewer than IHEX_CARRY bytes are used.
  * After IHEX_POOL_FULL position, line, empties, used, skipped, the four flags and the used bytes are as they were: the same call with
  * room gives the record. 18 goes before all else and changes no byte either. A state made up by hand is answered too.
  * After a line that stops the reader, position is just after its LF, and "done" leaves it there. What follows in the chunk has not been
@@ -181,16 +194,18 @@ uint32_t ihex_to_record_string(uint8_t type, uint32_t number, uint16_t second, s
                                uint8_t *out, size_t out_len,
                                uint64_t *value);
 
-/* Writes a list of records, one LF behind each: returns 0 and the text's length as the value, or IHEX_BAD_RECORD for
- * bytes that are no list of ihex_record, or IHEX_REFUSED and 13, 14, the 11 or 12 of the first record that has one, or 15. */
+/* Writes a list of records, one LF after each: returns 0 and the text's length as the value, or IHEX_BAD_RECORD for
+ * bytes that are not a list of ihex_record, or IHEX_REFUSED and 13, 14, the 11 or 12 of the first record that has one, or 15. */
 uint32_t ihex_create_object_file_representation(const void *list, size_t list_len,
                                                 const uint8_t *pool, size_t pool_len,
                                                 uint8_t *out, size_t out_len,
                                                 uint64_t *value);
 
-/* Loads a text, both stops on, into a page from the address `first` on; marks become 1 where it states a byte, else 0, and there the
- * page keeps its byte. Returns 0 and counts data records in a; or IHEX_REFUSED and 16, the first line's 1 to 9 or 17, with its number
- * in line (else 0), or 13; the refusal's values are in a and b.
+/* Loads a text, both stops on, into a page from the address `first` on. Returns 0 and counts data records in a; or IHEX_REFUSED and 16, the
+ * first line's 1 to 9 or 17, with its number in line (else 0), or 13; the refusal's values are in a and b.
+ * marks_len is IHEX_MARKS(page_len); what the marks held before does not matter. After an accepted load a place is marked exactly if the
+ * text states a byte there. A place that is not marked keeps its byte. The unused bits of the marks are 0. A refused load changes no byte
+ * of page or marks, and no unused bit.
  * While a type 02 is the latest extension record, with base 16 times its number, and before any, with base 0, byte i of a data
  * record lies at base + ((offset + i) modulo 65,536). While a type 04 is, with base 65,536 times its number, it lies at
  * (base + offset + i) modulo 2^32.
@@ -204,18 +219,19 @@ uint32_t ihex_load(const uint8_t *text, size_t text_len, uint32_t first,
                    size_t *line, uint64_t *a, uint64_t *b);
 
 /* How long the file is that ihex_write_page writes: returns 0 and its length as the value, or IHEX_REFUSED and the first of 16, 19 that
- * holds, with the value of 19; the value of 16 is 0. Of the page only the length counts. */
+ * holds, with the value of 19; the value of 16 is 0. Of the page only the length counts. The unused bits of the marks must be 0: for 3
+ * places with the marks 22 (hexadecimal) the value of 19 is 5. Where page_len is a multiple of 8 no bit is unused, and 19 is not given. */
 uint32_t ihex_page_file_length(uint32_t first,
                           const uint8_t *page, size_t page_len,
                           const uint8_t *marks, size_t marks_len,
                           uint64_t *value);
 
-/* Writes the places of a page whose mark is 1 as Intel HEX, from the output's start on: returns 0 and the length as the value, or
+/* Writes the marked places of a page as Intel HEX, from the output's start on: returns 0 and the length as the value, or
  * IHEX_REFUSED and the first of 16, 19, 15 that holds, with the value of 19; that of the others is 0. Place p has the address
  * first + p. Each run of marked places becomes data records of 16 bytes, the last of them shorter where need be, counted from the
  * run's start and afresh at each multiple of 65,536, where a record is cut too. A type 04 record stands before the first data record
  * and wherever the upper 16 bits of the address change; the end record is last, and stands alone where no place is marked. One LF
- * stands behind each line. Bytes of places without a mark do not matter. Loaded by ihex_load with the same `first` and lengths, the file
+ * follows each line. Bytes of places without a mark do not matter. Loaded by ihex_load with the same `first` and lengths, the file
  * gives the same marks and the same bytes at them. */
 uint32_t ihex_write_page(uint32_t first,
                          const uint8_t *page, size_t page_len,

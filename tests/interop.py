@@ -10,12 +10,14 @@ import collections
 import random
 import sys
 
+from model import packed, unpacked
 from peers import run, there
 from programs import end, told
 
 PAGE = 65536
 TOP = 1 << 32
 
+# The marks of a case have a byte for each place, 1 or 0; the program pagefile takes and gives them packed.
 Case = collections.namedtuple('Case', 'name first page marks')
 
 
@@ -100,14 +102,17 @@ def stated(case):
 # ---- the comparison
 
 def page_file(case):
-    return run(PAGEFILE + ['write', '%X' % case.first], case.page + case.marks).decode()
+    return run(PAGEFILE + ['write', '%X' % case.first, str(len(case.page))], case.page + packed(case.marks)).decode()
 
 
 def loaded(case, text):
     """The places that ihex_load marks in the case's window, with their bytes."""
     n = len(case.marks)
     both = run(PAGEFILE + ['load', '%X' % case.first, str(n)], text.encode())
-    return stated(Case(case.name, case.first, both[:n], both[n:]))
+    marks = unpacked(both[n:], n)
+    if packed(marks) != both[n:]:
+        raise ValueError('an unused bit is set')
+    return stated(Case(case.name, case.first, both[:n], marks))
 
 
 def compare(name, case, gives):

@@ -11,7 +11,7 @@ answers as well, and the model is held to them. src/main.rt of `replay` says wha
 import pathlib
 import sys
 
-from model import checksum, lines_of, read, record, told_other
+from model import checksum, lines_of, packed, read, record, told_other
 
 FOLDER = pathlib.Path(__file__).resolve().parent.parent / "crates" / "replay"
 TOP = 2**64 - 1
@@ -104,9 +104,9 @@ def address_of(latest, offset, i):
 
 
 def load(text, first, page_size, marks_size):
-    """What the loader answers, page, and marks."""
+    """What the loader answers, page, and packed marks."""
     untouched = bytes([PAGE]) * page_size, bytes([MARKS]) * marks_size
-    if page_size != marks_size or page_size > 65536 or first + page_size > 2**32:
+    if marks_size != (page_size + 7) // 8 or page_size > 65536 or first + page_size > 2**32:
         return "! 16 @0", *untouched
     latest, data, stated = ("X2", 0), 0, {}
     for number, row in enumerate(lines_of(text), 1):
@@ -115,7 +115,7 @@ def load(text, first, page_size, marks_size):
         told, payload = judge(row, bytes(255), 0)
         if told == "E":
             page = bytes(stated.get(first + i, PAGE) for i in range(page_size))
-            return f"A {data:X}", page, bytes(first + i in stated for i in range(page_size))
+            return f"A {data:X}", page, packed([first + i in stated for i in range(page_size)])
         if told.startswith("!"):
             return f"{told} @{number:X}", *untouched
         kind, value, *rest = told.split()
@@ -236,17 +236,25 @@ def told_long(data):
     return "".join(f" {data[i - 1]:02X}<{i:X}" for i in ends)
 
 
+def row_of(places, size):
+    """So many bytes of marks, with these places marked and no other."""
+    row = bytearray(size)
+    for place in places:
+        row[place // 8] += 2 ** (place % 8)
+    return bytes(row)
+
+
 def load_case(text, answer=None, first=0, page=8, marks=None, places=None):
-    """A text loaded; places are the marked ones, each with what it holds."""
+    """A text loaded; places are the marked ones, each with what it holds. The marks have the right number of bytes, or the one given."""
     if isinstance(text, str):
         text = text.encode("latin-1")
     if marks is None:
-        marks = page
+        marks = (page + 7) // 8
     told, after, marked = load(text, first, page, marks)
     if answer is not None and told != answer:
         sys.exit(f"the model answers {told}, not {answer}, to the load of {text!r} at {first:X}")
     if places is not None:
-        wanted = bytes(places.get(i, PAGE) for i in range(page)), bytes(i in places for i in range(page))
+        wanted = bytes(places.get(i, PAGE) for i in range(page)), row_of(places, marks)
         if (after, marked) != wanted:
             sys.exit(f"the model stores {after.hex()} and marks {marked.hex()} for the load of {text!r} at {first:X}")
     cases.append(f"M {first:X} {page:X} {marks:X} {text.hex().upper()}".rstrip())
@@ -911,7 +919,7 @@ def of_wraps_behind_starts():
 
 
 def of_windows():
-    heading("loads: windows of length 0 and 1, to 2^32 and past it, of 65,536 and 65,537 places, page and marks of two lengths")
+    heading("loads: windows of length 0 and 1, to 2^32 and past it, of 65,536 and 65,537 places, marks of another length")
     empty = ended(END)
     for first in (0, 1, 0x12000, 2**31, 2**32 - 1):
         load_case(empty, "A 0", first, 0, places={})
@@ -919,7 +927,7 @@ def of_windows():
         load_case(PLACED, "! 17 00012005 @2", first, 0)
         load_case(PLACED, "! 17 00012005 @2", first, 1)
         load_case(empty, "A 0" if first + 2 <= 2**32 else "! 16 @0", first, 2)
-        for page, marks in ((0, 1), (1, 0), (8, 7), (7, 8), (65536, 65535), (65537, 65536), (0, 65537)):
+        for page, marks in ((0, 1), (1, 0), (8, 2), (9, 1), (65536, 8191), (65537, 8192), (0, 65537)):
             load_case(empty, "! 16 @0", first, page, marks)
     load_case(empty, "A 0", 2**32 - 8, 8, places={})
     load_case(empty, "! 16 @0", 2**32 - 8, 9)
@@ -929,8 +937,31 @@ def of_windows():
     load_case(empty, "! 16 @0", 0, 65537)
     load_case(PLACED, "A 1", 0x12000, 65536, places={5: 0x77})
     load_case(PLACED, "! 16 @0", 0x12000, 65537)
-    load_case("", "! 16 @0", 0, 8, 7)
-    load_case(BAD[0], "! 16 @0", 0, 8, 7)
+    load_case("", "! 16 @0", 0, 8, 2)
+    load_case(BAD[0], "! 16 @0", 0, 8, 8)
+
+
+def of_packed_marks():
+    heading("loads: marks of 0, 1, 7, 8, 9, 15, 16, 17, 65,528, 65,529, 65,535 and 65,536 places, a byte short and a byte long, the last place marked once and twice")
+    for places in (0, 1, 7, 8, 9, 15, 16, 17, 65528, 65529, 65535, 65536):
+        size, last = (places + 7) // 8, places - 1
+        load_case(ended(END), "A 0", 0, places, places={})
+        load_case(ended(END), "! 16 @0", 0, places, size + 1)
+        load_case("", "! 13 @0", 0, places)
+        if places > size:
+            load_case(ended(END), "! 16 @0", 0, places, places)
+        if places:
+            load_case(ended(END), "! 16 @0", 0, places, size - 1)
+            load_case(ended(record(0, last, b"\x77"), END), "A 1", 0, places, places={last: 0x77})
+            load_case(ended(record(0, last, b"\x77"), record(0, last, b"\x66"), END), "A 2", 0, places, places={last: 0x66})
+            load_case(ended(record(0, last, b"\x77"), BAD[0], END), f"{BAD_SAID[0]} @2", 0, places)
+    heading("loads: runs across the bytes of the marks")
+    for at in range(8):
+        for n in (1, 2, 7, 8, 9, 10, 17):
+            load_case(ended(record(0, at, some_bytes(n)), END), "A 1", 0, at + n, places=dict(enumerate(some_bytes(n), at)))
+        stored = {at: 1, at + 1: 4, at + 2: 5, at + 9: 3, at + 10: 6}
+        twice = record(0, at, b"\1\2"), record(0, at + 9, b"\3"), record(0, at + 1, b"\4\5"), record(0, at + 10, b"\6")
+        load_case(ended(*twice, END), "A 4", 0, 27, places=stored)
 
 
 def of_records_half_inside():
@@ -1026,7 +1057,7 @@ def of_places_in_loads():
     load_case(ended(ONE, ":G", "0G", END), "! 2 0001 @2")
     load_case(ended(record(0, 8, b"\x77"), ":G", END), "! 17 00000008 @1")
     load_case(ended(":G", record(0, 8, b"\x77"), END), "! 2 0001 @1")
-    load_case(ended(":G"), "! 16 @0", 0, 8, 7)
+    load_case(ended(":G"), "! 16 @0", 0, 8, 2)
 
 
 def of_the_incident():
@@ -1103,6 +1134,7 @@ def make_all():
     of_wraps()
     of_wraps_behind_starts()
     of_windows()
+    of_packed_marks()
     of_records_half_inside()
     of_bases()
     of_records_over_one_another()

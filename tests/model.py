@@ -1,4 +1,4 @@
-"""A model of the record reader of documents 01 and 02, which shares nothing with the port."""
+"""A model of the record reader of documents 01 and 02, and of packed marks, which shares nothing with the port."""
 import re
 
 
@@ -51,6 +51,16 @@ def lines_of(text):
     *ended, last = text.split(b"\n")
     rows = [line[:-1] if line.endswith(b"\r") else line for line in ended]
     return rows + [last] if last else rows
+
+
+def packed(marked):
+    """The marks of places, given whether each is marked: place p is bit p modulo 8 of byte p / 8, lowest bit first."""
+    return bytes(sum(1 << i for i, on in enumerate(marked[at:at + 8]) if on) for at in range(0, len(marked), 8))
+
+
+def unpacked(marks, places):
+    """For each of so many places whether it is marked, 1 or 0."""
+    return bytes(marks[p // 8] >> p % 8 & 1 for p in range(places))
 
 
 def entry(line):

@@ -49,9 +49,10 @@ class Ours:
         ended = subprocess.run(self.words, input=text.encode('latin-1'), stdout=subprocess.PIPE, stderr=subprocess.PIPE, timeout=300)
         if ended.returncode == 1 and ended.stderr.startswith(b'pagefile: answer '):
             raise Refused(ended.stderr.decode())
-        if ended.returncode != 0 or len(ended.stdout) != 2 * PLACES:
+        if ended.returncode != 0 or len(ended.stdout) != PLACES + PLACES // 8:
             sys.exit('pagefile: status %d, %r' % (ended.returncode, ended.stderr))
-        return {FIRST + p: ended.stdout[p] for p in range(PLACES) if ended.stdout[PLACES + p]}
+        marked = model.unpacked(ended.stdout[PLACES:], PLACES)
+        return {FIRST + p: ended.stdout[p] for p in range(PLACES) if marked[p]}
 
 
 def wrong_characters(text, number):

@@ -71,6 +71,18 @@ size_t floor_read_text(const uint8_t *text, size_t len, uint8_t *pool, uint64_t 
     return records;
 }
 
+/* Marks n places from one on: one bit each, the lowest of a byte first. */
+static void mark(uint8_t *marks, size_t from, size_t n)
+{
+    for (size_t place = from; place < from + n; place++)
+        marks[place / 8] |= 1 << place % 8;
+}
+
+static int marked(const uint8_t *marks, size_t place)
+{
+    return marks[place / 8] >> place % 8 & 1;
+}
+
 /* Loads a text with no extension record; what passes the page's end goes on at its start. Judges first, then writes. */
 size_t floor_load(const uint8_t *text, size_t len, uint8_t *page, uint8_t *marks, size_t size)
 {
@@ -78,7 +90,7 @@ size_t floor_load(const uint8_t *text, size_t len, uint8_t *page, uint8_t *marks
     for (int write = 0; write < 2; write++) {
         size_t records = 0;
         if (write)
-            memset(marks, 0, size);
+            memset(marks, 0, (size + 7) / 8);
         for (size_t position = 0; position < len;) {
             size_t from = position, n = cut(text, len, &position);
             if (n == 0)
@@ -96,9 +108,9 @@ size_t floor_load(const uint8_t *text, size_t len, uint8_t *page, uint8_t *marks
             records++;
             if (write) {
                 memcpy(page + offset, bytes + 4, here);
-                memset(marks + offset, 1, here);
+                mark(marks, offset, here);
                 memcpy(page, bytes + 4 + here, n - 5 - here);
-                memset(marks, 1, n - 5 - here);
+                mark(marks, 0, n - 5 - here);
             }
         }
         if (write)
@@ -147,7 +159,7 @@ size_t floor_write_object(const uint8_t *pool, size_t n, size_t records, uint8_t
 static size_t taken(uint32_t first, const uint8_t *marks, size_t size, size_t i)
 {
     size_t n = 1;
-    while (n < 16 && i + n < size && marks[i + n] == 1 && (uint16_t)(first + i + n) != 0)
+    while (n < 16 && i + n < size && marked(marks, i + n) && (uint16_t)(first + i + n) != 0)
         n++;
     return n;
 }
@@ -160,19 +172,24 @@ static uint8_t *put_line(uint8_t *out, uint8_t kind, uint16_t address, const uin
     return out + 1;
 }
 
+/* The first marked place from i on, or the size. Bytes with no mark are passed at once. */
+static size_t next_marked(const uint8_t *marks, size_t size, size_t i)
+{
+    while (i < size && !marked(marks, i))
+        i = i % 8 == 0 && marks[i / 8] == 0 ? i + 8 : i + 1;
+    return i < size ? i : size;
+}
+
 /* The marked places of a page, and an end record; the text's length, or 0. Judges first, then writes. */
 size_t floor_write_page(uint32_t first, const uint8_t *page, const uint8_t *marks, size_t size, uint8_t *out, size_t room)
 {
     uint8_t *end = out;
     size_t length = 12;
+    if (size % 8 != 0 && marks[size / 8] >> size % 8 != 0)
+        return 0;
     for (int write = 0; write < 2; write++) {
         uint32_t upper = 65536;
-        for (size_t i = 0, n; i < size; i += n) {
-            n = 1;
-            if (marks[i] == 0)
-                continue;
-            if (marks[i] > 1)
-                return 0;
+        for (size_t i, n, from = 0; (i = next_marked(marks, size, from)) < size; from = i + n) {
             n = taken(first, marks, size, i);
             uint32_t address = first + i;
             uint8_t base[2] = {address >> 24, address >> 16};

@@ -1,6 +1,6 @@
 /* Calls each function of ihex.h on telling inputs, with guard bytes around every buffer and number that is lent.
  * The last line is 'N passed, M failed'. */
-#include <ihex.h>
+#include "marks.h"
 #include <ctype.h>
 #include <stdio.h>
 #include <string.h>
@@ -1385,13 +1385,35 @@ static void refused_objects(void)
     CHECK(write_list(some, 3, 301, 2 * 522 + 12) == IHEX_OK && a.value == 2 * 522 + 12);
 }
 
+/* ---- packed marks: place p is bit p modulo 8 of byte p / 8, lowest bit first */
+
+static size_t packed_len(size_t places)
+{
+    return (places + 7) / 8;
+}
+
+static int unpacked(const uint8_t *marks, size_t place)
+{
+    return marks[place / 8] / (1 << place % 8) % 2;
+}
+
+/* the marks of so many places, given a byte for each, 1 or 0 */
+static void pack(uint8_t *marks, const uint8_t *marked, size_t places)
+{
+    size_t p;
+    memset(marks, 0, packed_len(places));
+    for (p = 0; p < places; p++)
+        marks[p / 8] = (uint8_t)(marks[p / 8] + (marked[p] << p % 8));
+}
+
 /* ---- a load */
 
-static uint32_t load(const char *text, uint32_t first, size_t page_len, size_t marks_len)
+/* a load with the marks_len bytes of marks that marks_ has */
+static uint32_t load_upon(const char *text, uint32_t first, size_t page_len, size_t marks_len)
 {
     size_t n = strlen(text);
     const uint8_t *bytes = given(&text_, text, n);
-    uint8_t *page = lend(&page_, page_len), *marks = lend(&marks_, marks_len);
+    uint8_t *page = lend(&page_, page_len), *marks = marks_len ? marks_.all + EDGE : NULL;
     uint32_t r;
     fresh();
     line.value = 77;
@@ -1400,16 +1422,35 @@ static uint32_t load(const char *text, uint32_t first, size_t page_len, size_t m
     return r;
 }
 
+/* a load with so many bytes of marks, each OLD */
+static uint32_t load_with(const char *text, uint32_t first, size_t page_len, size_t marks_len)
+{
+    lend(&marks_, marks_len);
+    return load_upon(text, first, page_len, marks_len);
+}
+
+static uint32_t load(const char *text, uint32_t first, size_t places)
+{
+    return load_with(text, first, places, packed_len(places));
+}
+
+/* whether the marks are those of so many places, one character a place, '0' or '1' */
+static int marks_are(const char *marks, size_t places)
+{
+    size_t p;
+    if (marks_.len != packed_len(places) || !guarded(&marks_))
+        return 0;
+    for (p = 0; p < 8 * marks_.len; p++)
+        if (unpacked(marks_.all + EDGE, p) != (p < places && marks[p] == '1'))
+            return 0;
+    return 1;
+}
+
 /* the count, the marks whole, and the bytes of the page from a place on */
 static int loaded(uint64_t count, const char *marks, size_t at, const char *bytes)
 {
-    size_t i;
-    if (a.value != count || b.value != 0 || line.value != 0 || marks_.len != strlen(marks))
-        return 0;
-    for (i = 0; i < marks_.len; i++)
-        if (marks_.all[EDGE + i] != (uint8_t)(marks[i] - '0'))
-            return 0;
-    return marks_.all[EDGE - 1] == GUARD && marks_.all[EDGE + marks_.len] == GUARD && holds(&page_, at, bytes, strlen(bytes));
+    return a.value == count && b.value == 0 && line.value == 0 && marks_are(marks, strlen(marks)) &&
+           holds(&page_, at, bytes, strlen(bytes));
 }
 
 static int not_loaded(uint64_t x, uint64_t y, size_t l)
@@ -1423,23 +1464,23 @@ static const char end_line[] = ":00000001FF";
 static void loads_in_windows(void)
 {
     static const char doc[] = ":020000021200EA\n:010005007783\n:00000001FF\n";
-    CHECK(load(doc, 0x12000, 8, 8) == IHEX_OK);
+    CHECK(load(doc, 0x12000, 8) == IHEX_OK);
     CHECK(loaded(1, "00000100", 5, "\x77"));
-    CHECK(load(doc, 0x12005, 1, 1) == IHEX_OK);
+    CHECK(load(doc, 0x12005, 1) == IHEX_OK);
     CHECK(loaded(1, "1", 0, "\x77"));
-    CHECK(load(doc, 0x12000, 5, 5) == IHEX_REFUSED + IHEX_OUTSIDE_WINDOW);
+    CHECK(load(doc, 0x12000, 5) == IHEX_REFUSED + IHEX_OUTSIDE_WINDOW);
     CHECK(not_loaded(0x12005, 0, 2));
-    CHECK(load(doc, 0x12006, 8, 8) == IHEX_REFUSED + IHEX_OUTSIDE_WINDOW);
+    CHECK(load(doc, 0x12006, 8) == IHEX_REFUSED + IHEX_OUTSIDE_WINDOW);
     CHECK(not_loaded(0x12005, 0, 2));
-    CHECK(load(doc, 0, 0, 0) == IHEX_REFUSED + IHEX_OUTSIDE_WINDOW);
+    CHECK(load(doc, 0, 0) == IHEX_REFUSED + IHEX_OUTSIDE_WINDOW);
     CHECK(not_loaded(0x12005, 0, 2));
 
     /* the last statement stands; text behind the end is not read; no data at all */
-    CHECK(load(":0100000011EE\n:0100000022DD\n:00000001FF\n:G\n", 0, 2, 2) == IHEX_OK);
+    CHECK(load(":0100000011EE\n:0100000022DD\n:00000001FF\n:G\n", 0, 2) == IHEX_OK);
     CHECK(loaded(2, "10", 0, "\x22"));
-    CHECK(load(end_line, 0xFFFFFFFF, 0, 0) == IHEX_OK);
+    CHECK(load(end_line, 0xFFFFFFFF, 0) == IHEX_OK);
     CHECK(loaded(0, "", 0, ""));
-    CHECK(load(end_line, 0, 3, 3) == IHEX_OK);
+    CHECK(load(end_line, 0, 3) == IHEX_OK);
     CHECK(loaded(0, "000", 0, ""));
 }
 
@@ -1447,11 +1488,11 @@ static void loads_in_windows(void)
 static int at_both_ends(void)
 {
     size_t i;
-    if (a.value != 1 || b.value != 0 || line.value != 0 || page_.len != IHEX_MAX_PAGE || marks_.len != IHEX_MAX_PAGE)
+    if (a.value != 1 || b.value != 0 || line.value != 0 || page_.len != IHEX_MAX_PAGE || marks_.len != IHEX_MAX_MARKS)
         return 0;
     for (i = 0; i < IHEX_MAX_PAGE; i++) {
         int stated = i == 0 || i == IHEX_MAX_PAGE - 1;
-        if (marks_.all[EDGE + i] != stated || page_.all[EDGE + i] != (i == 0 ? 0xBB : stated ? 0xAA : OLD))
+        if (unpacked(marks_.all + EDGE, i) != stated || page_.all[EDGE + i] != (i == 0 ? 0xBB : stated ? 0xAA : OLD))
             return 0;
     }
     return guarded(&page_) && guarded(&marks_);
@@ -1477,40 +1518,40 @@ static void loads_across_segments(void)
     for (i = 0; i < sizeof wraps / sizeof *wraps; i++) {
         const char *text = wraps[i].text;
         uint32_t base = wraps[i].base;
-        CHECK(load(text, base, IHEX_MAX_PAGE, IHEX_MAX_PAGE) == IHEX_OK);
+        CHECK(load(text, base, IHEX_MAX_PAGE) == IHEX_OK);
         CHECK(at_both_ends());
-        CHECK(load(text, base + 0xFFFF, 2, 2) == IHEX_REFUSED + IHEX_OUTSIDE_WINDOW);
+        CHECK(load(text, base + 0xFFFF, 2) == IHEX_REFUSED + IHEX_OUTSIDE_WINDOW);
         CHECK(not_loaded(base, 0, wraps[i].line));
-        CHECK(load(text, base, 8, 8) == IHEX_REFUSED + IHEX_OUTSIDE_WINDOW);
+        CHECK(load(text, base, 8) == IHEX_REFUSED + IHEX_OUTSIDE_WINDOW);
         CHECK(not_loaded(base + 0xFFFF, 0, wraps[i].line));
     }
     /* inside the window, outside, and inside again */
-    CHECK(load(":03FFFE001122339A\n:00000001FF\n", 0, IHEX_MAX_PAGE - 1, IHEX_MAX_PAGE - 1) == IHEX_REFUSED + IHEX_OUTSIDE_WINDOW);
+    CHECK(load(":03FFFE001122339A\n:00000001FF\n", 0, IHEX_MAX_PAGE - 1) == IHEX_REFUSED + IHEX_OUTSIDE_WINDOW);
     CHECK(not_loaded(0xFFFF, 0, 1));
-    CHECK(load(":020000040000FA\n:02FFFF00AABB9B\n:00000001FF\n", 0xFFFF, 2, 2) == IHEX_OK);
+    CHECK(load(":020000040000FA\n:02FFFF00AABB9B\n:00000001FF\n", 0xFFFF, 2) == IHEX_OK);
     CHECK(loaded(1, "11", 0, "\xAA\xBB"));
-    CHECK(load(":020000021200EA\n:020000040001F9\n:02FFFF00AABB9B\n:00000001FF\n", 0x1FFFF, 2, 2) == IHEX_OK);
+    CHECK(load(":020000021200EA\n:020000040001F9\n:02FFFF00AABB9B\n:00000001FF\n", 0x1FFFF, 2) == IHEX_OK);
     CHECK(loaded(1, "11", 0, "\xAA\xBB"));
-    CHECK(load(":02000004FFFFFC\n:02FFFF00AABB9B\n:00000001FF\n", 0xFFFFFFFF, 1, 1) == IHEX_REFUSED + IHEX_OUTSIDE_WINDOW);
+    CHECK(load(":02000004FFFFFC\n:02FFFF00AABB9B\n:00000001FF\n", 0xFFFFFFFF, 1) == IHEX_REFUSED + IHEX_OUTSIDE_WINDOW);
     CHECK(not_loaded(0, 0, 2));
-    CHECK(load(":02000004FFFFFC\n:02FFFF00AABB9B\n:00000001FF\n", 0, 1, 1) == IHEX_REFUSED + IHEX_OUTSIDE_WINDOW);
+    CHECK(load(":02000004FFFFFC\n:02FFFF00AABB9B\n:00000001FF\n", 0, 1) == IHEX_REFUSED + IHEX_OUTSIDE_WINDOW);
     CHECK(not_loaded(0xFFFFFFFF, 0, 2));
-    CHECK(load(":02000004FFFFFC\n:01FFFF00AA57\n:00000001FF\n", 0xFFFFFFFF, 1, 1) == IHEX_OK);
+    CHECK(load(":02000004FFFFFC\n:01FFFF00AA57\n:00000001FF\n", 0xFFFFFFFF, 1) == IHEX_OK);
     CHECK(loaded(1, "1", 0, "\xAA"));
 }
 
 /* refusals of lines, with their numbers, and of texts without an end */
 static void refused_loads(void)
 {
-    CHECK(load(":0100000011EE\n\n\r\n:00000001FE\n:00000001FF\n", 0, 2, 2) == IHEX_REFUSED + IHEX_CHECKSUM_MISMATCH);
+    CHECK(load(":0100000011EE\n\n\r\n:00000001FE\n:00000001FF\n", 0, 2) == IHEX_REFUSED + IHEX_CHECKSUM_MISMATCH);
     CHECK(not_loaded(0xFF, 0xFE, 4));
-    CHECK(load(":00000006FA", 0, 2, 2) == IHEX_REFUSED + IHEX_UNSUPPORTED_RECORD_TYPE);
+    CHECK(load(":00000006FA", 0, 2) == IHEX_REFUSED + IHEX_UNSUPPORTED_RECORD_TYPE);
     CHECK(not_loaded(6, 0, 1));
-    CHECK(load(":0100000011EE\nx", 0, 2, 2) == IHEX_REFUSED + IHEX_MISSING_START_CODE);
+    CHECK(load(":0100000011EE\nx", 0, 2) == IHEX_REFUSED + IHEX_MISSING_START_CODE);
     CHECK(not_loaded(0, 0, 2));
-    CHECK(load(":0100000011EE\n", 0, 2, 2) == IHEX_REFUSED + IHEX_MISSING_END_OF_FILE_RECORD);
+    CHECK(load(":0100000011EE\n", 0, 2) == IHEX_REFUSED + IHEX_MISSING_END_OF_FILE_RECORD);
     CHECK(not_loaded(0, 0, 0));
-    CHECK(load("", 0, 0, 0) == IHEX_REFUSED + IHEX_MISSING_END_OF_FILE_RECORD);
+    CHECK(load("", 0, 0) == IHEX_REFUSED + IHEX_MISSING_END_OF_FILE_RECORD);
     CHECK(not_loaded(0, 0, 0));
 }
 
@@ -1524,33 +1565,34 @@ static void places_in_loads(void)
             for (m = 0; m < 3; m++) {
                 begin_case();
                 spoil(":0100000011EE\n\n\r\n", offenders[i].at, rests[k], behinds[m]);
-                CHECK(load(spoilt, 0, 2, 2) == IHEX_REFUSED + IHEX_CONTAINS_INVALID_CHARACTERS);
+                CHECK(load(spoilt, 0, 2) == IHEX_REFUSED + IHEX_CONTAINS_INVALID_CHARACTERS);
                 CHECK(not_loaded(offenders[i].named, 0, 4));
                 end_case();
             }
-    CHECK(load(":00000001FF\r", 0, 2, 2) == IHEX_REFUSED + IHEX_CONTAINS_INVALID_CHARACTERS);
+    CHECK(load(":00000001FF\r", 0, 2) == IHEX_REFUSED + IHEX_CONTAINS_INVALID_CHARACTERS);
     CHECK(not_loaded(11, 0, 1));
-    CHECK(load(":00000001FF\r\r\n", 0, 2, 2) == IHEX_REFUSED + IHEX_CONTAINS_INVALID_CHARACTERS);
+    CHECK(load(":00000001FF\r\r\n", 0, 2) == IHEX_REFUSED + IHEX_CONTAINS_INVALID_CHARACTERS);
     CHECK(not_loaded(11, 0, 1));
-    CHECK(load(":00000001FF\r\n:G", 0, 2, 2) == IHEX_OK);
+    CHECK(load(":00000001FF\r\n:G", 0, 2) == IHEX_OK);
     CHECK(loaded(0, "00", 0, ""));
-    CHECK(load("\n0G\n:G\n", 0, 2, 2) == IHEX_REFUSED + IHEX_MISSING_START_CODE);
+    CHECK(load("\n0G\n:G\n", 0, 2) == IHEX_REFUSED + IHEX_MISSING_START_CODE);
     CHECK(not_loaded(0, 0, 2));
-    CHECK(load(":0100020011EC\n:G\n", 0, 2, 2) == IHEX_REFUSED + IHEX_OUTSIDE_WINDOW);
+    CHECK(load(":0100020011EC\n:G\n", 0, 2) == IHEX_REFUSED + IHEX_OUTSIDE_WINDOW);
     CHECK(not_loaded(2, 0, 1));
 }
 
 static void windows(void)
 {
-    CHECK(load(end_line, 0, 2, 3) == IHEX_REFUSED + IHEX_BAD_WINDOW);
+    CHECK(load_with(end_line, 0, 2, 2) == IHEX_REFUSED + IHEX_BAD_WINDOW);
     CHECK(not_loaded(0, 0, 0));
-    CHECK(load(end_line, 0, 0, 1) == IHEX_REFUSED + IHEX_BAD_WINDOW);
-    CHECK(load(":G", 0, IHEX_MAX_PAGE + 1, IHEX_MAX_PAGE + 1) == IHEX_REFUSED + IHEX_BAD_WINDOW);
+    CHECK(load_with(end_line, 0, 0, 1) == IHEX_REFUSED + IHEX_BAD_WINDOW);
+    CHECK(load(":G", 0, IHEX_MAX_PAGE + 1) == IHEX_REFUSED + IHEX_BAD_WINDOW);
     CHECK(not_loaded(0, 0, 0));
-    CHECK(load(end_line, 0, IHEX_MAX_PAGE, IHEX_MAX_PAGE) == IHEX_OK && a.value == 0 && untouched(&page_));
-    CHECK(load(end_line, 0xFFFFFFFF, 2, 2) == IHEX_REFUSED + IHEX_BAD_WINDOW);
-    CHECK(load(end_line, 0xFFFF0000, IHEX_MAX_PAGE, IHEX_MAX_PAGE) == IHEX_OK);
-    CHECK(load(end_line, 0xFFFF0001, IHEX_MAX_PAGE, IHEX_MAX_PAGE) == IHEX_REFUSED + IHEX_BAD_WINDOW);
+    CHECK(load_with(":G", 0, IHEX_MAX_PAGE + 1, IHEX_MAX_MARKS) == IHEX_REFUSED + IHEX_BAD_WINDOW);
+    CHECK(load(end_line, 0, IHEX_MAX_PAGE) == IHEX_OK && a.value == 0 && untouched(&page_));
+    CHECK(load(end_line, 0xFFFFFFFF, 2) == IHEX_REFUSED + IHEX_BAD_WINDOW);
+    CHECK(load(end_line, 0xFFFF0000, IHEX_MAX_PAGE) == IHEX_OK);
+    CHECK(load(end_line, 0xFFFF0001, IHEX_MAX_PAGE) == IHEX_REFUSED + IHEX_BAD_WINDOW);
 }
 
 /* ---- a full page, written and loaded again */
@@ -1558,7 +1600,7 @@ static void windows(void)
 #define PAGE_RECORDS (IHEX_MAX_PAGE / 16)
 #define PAGE_TEXT (PAGE_RECORDS * (11 + 2 * 16 + 1) + 12)
 
-static uint8_t dump[IHEX_MAX_PAGE], written[PAGE_TEXT + 1], shown[IHEX_MAX_PAGE], set[IHEX_MAX_PAGE];
+static uint8_t dump[IHEX_MAX_PAGE], written[PAGE_TEXT + 1], shown[IHEX_MAX_PAGE], set[IHEX_MAX_MARKS];
 static struct ihex_record list[PAGE_RECORDS + 1];
 
 static uint32_t write_full_page(size_t out_len, uint64_t *value)
@@ -1589,34 +1631,35 @@ static void full_page(void)
     CHECK(ihex_load(written, PAGE_TEXT, 0, shown, sizeof shown, set, sizeof set, &at_line, &records, &none) == IHEX_OK);
     CHECK(records == PAGE_RECORDS && none == 0 && at_line == 0);
     CHECK(memcmp(shown, dump, sizeof dump) == 0);
-    for (i = 0; i < sizeof set && set[i] == 1; i++)
-        ;
-    CHECK(i == sizeof set);
+    CHECK(all_are(0xFF, set, sizeof set));
 }
 
 /* ---- a page written back */
 
 #define END_LINE ":00000001FF\n"
 
-/* what is to be written */
+/* what is to be written; `marked` has a byte for each place, 1 or 0, and `unused` the bits that are set after the last place */
 static struct {
     uint32_t first;
     size_t page_len, marks_len;
-    uint8_t page[IHEX_MAX_PAGE + 1], marks[IHEX_MAX_PAGE + 1];
+    uint8_t unused;
+    uint8_t page[IHEX_MAX_PAGE + 1], marked[IHEX_MAX_PAGE + 1], marks[IHEX_MAX_PAGE];
 } window;
 
 /* a window with nothing marked, and AB at each place */
 static void open_window(uint32_t first, size_t places)
 {
     window.first = first;
-    window.page_len = window.marks_len = places;
+    window.page_len = places;
+    window.marks_len = packed_len(places);
+    window.unused = 0;
     memset(window.page, 0xAB, sizeof window.page);
-    memset(window.marks, 0, sizeof window.marks);
+    memset(window.marked, 0, sizeof window.marked);
 }
 
 static void mark(size_t at, size_t n)
 {
-    memset(window.marks + at, 1, n);
+    memset(window.marked + at, 1, n);
 }
 
 /* bytes that tell one place from another */
@@ -1627,10 +1670,20 @@ static void fill_window(void)
         window.page[i] = (uint8_t)(i * 7 + i / 256);
 }
 
+/* the marks of the window, packed */
+static const uint8_t *given_marks(void)
+{
+    memset(window.marks, 0, sizeof window.marks);
+    pack(window.marks, window.marked, window.page_len);
+    if (window.unused)
+        window.marks[window.page_len / 8] |= window.unused;
+    return given(&marks_, window.marks, window.marks_len);
+}
+
 static uint32_t page_file_length(void)
 {
     const uint8_t *page = given(&page_, window.page, window.page_len);
-    const uint8_t *marks = given(&marks_, window.marks, window.marks_len);
+    const uint8_t *marks = given_marks();
     uint32_t r;
     fresh();
     r = ihex_page_file_length(window.first, page, window.page_len, marks, window.marks_len, &a.value);
@@ -1644,7 +1697,7 @@ static struct lent *file;
 static uint32_t page_file(size_t out_len)
 {
     const uint8_t *page = given(&page_, window.page, window.page_len);
-    const uint8_t *marks = given(&marks_, window.marks, window.marks_len);
+    const uint8_t *marks = given_marks();
     uint8_t *out;
     uint32_t r;
     file = out_len <= MOST ? &out_ : &file_;
@@ -1669,15 +1722,15 @@ static uint64_t data_records(const char *text, size_t n)
 /* the file that was just written, loaded into the same window: all marks are stated anew, and unmarked bytes are kept */
 static int loads_back(const char *text, size_t n)
 {
-    size_t i, places = window.page_len;
-    uint8_t *page = lend(&page_, places), *marks = lend(&marks_, places);
+    size_t i, places = window.page_len, marks_len = window.marks_len;
+    uint8_t *page = lend(&page_, places), *marks = lend(&marks_, marks_len);
     fresh();
-    if (ihex_load(file->all + EDGE, n, window.first, page, places, marks, places, &line.value, &a.value, &b.value) != IHEX_OK)
+    if (ihex_load(file->all + EDGE, n, window.first, page, places, marks, marks_len, &line.value, &a.value, &b.value) != IHEX_OK)
         return 0;
     if (a.value != data_records(text, n) || b.value != 0 || line.value != 0 || !fenced() || !same(&marks_, window.marks))
         return 0;
     for (i = 0; i < places; i++)
-        if (page[i] != (window.marks[i] ? window.page[i] : OLD))
+        if (page[i] != (window.marked[i] ? window.page[i] : OLD))
             return 0;
     return guarded(&page_) && same(file, text);
 }
@@ -1687,7 +1740,7 @@ static void turn_unmarked(void)
 {
     size_t i;
     for (i = 0; i < window.page_len; i++)
-        if (!window.marks[i])
+        if (!window.marked[i])
             window.page[i] = (uint8_t)~window.page[i];
 }
 
@@ -1756,11 +1809,11 @@ static void want_page(void)
     wanted_len = 0;
     for (p = 0; p < window.page_len; p++) {
         uint32_t address = window.first + (uint32_t)p;
-        if (n == 16 || !window.marks[p] || address % 65536 == 0) {
+        if (n == 16 || !window.marked[p] || address % 65536 == 0) {
             want_line(IHEX_DATA, offset, record, n);
             n = 0;
         }
-        if (!window.marks[p])
+        if (!window.marked[p])
             continue;
         if (base != address / 65536) {
             base = address / 65536;
@@ -1798,7 +1851,7 @@ static void pages_across_a_multiple(void)
 {
     open_window(0xFFFE, 20);
     mark(0, 20);
-    window.marks[18] = 0;
+    window.marked[18] = 0;
     has_text(":020000040000FA\n:02FFFE00ABABAB\n:020000040001F9\n:10000000" AB16 "40\n:01001100AB43\n" END_LINE);
     open_window(0xFFF0, 40);
     mark(8, 25);
@@ -1873,24 +1926,26 @@ static void runs_in_pages(void)
         }
 }
 
-/* page and marks of two lengths, too many places, an end beyond 2^32: ahead of marks and room */
+/* marks of another length, too many places, an end beyond 2^32: before unused bits and room */
 static void pages_in_bad_windows(void)
 {
     static const struct {
         uint32_t first;
         size_t page_len, marks_len;
     } bad[] = {
-        {0, 0, 1}, {0, 1, 0}, {0, 2, 3}, {0, 3, 2}, {0, IHEX_MAX_PAGE, IHEX_MAX_PAGE + 1}, {0, IHEX_MAX_PAGE + 1, IHEX_MAX_PAGE},
-        {0, IHEX_MAX_PAGE + 1, IHEX_MAX_PAGE + 1}, {0xFFFFFFFF, 2, 2}, {0xFFFFFFF0, 17, 17},
-        {0xFFFF0001, IHEX_MAX_PAGE, IHEX_MAX_PAGE}, {0xFFFFFFFF, IHEX_MAX_PAGE, IHEX_MAX_PAGE},
+        {0, 0, 1}, {0, 1, 0}, {0, 2, 2}, {0, 3, 3}, {0, 8, 2}, {0, 9, 1}, {0, 17, 2}, {0, 17, 4}, {0, 64, 64}, {0, IHEX_MAX_PAGE, IHEX_MAX_MARKS - 1},
+        {0, IHEX_MAX_PAGE, IHEX_MAX_MARKS + 1}, {0, IHEX_MAX_PAGE + 1, IHEX_MAX_MARKS}, {0, IHEX_MAX_PAGE + 1, IHEX_MAX_MARKS + 1},
+        {0xFFFFFFFF, 2, 1}, {0xFFFFFFF0, 17, 3}, {0xFFFF0001, IHEX_MAX_PAGE, IHEX_MAX_MARKS}, {0xFFFFFFFF, IHEX_MAX_PAGE, IHEX_MAX_MARKS},
     };
-    static const uint8_t marks[] = {0, 1, 2};
     size_t i, k;
     for (i = 0; i < sizeof bad / sizeof *bad; i++)
-        for (k = 0; k < sizeof marks; k++) {
+        for (k = 0; k < 3; k++) {
             open_window(bad[i].first, bad[i].page_len);
             window.marks_len = bad[i].marks_len;
-            memset(window.marks, marks[k], sizeof window.marks);
+            if (k > 0)
+                mark(0, bad[i].page_len);
+            if (k > 1)
+                window.unused = 0x80;
             has_no_file(IHEX_BAD_WINDOW, 0);
         }
 }
@@ -1909,7 +1964,7 @@ static void pages_in_last_windows(void)
         mark(0, last[i].places);
         has_wanted_file();
         for (p = 0; p < last[i].places; p += 3)
-            window.marks[p] = 0;
+            window.marked[p] = 0;
         has_wanted_file();
         open_window(last[i].first, last[i].places);
         mark(last[i].places - 1, 1);
@@ -1917,26 +1972,49 @@ static void pages_in_last_windows(void)
     }
 }
 
-/* the first mark that is neither 0 nor 1 is named, ahead of any want of room */
-static void pages_with_bad_marks(void)
+/* the window with this last byte of its marks: its file, or the lowest set bit after the last place is named, before any want of room */
+static void has_last_byte(uint8_t byte)
 {
-    static const uint8_t bad[] = {2, 3, 127, 128, 254, 255};
-    static const size_t lengths[] = {1, 2, 40, IHEX_MAX_PAGE};
-    size_t i, k, n;
-    for (i = 0; i < sizeof bad; i++)
-        for (k = 0; k < sizeof lengths / sizeof *lengths; k++) {
-            n = lengths[k];
-            open_window(0x8000, n);
-            mark(n / 2, n - n / 2);
-            window.marks[n - 1] = bad[i];
-            has_no_file(IHEX_BAD_MARK, n - 1);
-            window.marks[n / 2] = bad[i];
-            has_no_file(IHEX_BAD_MARK, n / 2);
-            window.marks[n / 2] = (uint8_t)(257 - bad[i]);
-            has_no_file(IHEX_BAD_MARK, n / 2);
-            window.marks[0] = bad[i];
-            has_no_file(IHEX_BAD_MARK, 0);
+    size_t p, places = window.page_len, end = 8 * window.marks_len;
+    window.unused = 0;
+    for (p = end - 8; p < places; p++)
+        window.marked[p] = byte >> p % 8 & 1;
+    for (p = places; p < end && !(byte >> p % 8 & 1); p++)
+        ;
+    if (p == end) {
+        has_wanted_file();
+        return;
+    }
+    window.unused = (uint8_t)(byte >> places % 8 << places % 8);
+    has_no_file(IHEX_BAD_MARK, p);
+}
+
+/* every last byte of the marks of a few places, and each of its bits in the longest rows; the marks of the other places alter nothing */
+static void pages_with_unused_bits(void)
+{
+    static const size_t few[] = {1, 3, 7, 8, 9, 15, 16, 17}, many[] = {65529, 65530, 65535, IHEX_MAX_PAGE};
+    size_t i, k;
+    for (i = 0; i < sizeof few / sizeof *few; i++)
+        for (k = 0; k < 256; k++) {
+            open_window(0xFFFA, few[i]);
+            fill_window();
+            mark(0, k % 2 ? few[i] / 2 : 0);
+            has_last_byte((uint8_t)k);
         }
+    for (i = 0; i < sizeof many / sizeof *many; i++)
+        for (k = 0; k < 8; k++) {
+            open_window(0x8000, many[i]);
+            fill_window();
+            mark(k, many[i] / 2);
+            has_last_byte((uint8_t)(1 << k));
+            has_last_byte((uint8_t)(0xFF << k));
+        }
+    /* 3 places with the marks 22: the second place is marked, and so is the unused bit 5 */
+    open_window(0, 3);
+    mark(1, 1);
+    window.unused = 0x20;
+    has_no_file(IHEX_BAD_MARK, 5);
+    CHECK(window.marks[0] == 0x22);
 }
 
 /* a whole window with every second place marked, but two side by side at a multiple of 65,536: no file is longer */
@@ -1949,10 +2027,10 @@ static void greatest_files(void)
         open_window((uint32_t)(0x20000 - before[i]), IHEX_MAX_PAGE);
         fill_window();
         for (p = 0; p < IHEX_MAX_PAGE; p++)
-            window.marks[p] = p < before[i] ? p % 2 == 0 : p % 2 == 1;
+            window.marked[p] = p < before[i] ? p % 2 == 0 : p % 2 == 1;
         has_wanted_file();
         CHECK(wanted_len == IHEX_MAX_PAGE_FILE);
-        window.marks[before[i]] = 0;
+        window.marked[before[i]] = 0;
         has_wanted_file();
         CHECK(wanted_len == IHEX_MAX_PAGE_FILE - 14 - (before[i] == 65535 ? 16 : 0));
     }
@@ -1996,10 +2074,10 @@ static void drawn_pages(void)
     for (i = 0; i < 4000; i++) {
         draw_window();
         has_wanted_file();
-        if (i % 8 == 0 && window.page_len > 0) {
-            size_t bad = draw((uint32_t)window.page_len);
-            window.marks[bad] = (uint8_t)(2 + draw(254));
-            has_no_file(IHEX_BAD_MARK, bad);
+        if (i % 8 == 0 && window.page_len % 8 > 0) {
+            size_t bad = window.page_len % 8 + draw((uint32_t)(8 - window.page_len % 8));
+            window.unused = (uint8_t)((2 * draw(128) + 1) << bad);
+            has_no_file(IHEX_BAD_MARK, window.page_len / 8 * 8 + bad);
         }
     }
 }
@@ -2012,9 +2090,153 @@ static void written_pages(void)
     runs_in_pages();
     pages_in_bad_windows();
     pages_in_last_windows();
-    pages_with_bad_marks();
+    pages_with_unused_bits();
     greatest_files();
     drawn_pages();
+}
+
+/* ---- loads into packed marks */
+
+static const size_t lengths_of_windows[] = {0, 1, 7, 8, 9, 15, 16, 17, 65535, IHEX_MAX_PAGE};
+#define LENGTHS (sizeof lengths_of_windows / sizeof *lengths_of_windows)
+#define SHORT_LENGTHS (LENGTHS - 2) /* without the last two */
+
+/* a text that states n places from one on, with a record for each of these bytes: all n places hold it */
+static const char *stating(size_t at, size_t n, const char *fills)
+{
+    uint8_t bytes[IHEX_MAX_PAYLOAD];
+    wanted_len = 0;
+    for (; *fills; fills++) {
+        memset(bytes, *fills, n);
+        want_line(IHEX_DATA, (uint32_t)at, bytes, n);
+    }
+    want_line(IHEX_END_OF_FILE, 0, NULL, 0);
+    wanted[wanted_len] = 0;
+    return wanted;
+}
+
+/* the count, and n marked places from one on, which hold a byte; no other place is marked, no unused bit set and no other byte changed */
+static int run_is_loaded(uint64_t count, size_t at, size_t n, char byte)
+{
+    char bytes[IHEX_MAX_PAYLOAD];
+    size_t p;
+    memset(bytes, byte, n);
+    for (p = 0; p < 8 * marks_.len; p++)
+        if (unpacked(marks_.all + EDGE, p) != (at <= p && p < at + n))
+            return 0;
+    return a.value == count && b.value == 0 && line.value == 0 && guarded(&marks_) && holds(&page_, at, bytes, n);
+}
+
+/* whether the page is as it was, and the marks are what they were set to */
+static int kept(const uint8_t *marks)
+{
+    return untouched(&page_) && same(&marks_, marks);
+}
+
+/* one test: marks whose bytes are OLD, but the last this one. Accepted loads leave nothing of them, and refused loads all */
+static void loads_upon(size_t places, uint8_t last)
+{
+    static const char outside[] = ":0100000011EE\n:020000040001F9\n:0100000011EE\n:00000001FF\n";
+    static uint8_t held[IHEX_MAX_MARKS];
+    size_t n = packed_len(places);
+    memset(held, OLD, n);
+    held[n - 1] = last;
+    begin_case();
+    given(&marks_, held, n);
+    CHECK(load_upon("", 0, places, n) == IHEX_REFUSED + IHEX_MISSING_END_OF_FILE_RECORD && kept(held));
+    CHECK(load_upon(outside, 0, places, n) == IHEX_REFUSED + IHEX_OUTSIDE_WINDOW && kept(held));
+    CHECK(load_upon(":0100000011EF\n", 0, places, n) == IHEX_REFUSED + IHEX_CHECKSUM_MISMATCH && kept(held));
+    CHECK(load_upon(end_line, 0, places, n) == IHEX_OK && run_is_loaded(0, 0, 0, 0));
+    given(&marks_, held, n);
+    CHECK(load_upon(stating(places - 1, 1, "u"), 0, places, n) == IHEX_OK && run_is_loaded(1, places - 1, 1, 'u'));
+    given(&marks_, held, n);
+    CHECK(load_upon(stating(0, 1, "v"), 0, places, n) == IHEX_OK && run_is_loaded(1, 0, 1, 'v'));
+    end_case();
+}
+
+/* each bit of the last byte, by itself, all and none */
+static void bits_before_loads(void)
+{
+    size_t i, k;
+    for (i = 1; i < LENGTHS; i++) {
+        for (k = 0; k < 8; k++)
+            loads_upon(lengths_of_windows[i], (uint8_t)(1 << k));
+        loads_upon(lengths_of_windows[i], 0);
+        loads_upon(lengths_of_windows[i], 0xFF);
+    }
+    /* the loader refuses no marks for what they hold */
+    lend(&marks_, 1)[0] = 0xFF;
+    CHECK(load_upon(end_line, 0, 6, 1) == IHEX_OK && loaded(0, "000000", 0, ""));
+    CHECK(load(end_line, 0, 0) == IHEX_OK && loaded(0, "", 0, ""));
+}
+
+/* one test: no page of so many places is written with marks of that length */
+static void has_no_file_with(size_t places, size_t marks_len)
+{
+    open_window(0, places);
+    window.marks_len = marks_len;
+    has_no_file(IHEX_BAD_WINDOW, 0);
+}
+
+/* marks a byte too short and one too long, and with a byte a place */
+static void lengths_of_marks(void)
+{
+    size_t i, n, places;
+    for (i = 0; i < LENGTHS; i++) {
+        places = lengths_of_windows[i];
+        n = packed_len(places);
+        CHECK(load_with(end_line, 0, places, n) == IHEX_OK && run_is_loaded(0, 0, 0, 0));
+        CHECK(load_with(end_line, 0, places, n + 1) == IHEX_REFUSED + IHEX_BAD_WINDOW && not_loaded(0, 0, 0));
+        has_no_file_with(places, n + 1);
+        if (n == 0)
+            continue;
+        CHECK(load_with(end_line, 0, places, n - 1) == IHEX_REFUSED + IHEX_BAD_WINDOW && not_loaded(0, 0, 0));
+        has_no_file_with(places, n - 1);
+        if (n == places)
+            continue;
+        CHECK(load_with(end_line, 0, places, places) == IHEX_REFUSED + IHEX_BAD_WINDOW && not_loaded(0, 0, 0));
+        has_no_file_with(places, places);
+    }
+}
+
+/* each run in windows of a few places, stated once and twice: the later byte stands, and a mark stays 1 */
+static void runs_in_loads(void)
+{
+    size_t i, at, n, places;
+    for (i = 0; i < SHORT_LENGTHS; i++) {
+        places = lengths_of_windows[i];
+        for (at = 0; at < places; at++) {
+            begin_case();
+            for (n = 1; n <= places - at; n++) {
+                CHECK(load(stating(at, n, "u"), 0, places) == IHEX_OK && run_is_loaded(1, at, n, 'u'));
+                CHECK(load(stating(at, n, "uv"), 0, places) == IHEX_OK && run_is_loaded(2, at, n, 'v'));
+            }
+            end_case();
+        }
+    }
+}
+
+/* the longest record from each place of a byte on, in a row of some bytes and at the end of a full page */
+static void long_runs_in_loads(void)
+{
+    size_t at;
+    for (at = 0; at < 17; at++) {
+        CHECK(load(stating(at, 255, "uv"), 0, 255 + at) == IHEX_OK && run_is_loaded(2, at, 255, 'v'));
+        CHECK(load(stating(at, 255, "u"), 0, 290) == IHEX_OK && run_is_loaded(1, at, 255, 'u'));
+        CHECK(load(stating(65536 - 255 - at, 255, "u"), 0, IHEX_MAX_PAGE) == IHEX_OK && run_is_loaded(1, 65536 - 255 - at, 255, 'u'));
+    }
+}
+
+static void packed_marks(void)
+{
+    CHECK(marks_round_up());
+    CHECK(marks_take_expressions(7, 2));
+    CHECK(marks_of_the_most_places());
+    CHECK(marks_are_asked());
+    bits_before_loads();
+    lengths_of_marks();
+    runs_in_loads();
+    long_runs_in_loads();
 }
 
 int main(void)
@@ -2060,6 +2282,7 @@ int main(void)
     windows();
     full_page();
     written_pages();
+    packed_marks();
     printf("%d passed, %d failed\n", passed, failed);
     return failed != 0;
 }

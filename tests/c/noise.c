@@ -6,7 +6,7 @@
 #include <string.h>
 
 #define MOST 640     /* bytes of a text */
-#define PLACES 48    /* of a window */
+#define PLACES 53    /* of a window, whose marks have unused bits */
 #define POOL 300     /* bytes of a pool */
 #define AT 7         /* the position in it */
 #define TRIES 4000   /* texts with a slip in each line */
@@ -151,7 +151,7 @@ struct load {
     uint32_t code;
     size_t line;
     uint64_t a, b;
-    uint8_t page[PLACES], marks[PLACES];
+    uint8_t page[PLACES], marks[IHEX_MARKS(PLACES)];
 };
 
 typedef struct load loader(const uint8_t *text, size_t n, uint32_t first);
@@ -169,20 +169,20 @@ static struct load unloaded(void)
 static struct load load(const uint8_t *text, size_t n, uint32_t first)
 {
     struct load r = unloaded();
-    r.code = ihex_load(text, n, first, r.page, PLACES, r.marks, PLACES, &r.line, &r.a, &r.b);
+    r.code = ihex_load(text, n, first, r.page, PLACES, r.marks, sizeof r.marks, &r.line, &r.a, &r.b);
     return r;
 }
 
 static int same_load(const struct load *x, const struct load *y)
 {
     return x->code == y->code && x->line == y->line && x->a == y->a && x->b == y->b && memcmp(x->page, y->page, PLACES) == 0 &&
-           memcmp(x->marks, y->marks, PLACES) == 0;
+           memcmp(x->marks, y->marks, sizeof x->marks) == 0;
 }
 
 static int untouched(const struct load *x)
 {
     struct load none = unloaded();
-    return memcmp(x->page, none.page, PLACES) == 0 && memcmp(x->marks, none.marks, PLACES) == 0;
+    return memcmp(x->page, none.page, PLACES) == 0 && memcmp(x->marks, none.marks, sizeof x->marks) == 0;
 }
 
 /* what became of the loads of damaged texts: refused with every byte kept, the very same load, or neither */
@@ -419,7 +419,7 @@ static int take_record(struct load *r, const uint8_t *bytes, int size, uint32_t 
         if (place >= PLACES)
             return -1;
         r->page[place] = bytes[TYPE + 1 + i];
-        r->marks[place] = 1;
+        r->marks[place / 8] |= (uint8_t)(1 << place % 8);
     }
     r->a += type == IHEX_DATA;
     return type == IHEX_END_OF_FILE;
@@ -438,7 +438,7 @@ static struct load faulty(const uint8_t *text, size_t n, uint32_t first)
     struct load r = unloaded();
     uint32_t base = 0;
     uint8_t bytes[MOST] = {0};
-    memset(r.marks, 0, PLACES);
+    memset(r.marks, 0, sizeof r.marks);
     for (size_t begins = 0, at = 0; at <= n; at++) {
         if (at < n && text[at] != '\n')
             continue;

@@ -2,7 +2,7 @@
 -- Assumes nothing.
 use Prim.Native.Nat.{ℕ, _+_, _*_, _≤_, _<_}
 use mathlib.Core.Path.{_≡_, refl, sym, _∙_, ap, subst}
-use mathlib.Core.Logic.{_⊎_, inl, inr}
+use mathlib.Core.Logic.{_≢_, _⊎_, inl, inr}
 use mathlib.Core.Bool.{Bool, true, false}
 use mathlib.Core.Option.{some}
 use mathlib.Core.List.{List}
@@ -10,7 +10,6 @@ use native.Mathlib.Omega.{arith}
 use lib.Dec.{leb}
 use lib.ListN.{length, take}
 use borrow.Author.Tests.{leb-false}
-use Rattle.marks.specs.Marks.{first-bad}
 use Rattle.digits.specs.Common.{if_then_else_}
 use Rattle.record.specs.Refusals.{output-full}
 use Rattle.digits.proofs.Tests.{branch}
@@ -25,12 +24,12 @@ use Rattle.page.specs.File.{file, page-text}
 use Rattle.page.specs.Told.{told-page, WritePage}
 use Rattle.page.specs.Claims.{Why}
 use Rattle.page.proofs.Calls.{restores-so, loaded-back, equal-answers, length-of-lengths}
-use Rattle.page.proofs.Claims.{text-cases, reasons, one-reason}
+use Rattle.page.proofs.Claims.{none-to-name, text-cases, reasons, one-reason}
 use Rattle.page.proofs.Room.{room-enough}
 use Rattle.codes.specs.Codes.{OK, value, writing, loading}
 use Rattle.ihex.specs.Entries.{IhexWritePage}
 use Rattle.ihex.specs.Claims.{Page-loads-back}
-use Rattle.ihex.specs.Pages.{OUTPUT-FULL, Ihex-write-page-reasons, Ihex-length-as-written, Ihex-page-room, Ihex-length-of-lengths, Ihex-unmarked-bytes}
+use Rattle.ihex.specs.Pages.{OUTPUT-FULL, BAD-MARK, Ihex-write-page-reasons, Ihex-no-bad-mark, Ihex-length-as-written, Ihex-page-room, Ihex-length-of-lengths, Ihex-unmarked-bytes}
 use Rattle.codes.proofs.Says.{wrote-it}
 
 was-written : (first : ℕ) (page marks out : List ℕ) (n : ℕ) (out′ : List ℕ) → IhexWritePage first page marks out 0 n out′ → WritePage first page marks out (Wrote n) out′
@@ -38,8 +37,8 @@ was-written first page marks out n out′ w =
     record { answer = wrote-it (if-room (place-behind (page-text first page marks) 0) (length out)) n (w .code-is) (w .value-is); left = w .left }
 
 pub page-loads-back : Page-loads-back
-page-loads-back first page marks out n out′ old-page old-marks r l a b page′ marks′ bytes lp lm w g =
-    let (answer, restored) = loaded-back first page marks out n out′ old-page old-marks bytes lp lm (was-written first page marks out n out′ w) in (
+page-loads-back first page marks out n out′ old-page old-marks r l a b page′ marks′ bytes bm lp lm w g =
+    let (answer, restored) = loaded-back first page marks out n out′ old-page old-marks bytes bm lp lm (was-written first page marks out n out′ w) in (
       g .code-is ∙ ap (λ (v : Verdict). loading v .code) answer,
       g .a-is ∙ ap (λ (v : Verdict). value (loading v) 0) answer,
       restores-so page marks old-page page′ marks′ (load (take n out′) first old-page old-marks) _ (g .page-is) (g .marks-is) restored,
@@ -51,14 +50,14 @@ page-loads-back first page marks out n out′ old-page old-marks r l a b page′
 paged : (first : ℕ) (page marks : List ℕ) (room : ℕ) → (r : Paged) × (told-page r ≡ if-room (place-behind (page-text first page marks) 0) room)
 paged first page marks room =
     text-cases first page marks (λ t. (r : Paged) × (told-page r ≡ if-room (place-behind t 0) room))
-    (λ w. (Refused BadWindow, refl)) (λ w f. (Refused (BadMark (first-bad marks)), refl))
+    (λ w. (Refused BadWindow, refl)) (λ place w f. (Refused (BadMark place), refl))
     (λ p. branch (λ (t : Told-written). (r : Paged) × (told-page r ≡ t)) (leb (0 + length (file first page marks)) room) _ _
     (λ e. (Wrote (0 + length (file first page marks)), refl)) (λ e. (Refused OutputFull, refl)))
 
 measured : (first : ℕ) (page marks : List ℕ) → (r : Paged) × (told-page r ≡ place-behind (page-text first page marks) 0)
 measured first page marks =
     text-cases first page marks (λ t. (r : Paged) × (told-page r ≡ place-behind t 0))
-    (λ w. (Refused BadWindow, refl)) (λ w f. (Refused (BadMark (first-bad marks)), refl)) (λ p. (Wrote (0 + length (file first page marks)), refl))
+    (λ w. (Refused BadWindow, refl)) (λ place w f. (Refused (BadMark place), refl)) (λ p. (Wrote (0 + length (file first page marks)), refl))
 
 -- ---- the claims of `specs/Pages.antt`
 
@@ -70,10 +69,20 @@ ihex-write-page-reasons first page marks out r v out′ x =
     subst (Why first page marks (length out)) e (reasons first page marks out a out′ (record { answer = e; left = x .left })) in
     record { answer = t; why = why; code-is = x .code-is; value-is = x .value-is; only = λ t′ because. one-reason first page marks (length out) t′ t because why }
 
+pub ihex-no-bad-mark : Ihex-no-bad-mark
+ihex-no-bad-mark first page marks eighth e = (
+  λ r v x. text-cases first page marks (λ t. r ≡ writing (some (place-behind t 0)) .code → r ≢ BAD-MARK)
+      (λ w c b. omega (arith, c, b)) (λ place w f c b. none-to-name marks (length page) eighth place e f) (λ p c b. omega (arith, c, b)) (x .code-is),
+  λ out r v out′ x. text-cases first page marks (λ t. r ≡ writing (some (if-room (place-behind t 0) (length out))) .code → r ≢ BAD-MARK)
+      (λ w c b. omega (arith, c, b)) (λ place w f c b. none-to-name marks (length page) eighth place e f)
+      (λ p. branch (λ (t : Told-written). r ≡ writing (some t) .code → r ≢ BAD-MARK) (leb (0 + length (file first page marks)) (length out)) _ _ (λ h c b. omega (arith, c, b)) (λ h c b. omega (arith, c, b)))
+      (x .code-is),
+)
+
 pub ihex-page-room : Ihex-page-room
 ihex-page-room first page marks v x =
     text-cases first page marks (λ t. OK ≡ writing (some (place-behind t 0)) .code → v ≡ value (writing (some (place-behind t 0))) 0 → (v ≤ 7 * length page + 58) × (v ≤ 458810))
-    (λ w c e. absurd (omega (arith, c))) (λ w f c e. absurd (omega (arith, c)))
+    (λ w c e. absurd (omega (arith, c))) (λ place w f c e. absurd (omega (arith, c)))
     (λ p c e. let most = room-enough first page marks (p .window) in (omega (arith, e, most), omega (arith, e, most, p .window .small)))
     (x .code-is) (x .value-is)
 

@@ -7,6 +7,7 @@ use mathlib.Core.List.{List, []}
 use lib.ListN.{length, take}
 use Rattle.checksum.specs.Claims.{Checksum-unique}
 use Rattle.marks.specs.Marks.{flags}
+use Rattle.marks.specs.Claims.{Bytes}
 use Rattle.digits.specs.Common.{Every, Byte}
 use Rattle.reader.specs.declared.State.{State}
 use Rattle.chunks.specs.declared.Chunks.{Chunks}
@@ -88,7 +89,7 @@ Ihex-write-page-unique =
 abbrev pub Page-loads-back : Type 0
 Page-loads-back =
     (first : ℕ) (page marks out : List ℕ) (n : ℕ) (out′ old-page old-marks : List ℕ) (r l a b : ℕ) (page′ marks′ : List ℕ)
-    → Every Byte page → length old-page ≡ length page → length old-marks ≡ length marks
+    → Every Byte page → Bytes marks → length old-page ≡ length page → length old-marks ≡ length marks
     → IhexWritePage first page marks out 0 n out′ → IhexLoad (take n out′) first old-page old-marks r l a b page′ marks′
     → let k = length (pieces first 0 none (flags (length page) marks)) in
     (r ≡ 0) × (a ≡ k) × Restores page marks old-page (record { answer = accepted (record { records = k }); page = page′; marks = marks′ })

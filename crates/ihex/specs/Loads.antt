@@ -1,16 +1,18 @@
--- What is claimed of `ihex_load`, in its numbers: demand 3 of document 01, and why it returns what it returns.
+-- What is claimed of `ihex_load`, in its numbers: demand 3 of document 01, why it returns what it returns, and what its packed marks say.
 -- Assumes nothing.
 use Prim.Native.Nat.{ℕ, _+_, _<_}
 use mathlib.Core.Path.{_≡_}
-use mathlib.Core.Logic.{_≢_}
+use mathlib.Core.Logic.{_≢_, _↔_}
 use mathlib.Core.Option.{some}
 use mathlib.Core.List.{List}
 use lib.ListN.{length, getD}
+use Rattle.marks.specs.Marks.{row-length, flags, mark-at, Marked, Unused-clear}
 use Rattle.reader.specs.Lines.{through}
 use Rattle.steps.specs.Steps.{Verdict, by}
 use Rattle.loader.specs.Load.{stopping, placements}
-use Rattle.steps.specs.Sites.{Owed-at}
+use Rattle.steps.specs.Sites.{Loaded, Owed-at}
 use Rattle.loader.specs.Claims.{Why}
+use Rattle.loader.specs.Packed.{byte-load}
 use Rattle.codes.specs.Codes.{OK, value, loading, line-at}
 use Rattle.ihex.specs.Entries.{IhexLoad}
 
@@ -26,16 +28,16 @@ Ihex-non-interference =
     → (r₁ l₁ a₁ b₁ : ℕ) (p₁ m₁ : List ℕ) (r₂ l₂ a₂ b₂ : ℕ) (p₂ m₂ : List ℕ)
     → IhexLoad text₁ first page₁ marks₁ r₁ l₁ a₁ b₁ p₁ m₁ → IhexLoad text₂ first page₂ marks₂ r₂ l₂ a₂ b₂ p₂ m₂
     → ((r₁ ≡ r₂) × (l₁ ≡ l₂) × (a₁ ≡ a₂) × (b₁ ≡ b₂))
-    × (r₁ ≡ OK → (m₁ ≡ m₂) × ((i : ℕ) → getD m₁ i 0 ≡ 1 → getD p₁ i 0 ≡ getD p₂ i 0))
+    × (r₁ ≡ OK → (m₁ ≡ m₂) × ((i : ℕ) → Marked m₁ i → getD p₁ i 0 ≡ getD p₂ i 0))
 
 -- demand 3, second half: of one load that returns IHEX_OK, at each place of the window. The mark is 1 exactly where a data record before the
 -- end record states a byte, and there the page holds what the last such record states; else it is 0, and the page keeps its byte
 abbrev pub Ihex-what-is-stored : Type 0
 Ihex-what-is-stored =
     (text : List ℕ) (first : ℕ) (page marks : List ℕ) (l a b : ℕ) (p m : List ℕ) → IhexLoad text first page marks OK l a b p m
-    → (i : ℕ) → i < length page → Owed-at (placements text) (first + i) (getD page i 0) (getD m i 0) (getD p i 0)
+    → (i : ℕ) → i < length page → Owed-at (placements text) (first + i) (getD page i 0) (mark-at m i) (getD p i 0)
 
--- a refusal changes no byte of the page and no mark
+-- a refusal changes no byte of the page or of the marks
 abbrev pub Ihex-load-keeps : Type 0
 Ihex-load-keeps =
     (text : List ℕ) (first : ℕ) (page marks : List ℕ) (r l a b : ℕ) (p m : List ℕ) → IhexLoad text first page marks r l a b p m → r ≢ OK
@@ -59,3 +61,17 @@ abbrev pub Ihex-load-reasons : Type 0
 Ihex-load-reasons =
     (text : List ℕ) (first : ℕ) (page marks : List ℕ) (r l a b : ℕ) (p m : List ℕ) → IhexLoad text first page marks r l a b p m
     → Reasoned text first page marks r l a b
+
+-- packed marks say what marks of a byte each would say: the same is returned, and the page is the same; if it is IHEX_OK, the marks, unpacked, are
+-- the others, and the unused bits are 0
+pub record Unpacked-numbers (page : List ℕ) (bytes : Loaded) (r l a b : ℕ) (p m : List ℕ) : Type 0 where
+  pub told : In-load-numbers (bytes .answer) r l a b
+  pub page-is : p ≡ bytes .page
+  pub unpacked : r ≡ OK → flags (length page) m ≡ bytes .marks
+  pub unused : r ≡ OK → Unused-clear (length page) m
+
+abbrev pub Ihex-packed-as-bytes : Type 0
+Ihex-packed-as-bytes =
+    (text : List ℕ) (first : ℕ) (page marks byte-marks : List ℕ) (r l a b : ℕ) (p m : List ℕ)
+    → (length marks ≡ row-length (length page)) ↔ (length byte-marks ≡ length page)
+    → IhexLoad text first page marks r l a b p m → Unpacked-numbers page (byte-load text first page byte-marks) r l a b p m

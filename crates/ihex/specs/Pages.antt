@@ -2,11 +2,11 @@
 -- Assumes nothing.
 use Prim.Native.Nat.{ℕ, _+_, _*_, _≤_, _<_}
 use mathlib.Core.Path.{_≡_}
-use mathlib.Core.Logic.{_⊎_}
+use mathlib.Core.Logic.{_≢_, _⊎_}
 use mathlib.Core.List.{List}
 use lib.ListN.{length, getD}
 use Rattle.marks.specs.Marks.{Marked}
-use Rattle.record.specs.Refusals.{output-full}
+use Rattle.record.specs.Refusals.{output-full, bad-mark}
 use Rattle.page.specs.Claims.{Why}
 use Rattle.codes.specs.Codes.{OK, refused-with}
 use Rattle.ihex.specs.Entries.{IhexPageFileLength, IhexWritePage}
@@ -21,6 +21,17 @@ abbrev pub Ihex-write-page-reasons : Type 0
 Ihex-write-page-reasons =
     (first : ℕ) (page marks out : List ℕ) (r v : ℕ) (out′ : List ℕ) → IhexWritePage first page marks out r v out′
     → Write-reasoned (Why first page marks (length out)) r v
+
+-- IHEX_REFUSED + IHEX_BAD_MARK
+abbrev pub BAD-MARK : ℕ
+BAD-MARK = refused-with (bad-mark 0) .code
+
+-- where the number of places is a multiple of 8 neither returns refusal 19
+abbrev pub Ihex-no-bad-mark : Type 0
+Ihex-no-bad-mark =
+    (first : ℕ) (page marks : List ℕ) (eighth : ℕ) → length page ≡ 8 * eighth
+    → ((r v : ℕ) → IhexPageFileLength first page marks r v → r ≢ BAD-MARK)
+    × ((out : List ℕ) (r v : ℕ) (out′ : List ℕ) → IhexWritePage first page marks out r v out′ → r ≢ BAD-MARK)
 
 -- `ihex_page_file_length` returns the same, except where the file is longer than the output
 abbrev pub Ihex-length-as-written : Type 0

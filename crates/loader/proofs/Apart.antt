@@ -26,6 +26,8 @@ use Rattle.steps.proofs.Sites.{stored-answer}
 use Rattle.window.specs.Window.{within, window, unfit, one-window}
 use Rattle.window.proofs.Tests.{within-true, good-window}
 use Rattle.loader.specs.Placing.{Base, from-segment, from-linear, from-start, byte-address, placed, base-behind, does, act, base-after, intel-by, along}
+use Rattle.marks.specs.Marks.{flags}
+use Rattle.steps.specs.Packed.{repacked, load-packed}
 use Rattle.loader.specs.Load.{room-of, load}
 use Rattle.loader.specs.Segments.{flat, flat-load, In-segment, In-segments, Outside, Never-both, Same-or-outside}
 use Rattle.loader.specs.Helpers.{left, does-on}
@@ -172,11 +174,15 @@ module _ (text : List ℕ) (first : ℕ) (page marks : List ℕ) where
   abbrev judged : (Base → Base) → Verdict
   judged f = verdict (stopping-in (room-of first page marks) (read f))
 
-  answer-is : (f : Base → Base) → (sites.load (intel-by f) (room-of first page marks) text page marks) .answer ≡ judged f
-  unfolding load-steps
+  -- the marks, unpacked
+  abbrev unpacked : List ℕ
+  unpacked = flags (length page) marks
+
+  answer-is : (f : Base → Base) → (load-packed (intel-by f) (room-of first page marks) text page marks) .answer ≡ judged f
+  unfolding load-packed load-steps
   answer-is f =
-      ap (λ (l : Loaded). l .answer) (by-row f (room-of first page marks) text page marks)
-      ∙ stored-answer (room-of first page marks .site) (stated (read f)) page marks (judged f)
+      ap (λ (l : Loaded). l .answer) (by-row f (room-of first page marks) text page unpacked)
+      ∙ stored-answer (room-of first page marks .site) (stated (read f)) page unpacked (judged f)
 
 pub never-both : Never-both
 unfolding load flat-load
@@ -189,10 +195,21 @@ never-both text first page marks t t′ x y =
     (t′, accepted-decision first page marks (read text first page marks (λ base. base)) t′ y′)
 
 pub same-or-outside : Same-or-outside
-unfolding load flat-load load-steps one-window stopping-by
+unfolding load flat-load load-packed load-steps one-window stopping-by
 same-or-outside text first page marks =
-    rw (by-row flat (room-of first page marks) text page marks, by-row (λ base. base) (room-of first page marks) text page marks) apart
+    packed-too (rw (by-row flat (room-of first page marks) text page m, by-row (λ base. base) (room-of first page marks) text page m) apart)
   where
+    m : List ℕ
+    m = flags (length page) marks
+
+    -- loads that are the same with their marks unpacked are so with them packed
+    packed-too : let l = sites.load (intel-by (λ base. base)) (room-of first page marks) text page m in
+        let f = sites.load (intel-by flat) (room-of first page marks) text page m in
+        (f ≡ l) ⊎ (Outside (f .answer) ⊎ Outside (l .answer))
+        → (repacked marks f ≡ repacked marks l) ⊎ (Outside (f .answer) ⊎ Outside (l .answer))
+    packed-too (inl e) = inl (ap (repacked marks) e)
+    packed-too (inr o) = inr o
+
     inside-it : ℕ → Bool
     inside-it = within first (length page)
 
@@ -204,13 +221,13 @@ same-or-outside text first page marks =
 
     -- the load of steps, once it is known whether the window is refused
     kept : Bool → List Step → Loaded
-    kept b s = store (window first (length page)) (stated s) page marks (verdict (stopping-by (if b then some bad-window else none) inside-it s))
+    kept b s = store (window first (length page)) (stated s) page m (verdict (stopping-by (if b then some bad-window else none) inside-it s))
 
     answers : (s : List Step) → Outside (verdict (stopping-by none inside-it s)) → Outside ((kept false s) .answer)
-    answers s (a, n, e) = (a, n, stored-answer (window first (length page)) (stated s) page marks (verdict (stopping-by none inside-it s)) ∙ e)
+    answers s (a, n, e) = (a, n, stored-answer (window first (length page)) (stated s) page m (verdict (stopping-by none inside-it s)) ∙ e)
 
     sides : (small : length page ≤ 65536) → Sides first (length page) small nothing-yet s₁ s₂ → (kept false s₁ ≡ kept false s₂) ⊎ (Outside ((kept false s₁) .answer) ⊎ Outside ((kept false s₂) .answer))
-    sides small (inl (d, q)) = inl (ap₂ (λ (ps : List Placement) (o : Option Decision). store (window first (length page)) ps page marks (verdict o)) q d)
+    sides small (inl (d, q)) = inl (ap₂ (λ (ps : List Placement) (o : Option Decision). store (window first (length page)) ps page m (verdict o)) q d)
     sides small (inr (inl o)) = inr (inl (answers s₁ o))
     sides small (inr (inr o)) = inr (inr (answers s₂ o))
 
@@ -218,7 +235,7 @@ same-or-outside text first page marks =
     go true e = inl refl
     go false e = let small = good-window first page marks e .small in sides small (parts first (length page) small text nothing-yet)
 
-    apart : let l = load-steps (room-of first page marks) s₂ page marks in
-        let f = load-steps (room-of first page marks) s₁ page marks in
+    apart : let l = load-steps (room-of first page marks) s₂ page m in
+        let f = load-steps (room-of first page marks) s₁ page m in
         (f ≡ l) ⊎ (Outside (f .answer) ⊎ Outside (l .answer))
     apart = go (unfit first (length page) (length marks)) refl

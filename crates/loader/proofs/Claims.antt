@@ -44,7 +44,7 @@ use Rattle.loader.proofs.Reasons.{Walked, walked}
 
 pub examples : Examples
 unfolding load stopping placements intel-by judge meaning number-after
-examples = record { sixth-place = refl; below-it = refl; wraps = refl }
+examples = record { sixth-place = refl; unused-bits = refl; below-it = refl; wraps = refl }
 
 -- ---- reasons
 

@@ -1,5 +1,6 @@
 pub mod Rows
 pub mod Demand3
+pub mod Packed
 pub mod Reasons
 pub mod Claims
 pub mod OneReason

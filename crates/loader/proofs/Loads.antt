@@ -2,23 +2,22 @@
 -- So the first pass returns the load's verdict and the second leaves its page and marks.
 -- Assumes nothing.
 use mathlib.Core.Path.{_≡_, refl, sym, ap, _∙_, subst}
-use Prim.Native.Nat.{ℕ, suc, _+_, _^_, _≤_, _<_}
-use native.Mathlib.Omega.{arith}
+use Prim.Native.Nat.{ℕ, _^_, _<_}
 use mathlib.Core.Bool.{Bool, true, false}
-use mathlib.Core.List.{List, [], _∷_, map}
+use mathlib.Core.List.{List}
 use lib.ListN.{length, replicate}
 use Rattle.record.specs.Refusals.{Refusal, bad-window}
 use Rattle.reader.specs.Along.{unread}
 use Rattle.steps.specs.Steps.{nothing-yet, refused, decision, verdict}
-use Rattle.steps.specs.Sites.{Loaded, painted, marked, stopping-by}
-use Rattle.steps.specs.Runs.{as-mark, cleared}
+use Rattle.steps.specs.Sites.{Loaded, marked, stopping-by}
 use Rattle.steps.proofs.Places.{painted-none}
-use Rattle.steps.proofs.Runs.{marks-by-ones}
+use Rattle.steps.specs.Packed.{row-after, repacked, load-packed}
 use Rattle.steps.proofs.Sites as general
 use Rattle.window.specs.Window.{within, window, unfit, one-window}
 use Rattle.window.specs.Contracts.{Painted}
 use Rattle.window.proofs.Tests.{good-window}
-use Rattle.window.proofs.Storing.{shows}
+use Rattle.window.proofs.Packed.{row-same, row-both, packed-anew}
+use Rattle.marks.specs.Marks.{flags, bits, packed}
 use Rattle.loader.specs.declared.LoaderError.{LoaderError}
 use Rattle.loader.specs.declared.LoaderError.the-variants.{BadWindow}
 use Rattle.loader.specs.declared.Loading.{Loading}
@@ -75,7 +74,7 @@ pub record Writing (first : ℕ) (text page₀ marks₀ page marks pool : List �
 module _ (first : ℕ) (text page₀ marks₀ : List ℕ) where
   pub writing-start : (pool : List ℕ) → length text < 2 ^ 64 → length pool ≡ 255 → (w : Walk) → w ≡ start → Writing first text page₀ marks₀ page₀ marks₀ pool w
   writing-start pool h l w e =
-      rw e (record { under-way = start-under-way text h; room = l; sizes = refl; same = record { size = refl; page = rw (start-ahead text); marks = rw (start-ahead text) } })
+      rw e (record { under-way = start-under-way text h; room = l; sizes = refl; same = record { size = refl; page = rw (start-ahead text); marks = rw (start-ahead text); row = row-same marks₀ } })
 
   module _ (page marks pool : List ℕ) (w : Walk) (s : Writing first text page₀ marks₀ page marks pool w) (t : Further) (page′ marks′ : List ℕ) (o : Wrote first text w page marks t page′ marks′) where
     written : (w′ : Walk) → t ≡ further.On w′ → Written-on first text w page marks w′ page′ marks′
@@ -92,7 +91,7 @@ module _ (first : ℕ) (text page₀ marks₀ : List ℕ) where
           under-way = n .under-way;
           room = l ∙ s .room;
           sizes = lm ∙ s .sizes;
-          same = record { size = n .same .size ∙ z; page = rw z at (n .same .page) ∙ s .same .page; marks = rw z at (n .same .marks) ∙ s .same .marks };
+          same = record { size = n .same .size ∙ z; page = rw z at (n .same .page) ∙ s .same .page; marks = rw z at (n .same .marks) ∙ s .same .marks; row = row-both marks₀ marks marks′ (s .same .row) (n .same .row) };
         }
 
     pub writing-end : t ≡ further.End → Painted first (placements text) page₀ marks₀ page′ marks′
@@ -101,7 +100,8 @@ module _ (first : ℕ) (text page₀ marks₀ : List ℕ) where
         let (n, p, m) = subst (λ (x : Further). Wrote first text w page marks x page′ marks′) e o in
         record {
           page = p ∙ sym (painted-none (window first (length page₀)) 0 page) ∙ rw n at (s .same .page);
-          marks = m ∙ sym (painted-none (window first (length page₀)) 0 marks) ∙ rw n at (s .same .marks);
+          marks = ap bits m ∙ sym (painted-none (window first (length page₀)) 0 (bits marks)) ∙ rw n at (s .same .marks);
+          row = rw m (s .same .row);
         }
 
 -- ---- the load
@@ -114,12 +114,6 @@ turned-away : (a : Loading) → is-accepted a ≡ false → (e : LoaderError) ×
 turned-away (Accepted t) e = (BadWindow, 0, cc)
 turned-away (Refused r n) e = (r, n, refl)
 
--- in a window every mark is cleared
-all-cleared : (first size i : ℕ) (marks : List ℕ) → i + length marks ≤ size → cleared (window first size) i marks ≡ replicate (length marks) 0
-unfolding cleared
-all-cleared first size i [] h = refl
-all-cleared first size i (m ∷ marks) h = rw (shows first size i (omega arith)) (ap (λ (l : List ℕ). 0 ∷ l) (all-cleared first size (suc i) marks (omega arith)))
-
 module _ (text : List ℕ) (first : ℕ) (page marks : List ℕ) where
   -- what a load returns and leaves is its contract
   as-loaded : (a : Loading) (p m : List ℕ) → load text first page marks ≡ record { answer = told-loading a; page = p; marks = m } → Load text first page marks a p m
@@ -128,8 +122,8 @@ module _ (text : List ℕ) (first : ℕ) (page marks : List ℕ) where
 
   refused-load : (r : Refusal) (n : ℕ) → verdict (stopping text first page marks) ≡ refused r n
       → load text first page marks ≡ record { answer = refused r n; page = page; marks = marks }
-  unfolding load stopping steps-of
-  refused-load r n e = general.refused-load intel (room-of first page marks) text page marks r n e
+  unfolding load load-packed row-after stopping steps-of
+  refused-load r n e = ap (repacked marks) (general.refused-load intel (room-of first page marks) text page (flags (length page) marks) r n e)
 
   pub load-unfit : unfit first (length page) (length marks) ≡ true → Load text first page marks (Refused BadWindow 0) page marks
   unfolding stopping one-window stopping-by verdict
@@ -149,8 +143,6 @@ module _ (text : List ℕ) (first : ℕ) (page marks : List ℕ) where
         → Painted first (placements text) page marks₀ page′ marks′ → Load text first page marks a page′ marks′
     load-accepted t marks₀ page′ marks′ c p =
         let (k, q) = passed a t in
-        let even = good-window first page marks fit .even in
-        let m : marks′ ≡ marked (window first (length page)) 0 (placements text) marks
-        = p .marks ∙ ap (painted (window first (length page)) 0 (map as-mark (placements text))) (c ∙ sym (all-cleared first (length page) 0 marks (omega arith)))
-        ∙ sym (marks-by-ones (window first (length page)) (placements text) marks) in
+        let m : marks′ ≡ packed (marked (window first (length page)) 0 (placements text) (flags (length page) marks))
+        = packed-anew first (length page) (placements text) marks marks₀ marks′ (good-window first page marks fit .row) c (p .marks) (p .row) in
         as-loaded a page′ marks′ (rw (p .page, m, q) (accepted-load text first page marks (tallied k) (judged-so ∙ ap told-loading q)))

@@ -21,6 +21,8 @@ use Rattle.window.specs.declared.Reach.{Reach}
 use Rattle.window.specs.declared.Reach.the-variants.{Inside, Outside}
 use Rattle.window.specs.Window.{within}
 use Rattle.window.specs.Contracts.{first-byte, Painted}
+use Rattle.window.proofs.Packed.{row-same}
+use Rattle.marks.specs.Marks.{bits}
 use Rattle.steps.proofs.Places.{painted-none}
 use Rattle.loader.specs.declared.Base.{Base as CodeBase}
 use Rattle.loader.specs.declared.Base.the-variants.{Segment, Linear}
@@ -115,7 +117,7 @@ module _ (first size : ℕ) (w : Walk) (tally : CodeTally) (x : Record) (pool : 
 module _ (first : ℕ) (base : Base) (x : Record) (pool page marks : List ℕ) where
   -- a record that states nothing leaves page and marks as they are
   pub idle : stated-by base (meant x pool) ≡ [] → Painted first (stated-by base (meant x pool)) page marks page marks
-  idle e = rw e (record { page = sym (painted-none _ 0 page); marks = sym (painted-none _ 0 marks) })
+  idle e = rw e (record { page = sym (painted-none _ 0 page); marks = sym (painted-none _ 0 (bits marks)); row = row-same marks })
 
   pub painted-data : (offset at len : ℕ) (page′ marks′ : List ℕ) → x ≡ Data offset at len
       → Painted first (placed base offset 0 (take (at + len - at) (drop at pool))) page marks page′ marks′ → Painted first (stated-by base (meant x pool)) page marks page′ marks′

@@ -23,6 +23,7 @@ use Rattle.steps.specs.Sites.{painted, marked}
 use Rattle.steps.proofs.Sites.{accepted-by}
 use Rattle.window.specs.Window.{window}
 use Rattle.loader.specs.Placing.{from-start, intel-by}
+use Rattle.marks.specs.Marks.{flags, packed}
 use Rattle.loader.specs.Load.{room-of, steps-of, placements, stopping, load}
 use Rattle.loader.specs.Noise.{No-LF, Slips, the-rest, last-line, one-more, Damaged, one-slip, one-in-each-line, cut-off, Refused-or-same, is-refused, is-the-same, Damage-is-noticed, Examples}
 use Rattle.loader.proofs.Demand3.{load-answer, accepted-load, refusal-changes-nothing}
@@ -210,7 +211,7 @@ equal-loads : (text text′ : List ℕ) (first : ℕ) (page marks : List ℕ) (t
     → t ≡ t′ → placements text ≡ placements text′ → load text′ first page marks ≡ load text first page marks
 equal-loads text text′ first page marks t t′ e e′ tallies ps =
     accepted-load text′ first page marks t′ e′
-    ∙ ap₂ (λ (k : Tally) (l : List Placement). record { answer = accepted k; page = painted (window first (length page)) 0 l page; marks = marked (window first (length page)) 0 l marks }) (sym tallies) (sym ps)
+    ∙ ap₂ (λ (k : Tally) (l : List Placement). record { answer = accepted k; page = painted (window first (length page)) 0 l page; marks = packed (marked (window first (length page)) 0 l (flags (length page) marks)) }) (sym tallies) (sym ps)
     ∙ sym (accepted-load text first page marks t e)
 
 module _ (text text′ : List ℕ) (agree : (inside : ℕ → Bool) → Agree inside (lines text) (lines text′)) where

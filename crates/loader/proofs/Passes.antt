@@ -29,6 +29,7 @@ use Rattle.steps.specs.Runs.{as-mark}
 use Rattle.steps.proofs.Places.{length-painted, painted-append}
 use Rattle.window.specs.Window.{window}
 use Rattle.window.specs.Contracts.{Painted}
+use Rattle.marks.specs.Marks.{bits}
 use Rattle.loader.specs.declared.Base.{Base as CodeBase}
 use Rattle.loader.specs.declared.Base.the-variants.{Segment}
 use Rattle.loader.specs.declared.Tally.{Tally as CodeTally}
@@ -159,8 +160,9 @@ module _ (text : List ℕ) (w : Walk) (pool : List ℕ) (r : Replied) (pool′ :
           record {
             size = ap length (p .page) ∙ length-painted site ps 0 page₀;
             page = ap (painted site 0 qs) (p .page) ∙ sym (painted-append site 0 ps qs page₀) ∙ ap (λ (l : List Placement). painted site 0 l page₀) (sym all);
-            marks = ap (painted site 0 (map as-mark qs)) (p .marks) ∙ sym (painted-append site 0 (map as-mark ps) (map as-mark qs) marks₀)
-                ∙ ap (λ (l : List Placement). painted site 0 l marks₀) (sym (map-append as-mark ps qs) ∙ ap (map as-mark) (sym all));
+            marks = ap (painted site 0 (map as-mark qs)) (p .marks) ∙ sym (painted-append site 0 (map as-mark ps) (map as-mark qs) (bits marks₀))
+                ∙ ap (λ (l : List Placement). painted site 0 l (bits marks₀)) (sym (map-append as-mark ps qs) ∙ ap (map as-mark) (sym all));
+            row = p .row;
           }
 
   -- after a line that is refused, and after the last line, nothing is stated

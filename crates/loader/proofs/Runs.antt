@@ -19,6 +19,8 @@ use Rattle.window.specs.declared.Reach.{Reach}
 use Rattle.window.specs.declared.Reach.the-variants.{Inside, Outside}
 use Rattle.window.specs.Window.{within, window}
 use Rattle.window.specs.Contracts.{first-byte, FirstOutside, Painted}
+use Rattle.window.proofs.Packed.{row-both}
+use Rattle.marks.specs.Marks.{bits}
 use Rattle.window.proofs.Tests.{outside-nothing}
 use Rattle.loader.specs.declared.Base.{Base as CodeBase}
 use Rattle.loader.specs.declared.Base.the-variants.{Segment, Linear}
@@ -118,8 +120,9 @@ painted-both first ps qs page₀ marks₀ page marks page′ marks′ x y =
     record {
       page = rw size at (y .page) ∙ ap (painted (window first (length page₀)) 0 qs) (x .page) ∙ sym (painted-append (window first (length page₀)) 0 ps qs page₀);
       marks = rw size at (y .marks) ∙ ap (painted (window first (length page₀)) 0 (map as-mark qs)) (x .marks)
-          ∙ sym (painted-append (window first (length page₀)) 0 (map as-mark ps) (map as-mark qs) marks₀)
-          ∙ ap (λ (rs : List Placement). painted (window first (length page₀)) 0 rs marks₀) (sym (map-append as-mark ps qs));
+          ∙ sym (painted-append (window first (length page₀)) 0 (map as-mark ps) (map as-mark qs) (bits marks₀))
+          ∙ ap (λ (rs : List Placement). painted (window first (length page₀)) 0 rs (bits marks₀)) (sym (map-append as-mark ps qs));
+      row = row-both marks₀ marks marks′ (x .row) (y .row);
     }
 
 -- ---- as the code meets it

@@ -22,6 +22,8 @@ use Rattle.reader.specs.Row.{Numbered, on, sayings, is-end, through-stop, row}
 use Rattle.reader.specs.Text.{default-options}
 use Rattle.steps.specs.Steps.{Placement, Step, stated}
 use Rattle.steps.specs.Sites.{load-steps}
+use Rattle.marks.specs.Marks.{flags}
+use Rattle.steps.specs.Packed.{repacked, load-packed}
 use Rattle.loader.specs.Placing.{Base, from-segment, from-linear, segment, linear, from-start, byte-address, placed, stated-by, base-behind, does, act, base-after, along}
 use Rattle.loader.specs.Load.{room-of, load}
 use Rattle.loader.specs.Helpers.{left, does-on}
@@ -250,13 +252,16 @@ unfolding row along act
 text-unchanged text = by-rows Unchanged (λ base. ((λ e. tt), (λ k. refl))) (λ n base r. ((λ e. tt), (λ k. refl))) unchanged-record 1 (lines text) from-start low-start
 
 pub load-by-row : Load-by-row
-load-by-row f room text page marks = by-row f room text page marks
+unfolding load-packed
+load-by-row f room text page marks = ap (repacked marks) (by-row f room text page (flags (length page) marks))
 
 pub load-unchanged : Load-unchanged
-unfolding flat-load load
+unfolding flat-load load load-packed
 load-unchanged text first page marks h =
-    by-row flat (room-of first page marks) text page marks
-    ∙ ap (λ (s : List Step). load-steps (room-of first page marks) s page marks) (text-unchanged text .1 h) ∙ sym (by-row (λ base. base) (room-of first page marks) text page marks)
+    let places = flags (length page) marks in
+    ap (repacked marks)
+    (by-row flat (room-of first page marks) text page places
+    ∙ ap (λ (s : List Step). load-steps (room-of first page marks) s page places) (text-unchanged text .1 h) ∙ sym (by-row (λ base. base) (room-of first page marks) text page places))
 
 pub examples : Examples
 unfolding along flat act base-after row judge meaning number-after stated

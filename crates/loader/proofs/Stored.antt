@@ -15,16 +15,14 @@ use Rattle.record.specs.Refusals.{number-of, outside-window}
 use Rattle.record.specs.Meaning.{Meaning, data-at, end-of-file, extended-segment, start-segment, extended-linear, start-linear}
 use Rattle.record.proofs.Standing.{Stands, stands, fault-few}
 use Rattle.reader.specs.Lines.{lines}
-use Rattle.steps.specs.Steps.{Placement, Tally, Verdict, accepted, refused, verdict}
-use Rattle.steps.specs.Sites.{last-at, mark, byte-shown, mark-shown}
-use Rattle.steps.proofs.Places.{painted-at, marked-at}
-use Rattle.window.specs.Window.{within, window}
-use Rattle.window.proofs.Storing.{shows}
+use Rattle.steps.specs.Steps.{Placement, Tally, Verdict, accepted, refused}
+use Rattle.steps.specs.Sites.{last-at, mark}
+use Rattle.window.specs.Window.{within}
 use Rattle.loader.specs.Placing.{byte-address, placed, stated-by}
-use Rattle.loader.specs.Load.{placements, stopping, load}
+use Rattle.loader.specs.Load.{placements, load}
 use Rattle.loader.specs.Claims.{record-on, in-force, states, all-states, Passes, is-empty, goes-on, All-pass, Stops, the-end, no-record, first-outside, Why, bad-one, no-end, at-line}
 use Rattle.loader.specs.Segments.{At, Puts, Last-put, Owed, Owed-unique, Stored, Stored-by-Intel, First-outside, Outside-by-Intel}
-use Rattle.loader.proofs.Demand3.{load-answer, accepted-load}
+use Rattle.loader.proofs.Demand3.{at-place}
 use Rattle.loader.proofs.Claims.{reasons}
 use Rattle.loader.proofs.OneReason.{empty-none, not-empty}
 use Rattle.loader.proofs.Segments.{length-placed, placed-at, at-only, at-there}
@@ -67,12 +65,8 @@ end-stops inside ahead l n v k (no-record r b e) q = cc
 end-stops inside ahead l n v k (first-outside before after p e i o) q = cc
 
 pub stored-by-intel : Stored-by-Intel
-unfolding byte-shown mark-shown
 stored-by-intel text first page marks k e = go (load text first page marks .answer) (reasons text first page marks) e
   where
-    v : verdict (stopping text first page marks) ≡ accepted k
-    v = sym (load-answer text first page marks) ∙ e
-
     go : (a : Verdict) → Why text first page marks a → a ≡ accepted k → Stored text first page (load text first page marks)
     go a (bad-one w) q = let z : _≡_ {A = ℕ} 0 1 = cc in absurd (omega arith)
     go a (no-end w all) q = let z : _≡_ {A = ℕ} 0 1 = cc in absurd (omega arith)
@@ -85,8 +79,7 @@ stored-by-intel text first page marks k e = go (load text first page marks .answ
           ends = end-stops _ (d .ahead) (d .line) n v′ k (d .stops) q;
           none-ahead = none-ends _ [] (d .ahead) (d .pass);
           inside = λ n′ dri a′ b p. all-inside _ [] (d .ahead) (d .pass) n′ dri a′ b (behind-none (d .ahead) a′ n′ dri b p);
-          places = λ i h. rw (accepted-load text first page marks k v)
-              (rw (marked-at (window first (length page)) (placements text) marks i (omega (arith, w .even)), painted-at (window first (length page)) (placements text) page i h, shows first (length page) i h, d .stated k q)
+          places = λ i h. rw (at-place text first page marks k e i h .0, at-place text first page marks k e i h .1) (rw (d .stated k q)
               (owed (d .ahead) (first + i) (getD page i 0) (last-at (first + i) (all-states [] (d .ahead))) (among (first + i) [] (d .ahead))));
         }
 

@@ -18,6 +18,7 @@ use Rattle.digits.specs.Reading.{named}
 use Rattle.record.specs.Meaning.{Meaning, data-at, end-of-file, extended-segment, start-segment, extended-linear, start-linear, meaning}
 use Rattle.reader.specs.Lines.{LF, lines, through}
 use Rattle.reader.specs.Claims.{Offends}
+use Rattle.marks.specs.Marks.{mark-at, Marked}
 use Rattle.loader.specs.declared.Loading.{Loading}
 use Rattle.steps.specs.Steps.{Placement, Tally, Verdict, accepted, refused, by}
 use Rattle.steps.specs.Sites.{Loaded, Owed-at}
@@ -33,7 +34,7 @@ use Rattle.loader.specs.Told.{told-loading, Load}
 pub record Alike (l₁ l₂ : Loaded) : Type 0 where
   pub answers : l₁ .answer ≡ l₂ .answer
   pub marks : (tally : Tally) → l₁ .answer ≡ accepted tally → l₁ .marks ≡ l₂ .marks
-  pub bytes : (tally : Tally) → l₁ .answer ≡ accepted tally → (i : ℕ) → getD (l₁ .marks) i 0 ≡ 1 → getD (l₁ .page) i 0 ≡ getD (l₂ .page) i 0
+  pub bytes : (tally : Tally) → l₁ .answer ≡ accepted tally → (i : ℕ) → Marked (l₁ .marks) i → getD (l₁ .page) i 0 ≡ getD (l₂ .page) i 0
 
 -- demand 3, first half: two texts that are the same through the LF of the line at which the first load stops;
 -- text behind it and old contents of page and marks may differ
@@ -53,7 +54,7 @@ What-is-stored =
     (text : List ℕ) (first : ℕ) (page marks : List ℕ) (tally : Tally)
     → let l = load text first page marks in
     l .answer ≡ accepted tally → (i : ℕ) → i < length page
-    → Owed-at (placements text) (first + i) (getD page i 0) (getD (l .marks) i 0) (getD (l .page) i 0)
+    → Owed-at (placements text) (first + i) (getD page i 0) (mark-at (l .marks) i) (getD (l .page) i 0)
 
 -- which leaves nothing open
 abbrev pub Owed-at-unique : Type 0
@@ -222,11 +223,13 @@ abbrev pub beyond : List ℕ
 beyond = text ":02FFFF00AABB9B" ++ (LF ∷ text ":00000001FF")
 
 pub record Examples : Type 0 where
-  pub sixth-place : load example 0x12000 (replicate 8 9) (replicate 8 7)
+  pub sixth-place : load example 0x12000 (replicate 8 9) (0x81 ∷ [])
       ≡ record {
         answer = accepted (record { records = 1 });
         page = 9 ∷ 9 ∷ 9 ∷ 9 ∷ 9 ∷ 0x77 ∷ 9 ∷ 9 ∷ [];
-        marks = 0 ∷ 0 ∷ 0 ∷ 0 ∷ 0 ∷ 1 ∷ 0 ∷ 0 ∷ [];
+        marks = 0x20 ∷ [];
       }
-  pub below-it : stopping example 0x12006 (replicate 2 9) (replicate 2 7) ≡ some (by 2 (refused (outside-window 0x12005) 2))
+  -- 6 places, and a text of the end record alone: unused bits that were set are 0 then
+  pub unused-bits : load (text ":00000001FF") 0 (replicate 6 9) (0xFF ∷ []) ≡ record { answer = accepted (record { records = 0 }); page = replicate 6 9; marks = 0 ∷ [] }
+  pub below-it : stopping example 0x12006 (replicate 2 9) (7 ∷ []) ≡ some (by 2 (refused (outside-window 0x12005) 2))
   pub wraps : placements beyond ≡ record { address = 0xFFFF; byte = 0xAA } ∷ record { address = 0; byte = 0xBB } ∷ []

@@ -14,12 +14,13 @@ use Rattle.record.specs.declared.Record.the-variants.{Data, EndOfFile, Extended
 use Rattle.reader.specs.Row.{Numbered, is-end}
 use Rattle.reader.specs.Text.{default-options}
 use Rattle.reader.specs.Along.{unread, Countable}
+use Rattle.marks.specs.Marks.{bits}
 use Rattle.steps.specs.Steps.{Step, step, outside, decision, verdict, stated}
 use Rattle.steps.specs.Sites.{painted}
 use Rattle.steps.specs.Runs.{as-mark}
 use Rattle.window.specs.declared.Reach.{Reach}
 use Rattle.window.specs.Window.{within, window}
-use Rattle.window.specs.Contracts.{first-byte}
+use Rattle.window.specs.Contracts.{first-byte, Row-kept}
 use Rattle.loader.specs.declared.Base.{Base as CodeBase}
 use Rattle.loader.specs.declared.Base.the-variants.{Segment, Linear}
 use Rattle.loader.specs.declared.Loading.{Loading}
@@ -124,7 +125,8 @@ is-accepted (Refused e line) = false
 pub record Same-painting (first : ℕ) (s₀ : List Step) (page₀ marks₀ : List ℕ) (s : List Step) (page′ marks′ : List ℕ) : Type 0 where
   pub size : length page′ ≡ length page₀
   pub page : painted (window first (length page₀)) 0 (stated s) page′ ≡ painted (window first (length page₀)) 0 (stated s₀) page₀
-  pub marks : painted (window first (length page₀)) 0 (map as-mark (stated s)) marks′ ≡ painted (window first (length page₀)) 0 (map as-mark (stated s₀)) marks₀
+  pub marks : painted (window first (length page₀)) 0 (map as-mark (stated s)) (bits marks′) ≡ painted (window first (length page₀)) 0 (map as-mark (stated s₀)) (bits marks₀)
+  pub row : Row-kept marks₀ marks′
 
 -- a line was written: the walk goes on, or nothing more is stated
 pub record Written-on (first : ℕ) (text : List ℕ) (w : Walk) (page₀ marks₀ : List ℕ) (w′ : Walk) (page′ marks′ : List ℕ) : Type 0 where

@@ -4,4 +4,5 @@ pub mod Told
 pub mod Claims
 pub mod Helpers
 pub mod Segments
+pub mod Packed
 pub mod Noise

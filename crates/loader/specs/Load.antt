@@ -1,4 +1,5 @@
--- A text loaded into a page with marks: Intel's records into one window. Document 01, "Loader". Where bytes lie stands in `Placing`.
+-- A text loaded into a page with packed marks: Intel's records into one window. Document 01, "Loader", and document 02, wish 7. Where bytes lie
+-- stands in `Placing`, how marks are packed in `Marks` of the crate `marks`.
 -- Assumes nothing.
 use Prim.Native.Nat.{ℕ}
 use mathlib.Core.Option.{Option}
@@ -8,6 +9,7 @@ use Rattle.steps.specs.Steps.{Placement, Step, Decision, stated}
 use Rattle.steps.specs.Source as source
 use Rattle.steps.specs.Sites as sites
 use Rattle.steps.specs.Sites.{Room, Loaded, stopping-in}
+use Rattle.steps.specs.Packed.{load-packed}
 use Rattle.window.specs.Window.{one-window}
 use Rattle.loader.specs.Placing.{intel}
 
@@ -31,5 +33,5 @@ unfolding sites.stopping-by one-window steps-of
 stopping text first page marks = stopping-in (room-of first page marks) (steps-of text)
 
 unfoldable pub load : List ℕ → (first : ℕ) (page marks : List ℕ) → Loaded
-unfolding sites.load one-window
-load text first page marks = sites.load intel (room-of first page marks) text page marks
+unfolding load-packed one-window
+load text first page marks = load-packed intel (room-of first page marks) text page marks

@@ -4,7 +4,7 @@
 use mathlib.Core.Path.{_≡_}
 use mathlib.Core.Logic.{_≢_}
 use Prim.Native.Nat.{ℕ}
-use mathlib.Core.List.{List, _∷_, _++_}
+use mathlib.Core.List.{List, [], _∷_, _++_}
 use lib.ListN.{set, take, drop, replicate}
 use Rattle.digits.specs.Common.{Every}
 use Rattle.record.specs.Refusals.{Refusal, contains-invalid-characters, record-too-short, checksum-mismatch}
@@ -56,7 +56,7 @@ Damage-is-noticed =
 
 -- document 01's load, of what became of its text
 abbrev pub example-load : (text : List ℕ) → Loaded
-example-load text = load text 0x12000 (replicate 8 9) (replicate 8 7)
+example-load text = load text 0x12000 (replicate 8 9) (7 ∷ [])
 
 pub record Examples : Type 0 where
   -- a letter in its other case

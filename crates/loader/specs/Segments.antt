@@ -18,6 +18,8 @@ use Rattle.reader.specs.Text.{default-options}
 use Rattle.steps.specs.Steps.{Tally, Verdict, accepted, refused, stated}
 use Rattle.steps.specs.Sites.{Loaded, Room}
 use Rattle.steps.specs.Sites as sites
+use Rattle.steps.specs.Packed.{repacked, load-packed}
+use Rattle.marks.specs.Marks.{mark-at, flags}
 use Rattle.window.specs.Window.{within, one-window}
 use Rattle.loader.specs.Placing.{Base, from-segment, from-linear, segment, from-start, stated-by, base-behind, intel-by, along}
 use Rattle.loader.specs.Load.{room-of, load}
@@ -105,7 +107,7 @@ pub record Stored (text : List ℕ) (first : ℕ) (page : List ℕ) (l : Loaded)
   pub ends : record-on end ≡ some end-of-file
   pub none-ahead : Every (λ (line : List ℕ). record-on line ≢ some end-of-file) ahead
   pub inside : (n dri a b : ℕ) → Puts ahead n dri a b → within first (length page) a ≡ true
-  pub places : (i : ℕ) → i < length page → Owed ahead (first + i) (getD page i 0) (getD (l .marks) i 0) (getD (l .page) i 0)
+  pub places : (i : ℕ) → i < length page → Owed ahead (first + i) (getD page i 0) (mark-at (l .marks) i) (getD (l .page) i 0)
 
 abbrev pub Stored-by-Intel : Type 0
 Stored-by-Intel =
@@ -138,14 +140,15 @@ flat (from-linear base) = from-linear base
 
 -- the load of a text, placed so
 unfoldable pub flat-load : List ℕ → (first : ℕ) (page marks : List ℕ) → Loaded
-unfolding flat intel-by sites.load one-window
-flat-load text first page marks = sites.load (intel-by flat) (room-of first page marks) text page marks
+unfolding flat intel-by load-packed one-window
+flat-load text first page marks = load-packed (intel-by flat) (room-of first page marks) text page marks
 
 -- a load is that of what the reader says of the text with both stops on, by whatever function of the base bytes are placed
 abbrev pub Load-by-row : Type 0
 Load-by-row =
     (f : Base → Base) (room : Room) (text page marks : List ℕ)
-    → sites.load (intel-by f) room text page marks ≡ sites.load-steps room (along f from-start (row default-options text)) page marks
+    → load-packed (intel-by f) room text page marks
+    ≡ repacked marks (sites.load-steps room (along f from-start (row default-options text)) page (flags (length page) marks))
 
 -- offsets up to this end lie in the base's segment, if it has one
 abbrev pub Fits : Base → (end : ℕ) → Type 0

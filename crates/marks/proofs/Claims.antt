@@ -1,60 +1,184 @@
--- The claims of `specs/Claims.antt` on bad marks and on the contracts, proved. Those on runs are proved in `Runs`.
+-- The claims of `specs/Claims.antt` on rows, packed and unpacked, on runs and on the contracts, proved. Those on unused bits are proved in `UnusedBits`.
 -- Assumes nothing.
-use Prim.Native.Nat.{ℕ, zero, suc, _≤_, _<_}
-use mathlib.Core.Path.{_≡_, refl, sym, _∙_}
+use Prim.Native.Nat.{ℕ, zero, suc, _+_, _*_, _/_, _%_, _^_, _≤_, _<_}
+use mathlib.Core.Path.{_≡_, refl, sym, ap, _∙_, subst}
 use mathlib.Core.Logic.{_⊎_, inl, inr}
-use mathlib.Core.Bool.{Bool, true, false, cond}
-use mathlib.Core.List.{List, [], _∷_}
+use mathlib.Core.Bool.{true, false}
+use mathlib.Core.Option.{Option, none, some}
+use mathlib.Core.List.{List}
 use native.Mathlib.Omega.{arith}
-use lib.Dec.{leb}
-use lib.ListN.{length, getD}
-use borrow.Author.Tests.{leb-true, leb-false}
-use Rattle.marks.specs.Marks.{mark-at, first-bad, Next}
-use Rattle.marks.specs.Claims.{Mark, First-bad, Bad-found, None-bad, One-first-bad, Row-length-unique, Is-marked-unique, First-bad-unique, Clear-unique, Mark-run-unique, Next-marked-unique, Next-unmarked-unique}
+use lib.Bits.{bitOr, or-lt}
+use lib.ListN.{length, getD, set, List·getD-eq-default}
+use lib.Seq.{getD-set-same, getD-set-other, set-out}
+use Rattle.marks.specs.declared.Unused.{Unused}
+use Rattle.marks.specs.declared.Unused.the-variants.{Clear, At}
+use Rattle.marks.specs.Marks.{row-length, byte-of, mark-at, Marked, with-mark, marked-run, number, flags, packed, bits, Unused-clear, told-unused, first-unused, first-marked, Next}
+use Rattle.marks.specs.Claims.{Bytes, Flag, All-flags, Row-of, Clear-unique, Examples, First-unused-unique, Flags-made-so, Flags-only-so, Is-marked-unique, Mark-is-flag, Mark-run-unique, Next-marked-unique, Next-unmarked-unique, Packed-unpacked, Row-holds-places, Row-length-unique, Row-made-so, Row-only-so, Run-in-two, Run-made-so, Run-only-so, Run-outside, Unpacked-packed}
+use Rattle.marks.proofs.Below.{split, same-or, equal}
+use Rattle.marks.proofs.Bits.{power-small, number-small}
+use Rattle.marks.proofs.Rows
+use Rattle.marks.proofs.Runs
 
--- ---- bad marks
+-- ---- a row and its places
 
-is-mark : (m : ℕ) → m ≤ 1 → Mark m
-is-mark zero h = inl refl
-is-mark (suc zero) h = inr refl
-is-mark (suc (suc m)) h = absurd (omega arith)
+pub row-holds-places : Row-holds-places
+unfolding row-length
+row-holds-places n = (omega arith, omega arith)
 
-no-mark : (m : ℕ) → 1 < m → ¬ Mark m
-no-mark m h (inl e) = omega arith
-no-mark m h (inr e) = omega arith
+is-flag : (m : ℕ) → m ≤ 1 → Flag m
+is-flag zero h = inl refl
+is-flag (suc zero) h = inr refl
+is-flag (suc (suc m)) h = absurd (omega arith)
 
--- a good mark before others
-one-more-good : (m : ℕ) (marks : List ℕ) (i : ℕ) → Mark m → ((j : ℕ) → suc j ≡ i → Mark (getD marks j 0)) → Mark (getD (m ∷ marks) i 0)
-one-more-good m marks zero h f = h
-one-more-good m marks (suc i) h f = f i refl
+pub flag-small : (m : ℕ) → Flag m → m ≤ 1
+flag-small m (inl e) = omega arith
+flag-small m (inr e) = omega arith
 
-pub bad-found : Bad-found
-unfolding first-bad mark-at
-bad-found [] h = absurd (omega arith)
-bad-found (m ∷ marks) h = go (leb m 1) refl h (bad-found marks)
+pub mark-is-flag : Mark-is-flag
+mark-is-flag marks p = is-flag (mark-at marks p) (Rows.mark-small marks p)
+
+-- ---- unpacked
+
+pub flags-made-so : Flags-made-so
+flags-made-so places marks = record { as-many = Rows.flags-length places marks; say = Rows.flags-say places marks }
+
+pub flags-only-so : Flags-only-so
+flags-only-so places marks list f = sym (Rows.flags-are places marks list (f .as-many) (λ p h. sym (f .say p h)))
+
+-- each is 0 or 1
+pub flags-are-flags : (places : ℕ) (marks : List ℕ) → All-flags (flags places marks)
+flags-are-flags places marks i =
+    split places i
+    (λ l. inl (List·getD-eq-default (flags places marks) 0 (too-far l)))
+    (λ l. subst Flag (sym (Rows.flags-say places marks i l)) (mark-is-flag marks i))
   where
-    go : (b : Bool) → leb m 1 ≡ b → cond b (suc (first-bad marks)) 0 < length (m ∷ marks) → (first-bad marks < length marks → First-bad marks (first-bad marks))
-        → First-bad (m ∷ marks) (cond b (suc (first-bad marks)) 0)
-    go true e h later =
-        let f = later (omega arith) in
-        record { inside = omega (arith, f .inside); bad = f .bad; none-before = λ i k. one-more-good m marks i (is-mark m (leb-true m 1 e)) (λ j u. f .none-before j (omega arith)) }
-    go false e h later = record { inside = h; bad = no-mark m (leb-false m 1 e); none-before = λ i k. absurd (omega arith) }
+    too-far : places ≤ i → length (flags places marks) ≤ i
+    too-far l = omega (arith, Rows.flags-length places marks)
 
-pub none-bad : None-bad
-unfolding first-bad mark-at
-none-bad [] h i = inl refl
-none-bad (m ∷ marks) h i = go (leb m 1) refl h (none-bad marks)
+-- a 1 stands in the list
+pub one-inside : (list : List ℕ) (i : ℕ) → getD list i 0 ≡ 1 → i < length list
+one-inside list i e =
+    split (length list) i
+    (λ l. let z : _≡_ {A = ℕ} 0 1 = sym (List·getD-eq-default list 0 {n = i} l) ∙ e in absurd (omega arith))
+    (λ l. l)
+
+-- where one of them is 1 a place is marked
+pub flag-marked : (places : ℕ) (marks : List ℕ) (p : ℕ) → getD (flags places marks) p 0 ≡ 1 → Marked marks p
+flag-marked places marks p e = sym (Rows.flags-say places marks p (omega (arith, Rows.flags-length places marks, one-inside (flags places marks) p e))) ∙ e
+
+-- ---- packed
+
+smalls : (list : List ℕ) → All-flags list → (i : ℕ) → getD list i 0 ≤ 1
+smalls list f i = flag-small (getD list i 0) (f i)
+
+packed-bytes : (list : List ℕ) → All-flags list → Bytes (packed list)
+unfolding packed
+packed-bytes list f q =
+    split (row-length (length list)) q
+    (λ l. omega (arith, List·getD-eq-default (packed list) 0 (too-far l)))
+    (λ l. omega (arith, Rows.listed-at (λ q. number 8 (λ i. getD list (8 * q + i) 0)) (row-length (length list)) q l, number-small 8 (λ i. getD list (8 * q + i) 0) (λ i. smalls list f (8 * q + i))))
   where
-    go : (b : Bool) → leb m 1 ≡ b → length (m ∷ marks) ≤ cond b (suc (first-bad marks)) 0 → (length marks ≤ first-bad marks → (j : ℕ) → Mark (getD marks j 0)) → Mark (getD (m ∷ marks) i 0)
-    go true e h later = one-more-good m marks i (is-mark m (leb-true m 1 e)) (λ j u. later (omega arith) j)
-    go false e h later = absurd (omega arith)
+    too-far : row-length (length list) ≤ q → length (packed list) ≤ q
+    too-far l = omega (arith, Rows.packed-size list)
 
--- neither of two numbers is the lesser
-equal : (p q : ℕ) → ¬ (p < q) → ¬ (q < p) → p ≡ q
-equal p q a b = omega arith
+packed-unused : (list : List ℕ) → All-flags list → Unused-clear (length list) (packed list)
+packed-unused list f p l =
+    split (8 * row-length (length list)) p
+    (λ o. Rows.outside (packed list) p (omega (arith, Rows.packed-size list)))
+    (λ i. Rows.packed-at list (smalls list f) p i ∙ List·getD-eq-default list 0 l)
 
-pub one-first-bad : One-first-bad
-one-first-bad marks p q f g = equal p q (λ l. f .bad (g .none-before p l)) (λ l. g .bad (f .none-before q l))
+pub row-made-so : Row-made-so
+row-made-so list f =
+    record {
+      as-many = Rows.packed-size list;
+      bytes = packed-bytes list f;
+      say = λ p h. Rows.packed-at list (smalls list f) p (omega (arith, row-holds-places (length list)));
+      unused = packed-unused list f;
+    }
+
+-- a row unpacks to its list
+pub row-unpacks : (list marks : List ℕ) → Row-of list marks → flags (length list) marks ≡ list
+row-unpacks list marks r = Rows.flags-are (length list) marks list refl (λ i k. r .say i k)
+
+pub row-only-so : Row-only-so
+row-only-so list marks r = sym (Rows.packed-unpacked (length list) marks (r .bytes) (r .as-many) (r .unused)) ∙ ap packed (row-unpacks list marks r)
+
+pub unpacked-packed : Unpacked-packed
+unpacked-packed list f = Rows.unpacked-packed list (smalls list f)
+
+pub packed-unpacked : Packed-unpacked
+packed-unpacked = Rows.packed-unpacked
+
+-- ---- runs
+
+-- a byte stored in a row of bytes
+set-bytes : (marks : List ℕ) (q y : ℕ) → Bytes marks → y < 256 → Bytes (set marks q y)
+set-bytes marks q y b h i =
+    same-or i q
+    (λ e. split (length marks) q
+    (λ o. subst (λ (l : List ℕ). getD l i 0 < 256) (sym (set-out marks q y o)) (b i))
+    (λ k. subst (λ (x : ℕ). x < 256) (sym (ap (λ (j : ℕ). getD (set marks q y) j 0) e ∙ getD-set-same marks q y 0 k)) h))
+    (λ n. subst (λ (x : ℕ). x < 256) (sym (getD-set-other marks q i y 0 n)) (b i))
+
+marked-bytes : (marks : List ℕ) (p : ℕ) → Bytes marks → Bytes (with-mark marks p)
+unfolding with-mark byte-of
+marked-bytes marks p b =
+    set-bytes marks (p / 8) (bitOr (byte-of marks p) (2 ^ (p % 8))) b (or-lt 8 (byte-of marks p) (2 ^ (p % 8)) (b (p / 8)) (power-small (p % 8) (omega arith)))
+
+run-bytes : (marks : List ℕ) (a n : ℕ) → Bytes marks → Bytes (marked-run marks a n)
+unfolding marked-run
+run-bytes marks a zero b = b
+run-bytes marks a (suc n) b = run-bytes (with-mark marks a) (suc a) n (marked-bytes marks a b)
+
+pub run-made-so : Run-made-so
+run-made-so marks from len =
+    record {
+      same-length = Runs.run-length marks from len;
+      bytes = run-bytes marks from len;
+      inside = Runs.run-inside marks from len;
+      elsewhere = Runs.run-elsewhere marks from len;
+    }
+
+-- rows of bytes of one length that say the same of every place are equal
+pub same-row : (marks marks′ : List ℕ) → Bytes marks → Bytes marks′ → length marks ≡ length marks′ → ((p : ℕ) → p < 8 * length marks → mark-at marks p ≡ mark-at marks′ p) → marks ≡ marks′
+unfolding row-length
+same-row marks marks′ b b′ e f =
+    Rows.same-unpacked (8 * length marks) marks marks′ b b′ (omega arith) (omega (arith, e))
+    (λ p l. Rows.outside marks p l) (λ p l. Rows.outside marks′ p (omega (arith, e)))
+    (Rows.flags-are (8 * length marks) marks (flags (8 * length marks) marks′) (Rows.flags-length (8 * length marks) marks′)
+    (λ i k. f i k ∙ sym (Rows.flags-say (8 * length marks) marks′ i k)))
+
+-- every bit of a row, and what it says
+pub bits-length : (marks : List ℕ) → length (bits marks) ≡ 8 * length marks
+unfolding bits
+bits-length marks = Rows.flags-length (8 * length marks) marks
+
+pub bits-say : (marks : List ℕ) (p : ℕ) → getD (bits marks) p 0 ≡ mark-at marks p
+unfolding bits
+bits-say marks p =
+    split (8 * length marks) p
+    (λ l. List·getD-eq-default (bits marks) 0 {n = p} (omega (arith, bits-length marks)) ∙ sym (Rows.outside marks p l))
+    (λ l. Rows.flags-say (8 * length marks) marks p l)
+
+-- rows of bytes with the same bits are equal
+pub same-bits : (marks marks′ : List ℕ) → Bytes marks → Bytes marks′ → length marks ≡ length marks′ → bits marks ≡ bits marks′ → marks ≡ marks′
+same-bits marks marks′ b b′ e f =
+    same-row marks marks′ b b′ e (λ p h. sym (bits-say marks p) ∙ ap (λ (l : List ℕ). getD l p 0) f ∙ bits-say marks′ p)
+
+pub run-only-so : Run-only-so
+run-only-so marks from len marks′ b r =
+    same-row marks′ (marked-run marks from len) (r .bytes b) (run-bytes marks from len b) (r .same-length ∙ sym (Runs.run-length marks from len))
+    (λ p h. split (from + len) p
+    (λ l. r .elsewhere p (inr l) ∙ sym (Runs.run-elsewhere marks from len p (inr l)))
+    (λ l. split from p
+    (λ k. let w : p < 8 * length marks = omega (arith, r .same-length) in r .inside p k l w ∙ sym (Runs.run-inside marks from len p k l w))
+    (λ k. r .elsewhere p (inl k) ∙ sym (Runs.run-elsewhere marks from len p (inl k)))))
+
+pub run-outside : Run-outside
+run-outside = Runs.run-outside
+
+pub run-in-two : Run-in-two
+run-in-two = Runs.run-in-two
 
 -- ---- no second answer
 
@@ -67,8 +191,18 @@ is-marked-unique marks place true false x y = sym (y .answer .1 (x .answer .0 re
 is-marked-unique marks place false true x y = x .answer .1 (y .answer .0 refl)
 is-marked-unique marks place false false x y = refl
 
-pub first-bad-unique : First-bad-unique
-first-bad-unique marks r r′ x y = x .answer ∙ sym (y .answer)
+-- an answer, from what it tells
+answer-of : Option ℕ → Unused
+answer-of none = Clear
+answer-of (some p) = At p
+
+answered : (r : Unused) → answer-of (told-unused r) ≡ r
+unfolding answer-of
+answered Clear = refl
+answered (At p) = refl
+
+pub first-unused-unique : First-unused-unique
+first-unused-unique marks places r r′ x y = sym (answered r) ∙ ap answer-of (x .answer ∙ sym (y .answer)) ∙ answered r′
 
 pub clear-unique : Clear-unique
 clear-unique marks m m′ x y = x .left ∙ sym (y .left)
@@ -92,3 +226,9 @@ next-marked-unique marks places from r r′ x y = next-unique _ _ places from r 
 
 pub next-unmarked-unique : Next-unmarked-unique
 next-unmarked-unique marks places from r r′ x y = next-unique _ _ places from r r′ (λ p m u. u m) x y
+
+-- ---- examples
+
+pub examples : Examples
+unfolding packed flags bits row-length marked-run with-mark number first-unused first-marked
+examples = record { packs = refl; unpacks = refl; runs = refl; unused = refl; used = refl; lengths = (refl, refl, refl, refl, refl) }

@@ -1,4 +1,7 @@
-pub mod Places
-pub mod Flags
+pub mod Below
+pub mod Bits
+pub mod Rows
 pub mod Runs
+pub mod Searches
+pub mod UnusedBits
 pub mod Claims

@@ -6,11 +6,12 @@ use Prim.Native.Nat.{ℕ, _+_, _≤_, _<_}
 use native.Mathlib.Omega.{arith}
 use native.Mathlib.Nat.{zero-add}
 use mathlib.Core.Bool.{Bool, true, false}
+use mathlib.Core.Option.{none, some}
 use mathlib.Core.List.{List, [], _∷_}
 use lib.Dec.{leb}
 use lib.ListN.{length, length-append}
-use borrow.Author.Tests.{le-leb, lt-ltb, le-ltb}
-use Rattle.marks.specs.Marks.{flags, first-bad}
+use borrow.Author.Tests.{le-leb}
+use Rattle.marks.specs.Marks.{flags, first-unused}
 use Rattle.digits.specs.Common.{if_then_else_}
 use Rattle.record.specs.Refusals.{output-full, bad-window, bad-mark}
 use Rattle.record.specs.declared.Record.{Record}
@@ -41,13 +42,13 @@ module _ (first : ℕ) (page marks : List ℕ) where
   unfolding page-text
   text-unfit e = rw e
 
-  pub text-bad : unfit first (length page) (length marks) ≡ false → first-bad marks < length marks → page-text first page marks ≡ refused (bad-mark (first-bad marks))
+  pub text-bad : unfit first (length page) (length marks) ≡ false → (place : ℕ) → first-unused (length page) marks ≡ some place → page-text first page marks ≡ refused (bad-mark place)
   unfolding page-text
-  text-bad e l = rw (e, lt-ltb (first-bad marks) (length marks) l)
+  text-bad e place u = rw (e, u)
 
-  pub text-good : unfit first (length page) (length marks) ≡ false → length marks ≤ first-bad marks → page-text first page marks ≡ chars (file first page marks)
+  pub text-good : unfit first (length page) (length marks) ≡ false → first-unused (length page) marks ≡ none → page-text first page marks ≡ chars (file first page marks)
   unfolding page-text
-  text-good e l = rw (e, le-ltb (first-bad marks) (length marks) l)
+  text-good e u = rw (e, u)
 
 -- ---- what the writer answers
 

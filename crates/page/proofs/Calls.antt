@@ -3,23 +3,21 @@
 use Prim.Native.Nat.{ℕ, _+_, _≤_}
 use mathlib.Core.Path.{_≡_, refl, sym, _∙_, ap, subst}
 use mathlib.Core.Bool.{Bool, true, false}
-use mathlib.Core.Option.{none}
+use mathlib.Core.Option.{Option, none, some}
 use mathlib.Core.List.{List, [], _∷_}
 use native.Mathlib.Omega.{arith}
 use native.Mathlib.Nat.{zero-add}
-use lib.Dec.{ltb}
 use lib.ListN.{length, getD, take, length-append}
-use Rattle.marks.specs.Marks.{Marked, flags, first-bad}
-use Rattle.marks.proofs.Flags.{flags-length}
-use Rattle.digits.specs.Common.{if_then_else_, Every, Byte}
-use Rattle.record.specs.Refusals.{bad-mark}
+use Rattle.marks.specs.Marks.{Marked, flags, first-unused}
+use Rattle.marks.specs.Claims.{Bytes}
+use Rattle.marks.proofs.Rows.{flags-length}
+use Rattle.digits.specs.Common.{Every, Byte}
 use Rattle.record.specs.declared.Record.{Record}
 use Rattle.record.specs.Record.{meant}
 use Rattle.record.specs.Written.{payload-of}
-use Rattle.digits.proofs.Tests.{both-ways}
 use Rattle.digits.proofs.Parts.{part-length}
 use Rattle.writer.specs.Told.{wrote}
-use Rattle.writer.specs.Text.{chars, refused, place-behind}
+use Rattle.writer.specs.Text.{chars, place-behind}
 use Rattle.writer.specs.Line.{ended-line}
 use Rattle.writer.specs.Object.{joined-lines}
 use Rattle.steps.specs.Steps.{Verdict, accepted}
@@ -29,7 +27,7 @@ use Rattle.loader.specs.Load.{load}
 use Rattle.loader.specs.Told.{told-loading}
 use Rattle.page.specs.declared.Paged.the-variants.{Wrote}
 use Rattle.page.specs.Pieces.{Piece, pieces}
-use Rattle.page.specs.File.{page-records, file, page-text}
+use Rattle.page.specs.File.{page-records, file, unless-unused, page-text}
 use Rattle.page.specs.Told.{WritePage}
 use Rattle.page.specs.Claims.{Page, Restores, Why, no-window, ill-marked, all-written, Written-loads-back, Equal-answers, Length-reasons, Length-of-lengths}
 use Rattle.page.proofs.Held.{Good, all-good}
@@ -51,18 +49,18 @@ restores-so page marks old-page page′ marks′ l answer p m r =
 
 -- what was written is loaded as the file is
 pub loaded-back : (first : ℕ) (page marks out : List ℕ) (n : ℕ) (out′ old-page old-marks : List ℕ)
-    → Every Byte page → length old-page ≡ length page → length old-marks ≡ length marks → WritePage first page marks out (Wrote n) out′
+    → Every Byte page → Bytes marks → length old-page ≡ length page → length old-marks ≡ length marks → WritePage first page marks out (Wrote n) out′
     → let l = load (take n out′) first old-page old-marks in
     (l .answer ≡ accepted (record { records = length (pieces first 0 none (flags (length page) marks)) })) × Restores page marks old-page l
-loaded-back first page marks out n out′ old-page old-marks b lp lm w =
+loaded-back first page marks out n out′ old-page old-marks b bm lp lm w =
     subst (λ (text : List ℕ). let l = load text first old-page old-marks in
     (l .answer ≡ accepted (record { records = length (pieces first 0 none (flags (length page) marks)) })) × Restores page marks old-page l)
     (sym (rest-untouched first page marks out n out′ w .0))
-    (loads-back first page marks old-page old-marks (written-page first page marks (length out) n (reasons first page marks out (Wrote n) out′ w)) b lp lm)
+    (loads-back first page marks old-page old-marks (written-page first page marks (length out) n (reasons first page marks out (Wrote n) out′ w)) b bm lp lm)
 
 pub written-loads-back : Written-loads-back
-written-loads-back first page marks out n out′ old-page old-marks r page′ marks′ b lp lm w l =
-    let k = loaded-back first page marks out n out′ old-page old-marks b lp lm w in
+written-loads-back first page marks out n out′ old-page old-marks r page′ marks′ b bm lp lm w l =
+    let k = loaded-back first page marks out n out′ old-page old-marks b bm lp lm w in
     (l .answer ∙ k .0, restores-so page marks old-page page′ marks′ (load (take n out′) first old-page old-marks) (told-loading r) (l .page) (l .marks) (k .1))
 
 -- of two pages that are alike at marked places the same text is written, or the same refusal stands in its place
@@ -84,7 +82,7 @@ pub length-reasons : Length-reasons
 length-reasons first page marks r space l h =
     rw (l .answer)
     (text-cases first page marks (λ t. Why first page marks space (place-behind t 0))
-    no-window (λ v f. ill-marked (first-bad marks) v f)
+    no-window (λ place v f. ill-marked place v f)
     (λ p. rw (zero-add (length (file first page marks))) (all-written p (omega (arith, room-enough first page marks (p .window))))))
 
 -- ---- the length
@@ -123,11 +121,13 @@ pub length-of-lengths : Length-of-lengths
 unfolding page-text
 length-of-lengths first page₁ page₂ marks r₁ r₂ l x y = told-apart r₁ r₂ (x .answer ∙ go (unfit first (length page₂) (length marks)) refl ∙ sym (y .answer))
   where
+    by-unused : (u : Option ℕ) → place-behind (unless-unused u (chars (file first page₁ marks))) 0 ≡ place-behind (unless-unused u (chars (file first page₂ marks))) 0
+    by-unused none = ap (λ (n : ℕ). wrote (0 + n)) (files-as-long first page₁ page₂ marks l)
+    by-unused (some place) = refl
+
     go : (b : Bool) → unfit first (length page₂) (length marks) ≡ b → place-behind (page-text first page₁ marks) 0 ≡ place-behind (page-text first page₂ marks) 0
     go true e = rw (l, e)
     go false e =
         let e₁ : unfit first (length page₁) (length marks) ≡ false = rw l e in
         rw (e₁, e)
-        (both-ways (λ b. place-behind (if b then refused (bad-mark (first-bad marks)) else chars (file first page₁ marks)) 0
-        ≡ place-behind (if b then refused (bad-mark (first-bad marks)) else chars (file first page₂ marks)) 0) (ltb (first-bad marks) (length marks)) refl
-        (ap (λ (n : ℕ). wrote (0 + n)) (files-as-long first page₁ page₂ marks l)))
+        (ap (λ (n : ℕ). place-behind (unless-unused (first-unused n marks) (chars (file first page₁ marks))) 0) l ∙ by-unused (first-unused (length page₂) marks))

@@ -1,18 +1,19 @@
 -- The claims of `specs/Claims.antt` on the answer, the output and the contracts, proved: by the two tests of `page-text`, and by the room.
 -- Assumes nothing.
-use Prim.Native.Nat.{ℕ, _+_, _<_}
+use Prim.Native.Nat.{ℕ, _+_, _*_, _<_}
 use mathlib.Core.Path.{_≡_, refl, sym, _∙_, ap}
 use mathlib.Core.Logic.{_⊎_, inl, inr}
 use mathlib.Core.Bool.{Bool, true, false}
+use mathlib.Core.Option.{Option, none, some}
 use mathlib.Core.List.{List}
 use native.Mathlib.Omega.{arith}
 use native.Mathlib.Nat.{zero-add}
-use lib.Dec.{eqb, leb, ltb}
+use lib.Dec.{eqb, leb}
 use lib.ListN.{length, getD, take}
-use borrow.Author.Tests.{leb-true, leb-false, ltb-true, ltb-false}
-use Rattle.marks.specs.Marks.{first-bad}
-use Rattle.marks.specs.Claims.{First-bad}
-use Rattle.marks.proofs.Claims.{bad-found, none-bad, one-first-bad}
+use borrow.Author.Tests.{leb-true, leb-false}
+use Rattle.marks.specs.Marks.{row-length, first-unused}
+use Rattle.marks.specs.Claims.{First-unused}
+use Rattle.marks.proofs.UnusedBits.{unused-found, none-unused, one-first-unused}
 use Rattle.digits.specs.Common.{if_then_else_}
 use Rattle.record.specs.Refusals.{Refusal, refusal, output-full, bad-window, bad-mark}
 use Rattle.record.specs.Written.{written}
@@ -28,30 +29,32 @@ use Rattle.page.specs.declared.PageError.{PageError}
 use Rattle.page.specs.declared.PageError.the-variants.{BadWindow, BadMark, OutputFull}
 use Rattle.page.specs.declared.Paged.{Paged}
 use Rattle.page.specs.declared.Paged.the-variants.{Wrote, Refused}
-use Rattle.page.specs.File.{file, page-text}
+use Rattle.page.specs.File.{file, unless-unused, page-text}
 use Rattle.page.specs.Told.{page-refusal, told-page}
-use Rattle.page.specs.Claims.{Page, Why, no-window, ill-marked, no-room, all-written, Reasons, One-reason, Length-as-written, Refusal-changes-nothing, Rest-untouched, Told-apart, Page-file-length-unique, Write-page-unique, Examples}
+use Rattle.page.specs.Claims.{Page, Why, no-window, ill-marked, no-room, all-written, Reasons, One-reason, No-bad-mark, Length-as-written, Refusal-changes-nothing, Rest-untouched, Told-apart, Page-file-length-unique, Write-page-unique, Examples}
 
 -- ---- reasons
 
 -- what stands in the place of the file, by the two tests
 module _ (first : ℕ) (page marks : List ℕ) where
   pub text-cases : (P : Text → Type 0) → (¬ Window first page marks → P (refused bad-window))
-      → (Window first page marks → First-bad marks (first-bad marks) → P (refused (bad-mark (first-bad marks))))
+      → ((place : ℕ) → Window first page marks → First-unused marks (length page) place → P (refused (bad-mark place)))
       → (Page first page marks → P (chars (file first page marks))) → P (page-text first page marks)
   unfolding page-text
   text-cases P unfitting ill good =
       branch P (unfit first (length page) (length marks)) _ _
       (λ u. unfitting (is-no-window first page marks u))
-      (λ u. branch P (ltb (first-bad marks) (length marks)) _ _
-      (λ b. ill (good-window first page marks u) (bad-found marks (ltb-true (first-bad marks) (length marks) b)))
-      (λ b. good (record { window = good-window first page marks u; marks-good = none-bad marks (ltb-false (first-bad marks) (length marks) b) })))
+      (λ u. by-unused (good-window first page marks u) (first-unused (length page) marks) refl)
+    where
+      by-unused : Window first page marks → (o : Option ℕ) → first-unused (length page) marks ≡ o → P (unless-unused o (chars (file first page marks)))
+      by-unused w none e = good (record { window = w; unused = none-unused (length page) marks (w .row) e })
+      by-unused w (some place) e = ill place w (unused-found (length page) marks place e)
 
 pub reasons : Reasons
 reasons first page marks out r out′ w =
     rw (w .answer)
     (text-cases first page marks (λ t. Why first page marks (length out) (if-room (place-behind t 0) (length out)))
-    no-window (λ v f. ill-marked (first-bad marks) v f) fits)
+    no-window (λ place v f. ill-marked place v f) fits)
   where
     fits : Page first page marks → Why first page marks (length out) (if-room (wrote (0 + length (file first page marks))) (length out))
     fits p = rw (zero-add (length (file first page marks)))
@@ -59,8 +62,22 @@ reasons first page marks out r out′ w =
         (λ e. all-written p (leb-true (length (file first page marks)) (length out) e)) (λ e. no-room p (leb-false (length (file first page marks)) (length out) e)))
 
 -- a page that is written has none
-no-bad : {first : ℕ} {page : List ℕ} (marks : List ℕ) (p : ℕ) → Page first page marks → First-bad marks p → ⊥
-no-bad marks p g f = f .bad (g .marks-good p)
+no-bad : {first : ℕ} {page : List ℕ} (marks : List ℕ) (p : ℕ) → Page first page marks → First-unused marks (length page) p → ⊥
+no-bad marks p g f = omega (arith, f .set, g .unused p (f .low))
+
+-- a multiple of 8 leaves no place to name
+pub none-to-name : (marks : List ℕ) (n eighth p : ℕ) → n ≡ 8 * eighth → First-unused marks n p → ⊥
+unfolding row-length
+none-to-name marks n eighth p e f = omega (arith, f .low, f .high)
+
+pub no-bad-mark : No-bad-mark
+no-bad-mark first page marks room eighth place e why = go (refuses (bad-mark place)) why refl
+  where
+    go : (t : Told-written) → Why first page marks room t → t ≡ refuses (bad-mark place) → ⊥
+    go _ (no-window n) q = let z : _≡_ {A = ℕ} 0 1 = cc in omega arith
+    go _ (ill-marked p w f) q = none-to-name marks (length page) eighth p e f
+    go _ (no-room g l) q = let z : _≡_ {A = ℕ} 0 1 = cc in omega arith
+    go _ (all-written g l) q = let z : _≡_ {A = ℕ} 0 1 = cc in omega arith
 
 pub one-reason : One-reason
 one-reason first page marks room _ _ (no-window n) (no-window n′) = refl
@@ -68,7 +85,7 @@ one-reason first page marks room _ _ (no-window n) (ill-marked p w f) = absurd (
 one-reason first page marks room _ _ (no-window n) (no-room g l) = absurd (n (g .window))
 one-reason first page marks room _ _ (no-window n) (all-written g l) = absurd (n (g .window))
 one-reason first page marks room _ _ (ill-marked p w f) (no-window n) = absurd (n w)
-one-reason first page marks room _ _ (ill-marked p w f) (ill-marked p′ w′ f′) = ap (λ (k : ℕ). refuses (bad-mark k)) (one-first-bad marks p p′ f f′)
+one-reason first page marks room _ _ (ill-marked p w f) (ill-marked p′ w′ f′) = ap (λ (k : ℕ). refuses (bad-mark k)) (one-first-unused marks (length page) p p′ f f′)
 one-reason first page marks room _ _ (ill-marked p w f) (no-room g l) = absurd (no-bad marks p g f)
 one-reason first page marks room _ _ (ill-marked p w f) (all-written g l) = absurd (no-bad marks p g f)
 one-reason first page marks room _ _ (no-room g l) (no-window n) = absurd (n (g .window))
@@ -99,7 +116,7 @@ rest-untouched first page marks out n out′ w =
     let v : Writes (page-text first page marks) out 0 (WriterWrote n) out′ = record { answer = w .answer; left = w .left } in
     let s = writer.stands-there (page-text first page marks) out n out′ v .0 in (
       text-cases first page marks (λ t. t ≡ chars (take n out′) → take n out′ ≡ file first page marks)
-          (λ n e. cc) (λ w f e. cc) (λ g e. cc) s,
+          (λ n e. cc) (λ place w f e. cc) (λ g e. cc) s,
       writer.rest-untouched (page-text first page marks) out 0 n out′ v .1,
     )
 
@@ -148,4 +165,4 @@ write-page-unique first page marks out r r′ o o′ x y = (told-apart r r′ (x
 
 pub examples : Examples
 unfolding page-text written
-examples = record { bare = refl; across = refl; top = refl; second-mark-bad = refl }
+examples = record { bare = refl; across = refl; top = refl; unused-set = refl }

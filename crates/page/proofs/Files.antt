@@ -10,7 +10,8 @@ use lib.ListN.{length, getD, take, drop}
 use lib.Seq.{getD-take, getD-drop, ext-getD}
 use borrow.Author.Tests.{le-leb}
 use Rattle.marks.specs.Marks.{flags}
-use Rattle.marks.proofs.Flags.{flags-length, flag-marked}
+use Rattle.marks.proofs.Rows.{flags-length}
+use Rattle.marks.proofs.Claims.{flag-marked}
 use Rattle.digits.specs.Common.{if_then_else_, Every, Byte}
 use Rattle.record.specs.declared.Record.{Record}
 use Rattle.record.specs.declared.Record.the-variants.{EndOfFile, ExtendedLinearAddress}

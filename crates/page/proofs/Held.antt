@@ -10,8 +10,7 @@ use lib.ListN.{length, getD}
 use borrow.Author.Tests.{eqb-true}
 use Rattle.digits.specs.Common.{Every}
 use Rattle.digits.proofs.Tests.{branch}
-use Rattle.marks.specs.Marks.{mark-at}
-use Rattle.marks.proofs.Places.{marked-inside}
+use Rattle.marks.proofs.Claims.{one-inside}
 use Rattle.page.specs.Pieces.{Piece, is-marked, pieces}
 use Rattle.page.specs.Shape.{places, held, marked-places, Sized}
 use Rattle.page.proofs.Shape.{made-so}
@@ -42,7 +41,7 @@ pub record Good (first : ℕ) (marks : List ℕ) (p : Piece) : Type 0 where
   pub all-marked : (i : ℕ) → i < p .size → getD marks (p .place + i) 0 ≡ 1
 
 good : (first : ℕ) (marks : List ℕ) (ps : List Piece) → Every (Sized first) ps → Every (λ i. getD marks i 0 ≡ 1) (held ps) → Every (Good first marks) ps
-unfolding held mark-at
+unfolding held
 good first marks [] s h = tt
 good first marks (p ∷ ps) (s, ss) h =
     let (m, hs) = every-part (λ i. getD marks i 0 ≡ 1) (p .place) (p .size) (held ps) h in
@@ -50,7 +49,7 @@ good first marks (p ∷ ps) (s, ss) h =
   where
     reaches : (n : ℕ) → 1 ≤ n → ((i : ℕ) → i < n → getD marks (p .place + i) 0 ≡ 1) → p .place + n ≤ length marks
     reaches zero l m = absurd (omega arith)
-    reaches (suc n) l m = omega (arith, marked-inside marks (p .place + n) (m n (omega arith)))
+    reaches (suc n) l m = omega (arith, one-inside marks (p .place + n) (m n (omega arith)))
 
 pub all-good : (first : ℕ) (marks : List ℕ) → Every (Good first marks) (pieces first 0 none marks)
 all-good first marks =

@@ -12,10 +12,10 @@ use native.Mathlib.Nat.{add-zero, zero-add}
 use lib.ListN.{length, getD, take, drop, List·getD-eq-default}
 use lib.Seq.{drop-cons, ext-getD}
 use borrow.Author.Tests.{eq-eqb, ne-eqb, le-leb, lt-ltb}
-use Rattle.marks.specs.Marks.{row-length, mark-at, Marked, flags}
-use Rattle.marks.specs.Claims.{Mark, All-good}
-use Rattle.marks.proofs.Places.{marked-inside}
-use Rattle.marks.proofs.Flags.{flags-length, whole-row}
+use Rattle.marks.specs.Marks.{row-length, mark-at, flags, packed}
+use Rattle.marks.specs.Claims.{Bytes, Flag, All-flags}
+use Rattle.marks.proofs.Rows.{flags-length, flags-say}
+use Rattle.marks.proofs.Claims.{one-inside, flags-are-flags, packed-unpacked}
 use Rattle.digits.specs.Common.{if_then_else_, Every}
 use Rattle.record.specs.declared.Record.{Record}
 use Rattle.record.specs.declared.Record.the-variants.{ExtendedLinearAddress}
@@ -42,7 +42,7 @@ use Rattle.page.specs.Pieces.{Piece, is-marked, pieces}
 use Rattle.page.specs.File.{upper, data-of, is-latest, records, page-records, file}
 use Rattle.page.specs.Shape.{places, held, marked-places}
 use Rattle.page.specs.Spoken.{said-of, spoken}
-use Rattle.page.specs.Claims.{Restores, Loads-back, Files-tell}
+use Rattle.page.specs.Claims.{Page, Restores, Loads-back, Files-tell}
 use Rattle.page.proofs.Spoken.{spoken-row}
 use Rattle.page.proofs.Shape.{made-so}
 use Rattle.page.proofs.Records.{is-so}
@@ -175,77 +175,111 @@ module _ (first : ℕ) (page : List ℕ) where
 
 -- ---- painted and marked again
 
-mark-seen : (page : List ℕ) (m i : ℕ) → Mark m → mark (seen page m i) ≡ m
+mark-seen : (page : List ℕ) (m i : ℕ) → Flag m → mark (seen page m i) ≡ m
 unfolding mark seen
 mark-seen page m i (inl e) = rw e
 mark-seen page m i (inr e) = rw e
 
-module _ (first : ℕ) (page marks old-page old-marks : List ℕ) (even : length page ≡ length marks) (lp : length old-page ≡ length page) (lm : length old-marks ≡ length marks) where
+-- a page and its marks, unpacked, and the old ones
+module _ (first : ℕ) (page list old-page old-list : List ℕ) (even : length page ≡ length list) (lp : length old-page ≡ length page) (lm : length old-list ≡ length list) where
   abbrev site : ℕ → Option ℕ
   site = window first (length old-page)
 
   abbrev there : List Placement
-  there = map (placement first page) (marked-places 0 marks)
+  there = map (placement first page) (marked-places 0 list)
 
-  last-there : (i : ℕ) → i < length marks → last-at (first + i) there ≡ seen page (getD marks i 0) i
-  last-there i h = rw (zero-add i) at (last-marked first page 0 i marks h)
+  last-there : (i : ℕ) → i < length list → last-at (first + i) there ≡ seen page (getD list i 0) i
+  last-there i h = rw (zero-add i) at (last-marked first page 0 i list h)
 
-  byte-there : (i : ℕ) → i < length marks → getD (painted site 0 there old-page) i 0 ≡ Option·getD (seen page (getD marks i 0) i) (getD old-page i 0)
+  byte-there : (i : ℕ) → i < length list → getD (painted site 0 there old-page) i 0 ≡ Option·getD (seen page (getD list i 0) i) (getD old-page i 0)
   unfolding byte-shown
   byte-there i h =
       painted-at site there old-page i (omega arith)
       ∙ rw (shows first (length old-page) i (omega arith)) (ap (λ (o : Option ℕ). Option·getD o (getD old-page i 0)) (last-there i h))
 
-  marks-again : All-good marks → marked site 0 there old-marks ≡ marks
-  unfolding mark-at mark-shown
+  marks-again : All-flags list → marked site 0 there old-list ≡ list
+  unfolding mark-shown
   marks-again g =
-      let l = length-marked site there 0 old-marks in
-      ext-getD 0 (marked site 0 there old-marks) marks (l ∙ lm)
-      (λ i k. marked-at site there old-marks i (omega arith) ∙ rw (shows first (length old-page) i (omega arith)) (ap mark (last-there i (omega arith))) ∙ mark-seen page (getD marks i 0) i (g i))
+      let l = length-marked site there 0 old-list in
+      ext-getD 0 (marked site 0 there old-list) list (l ∙ lm)
+      (λ i k. marked-at site there old-list i (omega arith) ∙ rw (shows first (length old-page) i (omega arith)) (ap mark (last-there i (omega arith))) ∙ mark-seen page (getD list i 0) i (g i))
 
-  bytes-again : (i : ℕ) → Marked marks i → getD (painted site 0 there old-page) i 0 ≡ getD page i 0
-  unfolding seen mark-at
-  bytes-again i m = byte-there i (marked-inside marks i m) ∙ rw m
+  bytes-again : (i : ℕ) → getD list i 0 ≡ 1 → getD (painted site 0 there old-page) i 0 ≡ getD page i 0
+  unfolding seen
+  bytes-again i m = byte-there i (one-inside list i m) ∙ rw m
 
-  others-again : (i : ℕ) → mark-at marks i ≡ 0 → getD (painted site 0 there old-page) i 0 ≡ getD old-page i 0
-  unfolding seen mark-at
+  others-again : (i : ℕ) → getD list i 0 ≡ 0 → getD (painted site 0 there old-page) i 0 ≡ getD old-page i 0
+  unfolding seen
   others-again i m =
-      split (length marks) i
+      split (length list) i
       (λ h. let l = length-painted site there 0 old-page in
       List·getD-eq-default (painted site 0 there old-page) 0 (omega arith) ∙ sym (List·getD-eq-default old-page 0 (omega arith)))
       (λ h. byte-there i h ∙ rw m)
 
+-- ---- packed
+
+module _ (first : ℕ) (page marks old-page old-marks : List ℕ) (P : Page first page marks) (bytes : Bytes marks) (lp : length old-page ≡ length page) where
+  list : List ℕ
+  list = flags (length page) marks
+
+  old-list : List ℕ
+  old-list = flags (length old-page) old-marks
+
+  list-length : length list ≡ length page
+  unfolding list
+  list-length = flags-length (length page) marks
+
+  old-length : length old-list ≡ length list
+  unfolding list old-list
+  old-length = flags-length (length old-page) old-marks ∙ lp ∙ sym (flags-length (length page) marks)
+
+  -- a marked place is one of the page, and a place of the list says its mark
+  list-says : (i : ℕ) → getD list i 0 ≡ mark-at marks i
+  unfolding list
+  list-says i =
+      split (length page) i
+      (λ l. List·getD-eq-default (flags (length page) marks) 0 {n = i} (omega (arith, flags-length (length page) marks)) ∙ sym (P .unused i l))
+      (λ l. flags-say (length page) marks i l)
+
   -- a text that is accepted with k data records and states the marked places
-  restores : (text : List ℕ) (k : ℕ) → All-good marks → verdict (stopping text first old-page old-marks) ≡ accepted (tally k)
-      → placements text ≡ there
+  restores : (text : List ℕ) (k : ℕ) → verdict (stopping text first old-page old-marks) ≡ accepted (tally k)
+      → placements text ≡ map (placement first page) (marked-places 0 (flags (length page) marks))
       → let l = load text first old-page old-marks in (l .answer ≡ accepted (tally k)) × Restores page marks old-page l
-  restores text k g v s =
-      rw (accepted-load text first old-page old-marks (tally k) v, s)
-      (refl, record { same-marks = marks-again g; same-bytes = bytes-again; others-kept = others-again })
+  unfolding list old-list
+  restores text k v s =
+      rw (accepted-load text first old-page old-marks (tally k) v, s) (
+        refl,
+        record {
+          same-marks = ap packed (marks-again first page list old-page old-list (sym list-length) lp old-length (flags-are-flags (length page) marks))
+              ∙ packed-unpacked (length page) marks bytes (P .window .row) (P .unused);
+          same-bytes = λ i m. bytes-again first page list old-page old-list (sym list-length) lp old-length i (list-says i ∙ m);
+          others-kept = λ i m. others-again first page list old-page old-list (sym list-length) lp old-length i (list-says i ∙ m);
+        },
+      )
 
 -- ---- the claims
 
 pub loads-back : Loads-back
-unfolding placements stopping steps-of stopping-by verdict page-records row-length
-loads-back first page marks old-page old-marks P b lp lm =
+unfolding placements stopping steps-of stopping-by verdict page-records
+loads-back first page marks old-page old-marks P b bm lp lm =
     let w = P .window in
     let shown : List ℕ = flags (length page) marks in
     let ps : List Piece = pieces first 0 none shown in
     let said = spoken-row (page-records first shown) page (file first page marks) (in-range first page marks w) b (file-is-object first page marks w) in
     let c = comes first page (w .below) shown (sym (flags-length (length page) marks)) 1 0 from-start none ps (all-good first shown) (all-sayable first page marks w b) (λ u e. cc) in
     let cut = cut-text (λ base. base) (file first page marks) in
-    let old : Window first old-page old-marks = record { even = lp ∙ w .even ∙ sym lm; small = omega (arith, w .small); below = omega (arith, w .below) } in
+    let old : Window first old-page old-marks = record { row = lm ∙ w .row ∙ ap row-length (sym lp); small = omega (arith, w .small); below = omega (arith, w .below) } in
     let fit : unfit first (length old-page) (length old-marks) ≡ false = unfit-is-no-window first old-page old-marks (unfit first (length old-page) (length old-marks)) (record { answer = refl }) .1 old in
-    restores first page marks old-page old-marks (w .even) lp lm (file first page marks) (length ps) (P .marks-good)
+    restores first page marks old-page old-marks P bm lp (file first page marks) (length ps)
     (ap verdict (fit-stopping first old-page old-marks (steps-of (file first page marks)) fit ∙ sym (cut .0 (within first (length old-page)) nothing-yet))
     ∙ rw (lp, said, c .decides) (ap (λ (k : ℕ). accepted (tally k)) (zero-add (length ps))))
-    (sym (cut .1) ∙ rw said (c .states ∙ ap (map (placement first page)) (made-so first shown .holds ∙ ap (marked-places 0) (whole-row (length page) marks (sym (w .even))))))
+    (sym (cut .1) ∙ rw said (c .states ∙ ap (map (placement first page)) (made-so first shown .holds)))
 
 pub files-tell : Files-tell
-files-tell first page₁ marks₁ page₂ marks₂ P₁ P₂ b₁ b₂ l e =
-    let even : length marks₁ ≡ length marks₂ = sym (P₁ .window .even) ∙ l ∙ P₂ .window .even in
-    let r₁ = loads-back first page₁ marks₁ page₁ marks₁ P₁ b₁ refl refl .1 in
-    let r₂ = loads-back first page₂ marks₂ page₁ marks₁ P₂ b₂ l even .1 in
+files-tell first page₁ marks₁ page₂ marks₂ P₁ P₂ b₁ b₂ m₁ m₂ l e =
+    let even : length marks₁ ≡ length marks₂ = P₁ .window .row ∙ ap row-length l ∙ sym (P₂ .window .row) in
+    let r₁ = loads-back first page₁ marks₁ page₁ marks₁ P₁ b₁ m₁ refl refl .1 in
+    let r₂ = loads-back first page₂ marks₂ page₁ marks₁ P₂ b₂ m₂ l even .1 in
     let same : load (file first page₁ marks₁) first page₁ marks₁ ≡ load (file first page₂ marks₂) first page₁ marks₁ = ap (λ (t : List ℕ). load t first page₁ marks₁) e in
     let marks-same : marks₁ ≡ marks₂ = sym (r₁ .same-marks) ∙ ap (λ (x : Loaded). x .marks) same ∙ r₂ .same-marks in (
       marks-same,

@@ -7,7 +7,8 @@ use native.Mathlib.Omega.{arith}
 use mathlib.Core.List.{List}
 use lib.ListN.{length, getD}
 use Rattle.marks.specs.Marks.{Marked, Unmarked, flags, NextMarked, NextUnmarked}
-use Rattle.marks.proofs.Flags.{flags-length, flags-say, flag-marked}
+use Rattle.marks.proofs.Rows.{flags-length, flags-say}
+use Rattle.marks.proofs.Claims.{flag-marked}
 use Rattle.digits.proofs.Tests.{split}
 use Rattle.page.specs.Helpers.{reach, PieceEnd}
 

@@ -8,7 +8,7 @@ use mathlib.Core.List.{List, [], _∷_, _++_}
 use native.Mathlib.Omega.{arith}
 use lib.ListN.{length, drop, length-append, length-take}
 use Rattle.marks.specs.Marks.{flags}
-use Rattle.marks.proofs.Flags.{flags-length}
+use Rattle.marks.proofs.Rows.{flags-length}
 use Rattle.record.specs.declared.Record.{Record}
 use Rattle.record.specs.declared.Record.the-variants.{EndOfFile, ExtendedLinearAddress}
 use Rattle.record.specs.Record.{meant}

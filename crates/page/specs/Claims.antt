@@ -12,8 +12,8 @@ use Rattle.record.specs.declared.Record.{Record}
 use Rattle.record.specs.Line.{judge}
 use Rattle.record.specs.Written.{rewritten}
 use Rattle.reader.specs.Lines.{LF, lines}
-use Rattle.marks.specs.Marks.{mark-at, Marked, flags}
-use Rattle.marks.specs.Claims.{All-good, First-bad}
+use Rattle.marks.specs.Marks.{mark-at, Marked, flags, Unused-clear}
+use Rattle.marks.specs.Claims.{Bytes, First-unused}
 use Rattle.writer.specs.Told.{Told-written, wrote, refuses}
 use Rattle.writer.specs.Text.{chars, refused}
 use Rattle.writer.specs.Line.{line}
@@ -37,7 +37,7 @@ use Rattle.page.specs.Told.{told-page, PageFileLength, WritePage}
 -- a page that neither 16 nor 19 refuses
 pub record Page (first : ℕ) (page marks : List ℕ) : Type 0 where
   pub window : Window first page marks
-  pub marks-good : All-good marks
+  pub unused : Unused-clear (length page) marks
 
 -- the text is the object of its records, so each has its line and the one end record is last
 abbrev pub File-is-object : Type 0
@@ -64,7 +64,7 @@ pub record Restores (page marks old-page : List ℕ) (l : Loaded) : Type 0 where
 -- into the same window, whatever page and marks held, it is accepted with all its data records
 abbrev pub Loads-back : Type 0
 Loads-back =
-    (first : ℕ) (page marks old-page old-marks : List ℕ) → Page first page marks → Every Byte page
+    (first : ℕ) (page marks old-page old-marks : List ℕ) → Page first page marks → Every Byte page → Bytes marks
     → length old-page ≡ length page → length old-marks ≡ length marks
     → let l = load (file first page marks) first old-page old-marks in
     (l .answer ≡ accepted (record { records = length (pieces first 0 none (flags (length page) marks)) })) × Restores page marks old-page l
@@ -73,7 +73,7 @@ Loads-back =
 abbrev pub Written-loads-back : Type 0
 Written-loads-back =
     (first : ℕ) (page marks out : List ℕ) (n : ℕ) (out′ old-page old-marks : List ℕ) (r : Loading) (page′ marks′ : List ℕ)
-    → Every Byte page → length old-page ≡ length page → length old-marks ≡ length marks
+    → Every Byte page → Bytes marks → length old-page ≡ length page → length old-marks ≡ length marks
     → WritePage first page marks out (Wrote n) out′ → Load (take n out′) first old-page old-marks r page′ marks′
     → (told-loading r ≡ accepted (record { records = length (pieces first 0 none (flags (length page) marks)) }))
     × Restores page marks old-page (record { answer = told-loading r; page = page′; marks = marks′ })
@@ -97,7 +97,7 @@ Equal-answers =
 -- and nothing else gives equal files
 abbrev pub Files-tell : Type 0
 Files-tell =
-    (first : ℕ) (page₁ marks₁ page₂ marks₂ : List ℕ) → Page first page₁ marks₁ → Page first page₂ marks₂ → Every Byte page₁ → Every Byte page₂
+    (first : ℕ) (page₁ marks₁ page₂ marks₂ : List ℕ) → Page first page₁ marks₁ → Page first page₂ marks₂ → Every Byte page₁ → Every Byte page₂ → Bytes marks₁ → Bytes marks₂
     → length page₁ ≡ length page₂ → file first page₁ marks₁ ≡ file first page₂ marks₂
     → (marks₁ ≡ marks₂) × ((i : ℕ) → Marked marks₁ i → getD page₁ i 0 ≡ getD page₂ i 0)
 
@@ -106,7 +106,7 @@ Files-tell =
 -- a reason for an answer, for an output of this much room
 pub data Why (first : ℕ) (page marks : List ℕ) (room : ℕ) : Told-written → Type 0 where
   no-window : ¬ Window first page marks → Why first page marks room (refuses bad-window)
-  ill-marked : (place : ℕ) → Window first page marks → First-bad marks place → Why first page marks room (refuses (bad-mark place))
+  ill-marked : (place : ℕ) → Window first page marks → First-unused marks (length page) place → Why first page marks room (refuses (bad-mark place))
   no-room : Page first page marks → room < length (file first page marks) → Why first page marks room (refuses output-full)
   all-written : Page first page marks → length (file first page marks) ≤ room → Why first page marks room (wrote (length (file first page marks)))
 
@@ -117,6 +117,10 @@ Reasons = (first : ℕ) (page marks out : List ℕ) (r : Paged) (out′ : List �
 -- and no second answer has one
 abbrev pub One-reason : Type 0
 One-reason = (first : ℕ) (page marks : List ℕ) (room : ℕ) (t t′ : Told-written) → Why first page marks room t → Why first page marks room t′ → t ≡ t′
+
+-- where the number of places is a multiple of 8 no bit is unused, and 19 has no reason
+abbrev pub No-bad-mark : Type 0
+No-bad-mark = (first : ℕ) (page marks : List ℕ) (room eighth place : ℕ) → length page ≡ 8 * eighth → ¬ Why first page marks room (refuses (bad-mark place))
 
 -- seven bytes for each place of the page and 58 more have room for every file
 abbrev pub Room-enough : Type 0
@@ -167,12 +171,13 @@ Write-page-unique =
 
 pub record Examples : Type 0 where
   -- nothing is marked: the end record alone
-  pub bare : file 0 (1 ∷ 2 ∷ []) (0 ∷ 0 ∷ []) ≡ text ":00000001FF" ++ (LF ∷ [])
+  pub bare : file 0 (1 ∷ 2 ∷ []) (0 ∷ []) ≡ text ":00000001FF" ++ (LF ∷ [])
   -- FFFE to 10011 but for 10010: two bytes, other upper bits, sixteen, and one behind the gap
-  pub across : file 0xFFFE (replicate 20 0xAB) (replicate 18 1 ++ (0 ∷ 1 ∷ []))
+  pub across : file 0xFFFE (replicate 20 0xAB) (0xFF ∷ 0xFF ∷ 0x0B ∷ [])
       ≡ text ":020000040000FA" ++ (LF ∷ text ":02FFFE00ABABAB") ++ (LF ∷ text ":020000040001F9")
       ++ (LF ∷ text ":10000000ABABABABABABABABABABABABABABABAB40") ++ (LF ∷ text ":01001100AB43") ++ (LF ∷ text ":00000001FF") ++ (LF ∷ [])
   -- the last three places that there are
-  pub top : file 0xFFFFFFFD (1 ∷ 2 ∷ 3 ∷ []) (1 ∷ 1 ∷ 1 ∷ [])
+  pub top : file 0xFFFFFFFD (1 ∷ 2 ∷ 3 ∷ []) (7 ∷ [])
       ≡ text ":02000004FFFFFC" ++ (LF ∷ text ":03FFFD00010203FB") ++ (LF ∷ text ":00000001FF") ++ (LF ∷ [])
-  pub second-mark-bad : page-text 0 (1 ∷ 2 ∷ []) (1 ∷ 2 ∷ []) ≡ refused (bad-mark 1)
+  -- of 3 places with marks 22, bits 1 and 5 are set; bit 5 is unused
+  pub unused-set : page-text 0 (1 ∷ 2 ∷ 3 ∷ []) (0x22 ∷ []) ≡ refused (bad-mark 5)

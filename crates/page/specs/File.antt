@@ -4,13 +4,13 @@ use Prim.Native.Nat.{ℕ, _+_, _/_, _%_}
 use mathlib.Core.Bool.{Bool, false}
 use mathlib.Core.Option.{Option, none, some}
 use mathlib.Core.List.{List, [], _∷_, _++_}
-use lib.Dec.{eqb, ltb}
+use lib.Dec.{eqb}
 use lib.ListN.{length}
 use Rattle.digits.specs.Common.{if_then_else_}
 use Rattle.record.specs.Refusals.{bad-window, bad-mark}
 use Rattle.record.specs.declared.Record.{Record}
 use Rattle.record.specs.declared.Record.the-variants.{Data, EndOfFile, ExtendedLinearAddress}
-use Rattle.marks.specs.Marks.{flags, first-bad}
+use Rattle.marks.specs.Marks.{flags, first-unused}
 use Rattle.writer.specs.Text.{Text, chars, refused}
 use Rattle.writer.specs.Object.{joined-lines}
 use Rattle.window.specs.Window.{unfit}
@@ -50,15 +50,23 @@ page-records first flags = records first none (pieces first 0 none flags)
 
 -- ---- the text
 
--- each record's line as our writer writes it, with one LF
+-- the file of a page whose marks are a number for each place: each record's line as our writer writes it, with one LF
+abbrev pub flag-file : (first : ℕ) (page flags : List ℕ) → List ℕ
+flag-file first page flags = joined-lines (page-records first flags) page
+
+-- with packed marks it is that of the marks, unpacked
 unfoldable pub file : (first : ℕ) (page marks : List ℕ) → List ℕ
 unfolding joined-lines page-records flags
-file first page marks = joined-lines (page-records first (flags (length page) marks)) page
+file first page marks = flag-file first page (flags (length page) marks)
+
+-- 19 names the lowest unused bit that is set
+abbrev pub unless-unused : Option ℕ → Text → Text
+unless-unused none t = t
+unless-unused (some place) t = refused (bad-mark place)
 
 -- 16, then 19, and else the file; 15 comes where an output has no room for it
 unfoldable pub page-text : (first : ℕ) (page marks : List ℕ) → Text
-unfolding unfit first-bad file
+unfolding unfit first-unused file
 page-text first page marks =
     if unfit first (length page) (length marks) then refused bad-window else
-    if ltb (first-bad marks) (length marks) then refused (bad-mark (first-bad marks)) else
-    chars (file first page marks)
+    unless-unused (first-unused (length page) marks) (chars (file first page marks))

@@ -1,4 +1,5 @@
 // A page with marks written back: each run of marked places becomes data records, with the type 04 records that they need and the end record.
+use marks::Unused;
 use record::Record;
 use writer::Survey;
 use writer::Written;
@@ -21,7 +22,7 @@ const NONE: u32 = 65536;
 // Why a page is not written.
 pub enum PageError {
     BadWindow,
-    // The place of the first mark that is neither 0 nor 1.
+    // The lowest unused bit of the marks that is set, by the place that it would have.
     BadMark(usize),
     OutputFull,
 }
@@ -178,11 +179,10 @@ fn survey_page(first: u32, page: &[u8], marks: &[u8]) -> PageSurvey
     if window::is_unfit(first, page.len(), marks.len()) {
         return PageSurvey::Refused(PageError::BadWindow);
     }
-    let bad = marks::first_bad(marks);
-    if bad < marks.len() {
-        return PageSurvey::Refused(PageError::BadMark(bad));
+    match marks::first_unused(marks, page.len()) {
+        Unused::At(place) => PageSurvey::Refused(PageError::BadMark(place)),
+        Unused::Clear => PageSurvey::Of(survey(first, page, marks)),
     }
-    PageSurvey::Of(survey(first, page, marks))
 }
 
 // The writer's answer, which refuses only with 15.

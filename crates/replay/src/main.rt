@@ -6,7 +6,7 @@
 //   T FLAGS POOL BYTES             the text of these bytes, read into a pool of POOL bytes, each payload at its start
 //   W RECORD OUT BYTES             the record, with these bytes as its pool, written to an output of OUT bytes
 //   O OUT BYTES RECORD RECORD ..   the object of the records, with these bytes as their pool
-//   M FIRST PAGE MARKS BYTES       the text of these bytes, loaded into a page of PAGE bytes whose first address is FIRST
+//   M FIRST PAGE MARKS BYTES       the text of these bytes, loaded into a page of PAGE bytes from the address FIRST on, with MARKS bytes of marks
 //
 // A record is its type, two numbers, and the position and the length of its payload. The first number
 // is the offset of data and the number of types 02 to 05 (of 03: CS, and the second is IP). Bit 0 of

@@ -1,4 +1,5 @@
 pub mod Source
 pub mod Places
 pub mod Sites
+pub mod Packed
 pub mod Runs

@@ -1,4 +1,5 @@
 pub mod Steps
 pub mod Source
 pub mod Sites
+pub mod Packed
 pub mod Runs

@@ -10,6 +10,7 @@ use lib.Dec.{ltb}
 use lib.ListN.{length, replicate, length-replicate}
 use borrow.Author.Tests.{ltb-true}
 use Rattle.digits.specs.Common.{if_then_else_}
+use Rattle.marks.proofs.Claims.{same-bits}
 use Rattle.window.specs.declared.Reach.{Reach}
 use Rattle.window.specs.declared.Reach.the-variants.{Inside, Outside}
 use Rattle.window.specs.Window.{within, window, unfit}
@@ -59,4 +60,5 @@ first-outside-unique first size address len r r′ x y =
     named-apart address r r′ (sym (x .answer bytes l) ∙ y .answer bytes l)
 
 pub put-run-unique : Put-run-unique
-put-run-unique first address bytes page marks p p′ m m′ x y = (x .page ∙ sym (y .page), x .marks ∙ sym (y .marks))
+put-run-unique first address bytes page marks p p′ m m′ b x y =
+    (x .page ∙ sym (y .page), same-bits m m′ (x .row .bytes b) (y .row .bytes b) (x .row .same-length ∙ sym (y .row .same-length)) (x .marks ∙ sym (y .marks)))

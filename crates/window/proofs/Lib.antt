@@ -1,3 +1,4 @@
 pub mod Tests
 pub mod Storing
+pub mod Packed
 pub mod Claims

@@ -9,10 +9,10 @@ use mathlib.Core.List.{List, _++_, append-nil}
 use lib.ListN.{length, getD, take, drop, replicate, length-replicate, getD-replicate, List·getD-eq-default, List·getD-append, length-append, length-drop, drop-of-length-le}
 use lib.Seq.{ext-getD, drop-drop, take-length, length-take-le, getD-append-add, getD-take, getD-drop}
 use borrow.Author.Tests.{lt-ltb, le-ltb}
-use Rattle.marks.proofs.Places.{split}
-use Rattle.marks.specs.Marks.{mark-at, marked-run}
+use Rattle.marks.proofs.Below.{split}
+use Rattle.marks.specs.Marks.{mark-at, bits, marked-run}
 use Rattle.marks.specs.Claims.{Run-marked}
-use Rattle.marks.proofs.Runs.{run-made-so}
+use Rattle.marks.proofs.Claims.{run-made-so, bits-length, bits-say}
 use Rattle.steps.specs.Sites.{byte-shown, painted}
 use Rattle.steps.specs.Runs.{run}
 use Rattle.steps.proofs.Places.{length-painted, painted-at}
@@ -95,9 +95,10 @@ module _ (first address : ℕ) (bytes page marks : List ℕ) where
         page = run-only first (length page) address bytes page page′ (s .page-length)
             (λ i k h z l e. s .byte i k h l e)
             (λ i h a. s .byte-kept i (in-page i h a));
-        marks = rw (marks-of-run address bytes) (run-only first (length page) address ones marks marks′ (s .marks-length)
-            (λ i k h z l e. s .marked i k z (omega (arith, ones-length)) e h ∙ sym (getD-replicate (length bytes) k 1 0 (omega (arith, ones-length))))
-            (λ i h a. s .mark-kept i (rw ones-length at a)));
+        marks = rw (marks-of-run address bytes) (run-only first (length page) address ones (bits marks) (bits marks′) (omega (arith, bits-length marks, bits-length marks′, s .marks-length))
+            (λ i k h z l e. bits-say marks′ i ∙ s .marked i k z (omega (arith, ones-length)) e (omega (arith, bits-length marks)) ∙ sym (getD-replicate (length bytes) k 1 0 (omega (arith, ones-length))))
+            (λ i h a. bits-say marks′ i ∙ s .mark-kept i (rw ones-length at a) ∙ sym (bits-say marks i)));
+        row = record { same-length = s .marks-length; bytes = s .marks-bytes };
       }
     where
       in-page : (i : ℕ) → i < length page → (first + i < address) ⊎ ((address + length bytes ≤ first + i) ⊎ (length page ≤ i)) → (first + i < address) ⊎ (address + length bytes ≤ first + i)
@@ -107,16 +108,21 @@ module _ (first address : ℕ) (bytes page marks : List ℕ) where
 
   is-put : (page′ marks′ : List ℕ) → PutRun first address bytes page marks page′ marks′ → Stored-run first address bytes page marks page′ marks′
   is-put page′ marks′ p =
-      let m : marks′ ≡ painted (window first (length page)) 0 (run address ones) marks = rw (marks-of-run address bytes) at (p .marks) in
-      rw (p .page, m) (record {
+      rw (p .page) (record {
         page-length = length-painted (window first (length page)) (run address bytes) 0 page;
-        marks-length = length-painted (window first (length page)) (run address ones) 0 marks;
+        marks-length = p .row .same-length;
+        marks-bytes = p .row .bytes;
         byte = λ i k h l e. run-there first (length page) address bytes page i k h h l e;
-        marked = λ i k h l e g. run-there first (length page) address ones marks i k g h (omega (arith, ones-length)) e ∙ getD-replicate (length bytes) k 1 0 l;
+        marked = λ i k h l e g. says i ∙ run-there first (length page) address ones (bits marks) i k (omega (arith, bits-length marks)) h (omega (arith, ones-length)) e ∙ getD-replicate (length bytes) k 1 0 l;
         byte-kept = λ i a. run-apart first (length page) address bytes page i (to-apart i a);
-        mark-kept = λ i a. run-apart first (length page) address ones marks i (rw ones-length a);
+        mark-kept = λ i a. says i ∙ run-apart first (length page) address ones (bits marks) i (rw ones-length a) ∙ bits-say marks i;
       })
     where
+      says : (i : ℕ) → mark-at marks′ i ≡ getD (painted (window first (length page)) 0 (run address ones) (bits marks)) i 0
+      says i =
+          let m : bits marks′ ≡ painted (window first (length page)) 0 (run address ones) (bits marks) = rw (marks-of-run address bytes) at (p .marks) in
+          sym (bits-say marks′ i) ∙ ap (λ (l : List ℕ). getD l i 0) m
+
       to-apart : (i : ℕ) → (first + i < address) ⊎ (address + length bytes ≤ first + i) → (first + i < address) ⊎ ((address + length bytes ≤ first + i) ⊎ (length page ≤ i))
       to-apart i (inl l) = inl l
       to-apart i (inr u) = inr (inl u)
@@ -169,11 +175,11 @@ pub put-part : (first address : ℕ) (bytes page marks : List ℕ) (part : Part)
     → Copied (take (part .len) (drop (part .skip) bytes)) (part .place) page page′
     → marks′ ≡ marked-run marks (part .place) (part .len)
     → PutRun first address bytes page marks page′ marks′
-unfolding mark-at
 put-part first address bytes page marks part page′ marks′ q c m =
     put-is first address bytes page marks page′ marks′ (record {
       page-length = c .same-length;
       marks-length = rw m (r .same-length);
+      marks-bytes = λ b. rw m (r .bytes b);
       byte = byte;
       marked = λ i k h l e g. let (x, y) = q .all i k h l e in rw m (r .inside i (omega (arith, q .same-address (omega arith))) (omega (arith, q .same-address (omega arith))) g);
       byte-kept = λ i a. c .elsewhere i (beside i a);

@@ -1,7 +1,7 @@
 -- The tests of a window: the addresses that it holds, and which byte of a run is the first outside.
 -- Assumes nothing.
 use mathlib.Core.Path.{_≡_, refl, sym, _∙_}
-use Prim.Native.Nat.{ℕ, _+_, _-_, _^_, _≤_, _<_}
+use Prim.Native.Nat.{ℕ, _+_, _^_, _≤_, _<_}
 use native.Mathlib.Nat.{add-zero}
 use native.Mathlib.Omega.{arith}
 use mathlib.Core.Bool.{Bool, true, false, not, _&&_, _||_, true≢false}
@@ -11,6 +11,7 @@ use lib.Dec.{eqb, leb, ltb}
 use lib.ListN.{length}
 use borrow.Author.Tests.{eq-eqb, eqb-true, le-leb, lt-leb, lt-ltb, le-ltb, leb-true, ltb-true, ltb-false, not-false}
 use Rattle.digits.proofs.Tests.{both, or-false}
+use Rattle.marks.specs.Marks.{row-length}
 use Rattle.steps.specs.Steps.{outside}
 use Rattle.steps.specs.Runs.{run}
 use Rattle.steps.proofs.Runs.{run-inside, run-outside}
@@ -47,10 +48,10 @@ module _ (first size address : ℕ) where
 pub good-window : (first : ℕ) (page marks : List ℕ) → unfit first (length page) (length marks) ≡ false → Window first page marks
 unfolding unfit
 good-window first page marks e =
-    let (ab, c) = or-false (not (eqb (length page) (length marks)) || ltb 65536 (length page)) (ltb (2 ^ 32) (first + length page)) e in
-    let (a, b) = or-false (not (eqb (length page) (length marks))) (ltb 65536 (length page)) ab in
+    let (ab, c) = or-false (not (eqb (row-length (length page)) (length marks)) || ltb 65536 (length page)) (ltb (2 ^ 32) (first + length page)) e in
+    let (a, b) = or-false (not (eqb (row-length (length page)) (length marks))) (ltb 65536 (length page)) ab in
     record {
-      even = eqb-true (length page) (length marks) (not-false (eqb (length page) (length marks)) a);
+      row = sym (eqb-true (row-length (length page)) (length marks) (not-false (eqb (row-length (length page)) (length marks)) a));
       small = ltb-false 65536 (length page) b;
       below = ltb-false (2 ^ 32) (first + length page) c;
     }
@@ -58,7 +59,7 @@ good-window first page marks e =
 pub no-window : (first : ℕ) (page marks : List ℕ) → unfit first (length page) (length marks) ≡ true → ¬ Window first page marks
 unfolding unfit
 no-window first page marks e w =
-    true≢false (sym e ∙ rw (eq-eqb (length page) (length marks) (w .even), le-ltb 65536 (length page) (w .small), le-ltb (2 ^ 32) (first + length page) (w .below)))
+    true≢false (sym e ∙ rw (eq-eqb (row-length (length page)) (length marks) (sym (w .row)), le-ltb 65536 (length page) (w .small), le-ltb (2 ^ 32) (first + length page) (w .below)))
 
 -- ---- the first byte outside
 

@@ -2,11 +2,13 @@
 -- Assumes nothing.
 use mathlib.Core.Path.{_≡_}
 use mathlib.Core.Logic.{_↔_, _⊎_}
-use Prim.Native.Nat.{ℕ, _+_, _^_, _≤_, _<_}
+use Prim.Native.Nat.{ℕ, _+_, _*_, _^_, _≤_, _<_}
 use mathlib.Core.Bool.{Bool, true, false}
 use mathlib.Core.Option.{some}
 use mathlib.Core.List.{List}
 use lib.ListN.{length, getD}
+use Rattle.marks.specs.Marks.{row-length, mark-at}
+use Rattle.marks.specs.Claims.{Bytes}
 use Rattle.window.specs.declared.Reach.{Reach}
 use Rattle.window.specs.Window.{within, window}
 use Rattle.window.specs.Contracts.{IsUnfit, FirstOutside, PutRun}
@@ -21,7 +23,7 @@ Shown-iff-within = (first size address : ℕ) → (within first size address ≡
 
 -- a window that is not refused
 pub record Window (first : ℕ) (page marks : List ℕ) : Type 0 where
-  pub even : length page ≡ length marks
+  pub row : length marks ≡ row-length (length page)
   pub small : length page ≤ 65536
   pub below : first + length page ≤ 2 ^ 32
 
@@ -35,10 +37,11 @@ Unfit-is-no-window =
 pub record Stored-run (first address : ℕ) (bytes page marks page′ marks′ : List ℕ) : Type 0 where
   pub page-length : length page′ ≡ length page
   pub marks-length : length marks′ ≡ length marks
+  pub marks-bytes : Bytes marks → Bytes marks′
   pub byte : (i k : ℕ) → i < length page → k < length bytes → first + i ≡ address + k → getD page′ i 0 ≡ getD bytes k 0
-  pub marked : (i k : ℕ) → i < length page → k < length bytes → first + i ≡ address + k → i < length marks → getD marks′ i 0 ≡ 1
+  pub marked : (i k : ℕ) → i < length page → k < length bytes → first + i ≡ address + k → i < 8 * length marks → mark-at marks′ i ≡ 1
   pub byte-kept : (i : ℕ) → (first + i < address) ⊎ (address + length bytes ≤ first + i) → getD page′ i 0 ≡ getD page i 0
-  pub mark-kept : (i : ℕ) → (first + i < address) ⊎ ((address + length bytes ≤ first + i) ⊎ (length page ≤ i)) → getD marks′ i 0 ≡ getD marks i 0
+  pub mark-kept : (i : ℕ) → (first + i < address) ⊎ ((address + length bytes ≤ first + i) ⊎ (length page ≤ i)) → mark-at marks′ i ≡ mark-at marks i
 
 -- that is what the contract of `put_run` says, neither more nor less
 abbrev pub Run-is-stored : Type 0
@@ -56,5 +59,5 @@ First-outside-unique = (first size address len : ℕ) (r r′ : Reach) → First
 
 abbrev pub Put-run-unique : Type 0
 Put-run-unique =
-    (first address : ℕ) (bytes page marks p p′ m m′ : List ℕ)
+    (first address : ℕ) (bytes page marks p p′ m m′ : List ℕ) → Bytes marks
     → PutRun first address bytes page marks p m → PutRun first address bytes page marks p′ m′ → (p ≡ p′) × (m ≡ m′)

@@ -7,6 +7,8 @@ use mathlib.Core.Bool.{Bool}
 use mathlib.Core.Option.{Option, none, some, Option·map}
 use mathlib.Core.List.{List, map}
 use lib.ListN.{length, getD}
+use Rattle.marks.specs.Marks.{bits}
+use Rattle.marks.specs.Claims.{Bytes}
 use Rattle.steps.specs.Steps.{Placement, outside}
 use Rattle.steps.specs.Sites.{painted}
 use Rattle.steps.specs.Runs.{run, as-mark}
@@ -42,10 +44,16 @@ pub record Copied (bytes : List ℕ) (place : ℕ) (page page′ : List ℕ) : T
   pub there : (k : ℕ) → k < length bytes → getD page′ (place + k) 0 ≡ getD bytes k 0
   pub elsewhere : (i : ℕ) → (i < place) ⊎ (place + length bytes ≤ i) → getD page′ i 0 ≡ getD page i 0
 
--- page and marks with these placements upon them; a mark is a 1
+-- as many bytes as before, and bytes if they were
+pub record Row-kept (marks marks′ : List ℕ) : Type 0 where
+  pub same-length : length marks′ ≡ length marks
+  pub bytes : Bytes marks → Bytes marks′
+
+-- page and marks with these placements upon them; the mark of each place that one of them is at is a 1, and every other bit stays
 pub record Painted (first : ℕ) (ps : List Placement) (page₀ marks₀ page′ marks′ : List ℕ) : Type 0 where
   pub page : page′ ≡ painted (window first (length page₀)) 0 ps page₀
-  pub marks : marks′ ≡ painted (window first (length page₀)) 0 (map as-mark ps) marks₀
+  pub marks : bits marks′ ≡ painted (window first (length page₀)) 0 (map as-mark ps) (bits marks₀)
+  pub row : Row-kept marks₀ marks′
 
 -- the contract of `put_run`
 abbrev pub PutRun : (first address : ℕ) (bytes page₀ marks₀ page′ marks′ : List ℕ) → Type 0

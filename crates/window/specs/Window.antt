@@ -17,7 +17,7 @@ within first size address = leb first address && ltb address (first + size)
 unfoldable pub window : (first size : ℕ) → ℕ → Option ℕ
 window first size i = if ltb i size then some (first + i) else none
 
--- the marks are not a row for the page's places, the page has over 65,536 places, or the window goes beyond 2^32
+-- the marks are not a packed row for the page's places, the page has over 65,536 places, or the window goes beyond 2^32
 unfoldable pub unfit : (first page marks : ℕ) → Bool
 unfolding row-length
 unfit first page marks = not (eqb (row-length page) marks) || ltb 65536 page || ltb (2 ^ 32) (first + page)

@@ -39,8 +39,13 @@ pub fn read_text(text: &[u8], pool: &mut [u8; 255], sum: &mut u64) -> usize {
     unsafe { c::floor_read_text(text.as_ptr(), text.len(), pool.as_mut_ptr(), sum) }
 }
 
+/// As many places as both have: a byte of the page, and a bit of the marks.
+fn places(page: &[u8], marks: &[u8]) -> usize {
+    page.len().min(8 * marks.len())
+}
+
 pub fn load(text: &[u8], page: &mut [u8], marks: &mut [u8]) -> usize {
-    let size = page.len().min(marks.len());
+    let size = places(page, marks);
     let (page, marks) = (page.as_mut_ptr(), marks.as_mut_ptr());
     unsafe { c::floor_load(text.as_ptr(), text.len(), page, marks, size) }
 }
@@ -62,7 +67,7 @@ pub fn write_object(pool: &[u8], n: usize, out: &mut [u8]) -> usize {
 
 /// The marked places of a page, and an end record, if the output has room for them.
 pub fn write_page(first: u32, page: &[u8], marks: &[u8], out: &mut [u8]) -> usize {
-    let size = page.len().min(marks.len());
+    let size = places(page, marks);
     let (page, marks) = (page.as_ptr(), marks.as_ptr());
     unsafe { c::floor_write_page(first, page, marks, size, out.as_mut_ptr(), out.len()) }
 }

@@ -75,7 +75,7 @@ fn given(n: usize, records: usize, step: usize) -> Given {
         segment: format!(":020000020000FC\n{text}"),
         linear: format!(":020000040000FA\n{text}"),
         across: across(n, &pool),
-        marked: (0..pool.len()).map(|i| (i % step == 0).into()).collect(),
+        marked: marked(pool.len(), step),
         of_page: of_page(&pool, step),
         pool,
         out: vec![0; text.len().max(ihex::MAX_PAGE_FILE)],
@@ -86,8 +86,24 @@ fn given(n: usize, records: usize, step: usize) -> Given {
         list,
         chunk: step,
         page: vec![0; 65_536],
-        marks: vec![0; 65_536],
+        marks: vec![0; ihex::marks_len(65_536)],
     }
+}
+
+/// Marks so many places from one on, one bit each, the lowest of a byte first.
+fn mark(marks: &mut [u8], from: usize, n: usize) {
+    for place in from..from + n {
+        marks[place / 8] |= 1 << (place % 8);
+    }
+}
+
+/// The marks of so many places, of which each multiple of `every` is marked.
+fn marked(places: usize, every: usize) -> Vec<u8> {
+    let mut marks = vec![0; ihex::marks_len(places)];
+    for place in (0..places).step_by(every) {
+        mark(&mut marks, place, 1);
+    }
+    marks
 }
 
 /// A text of these payloads, n bytes each, every one across the end of segment 0 by half of it.
@@ -169,7 +185,7 @@ fn crate_load(given: &mut Given) -> u64 {
             let (here, wrapped) = value.split_at(value.len().min(given.page.len() - offset));
             for (from, part) in [(offset, here), (0, wrapped)] {
                 given.page[from..from + part.len()].copy_from_slice(part);
-                given.marks[from..from + part.len()].fill(1);
+                mark(&mut given.marks, from, part.len());
             }
             loaded += 1;
         }

@@ -1,9 +1,9 @@
 use ihex::{load, page_file_length, write_page, write_page_into, PageError};
 
 fn main() {
-    // Four places from FFFE on, of which the last is not marked.
+    // Four places from FFFE on, of which the last is not marked: the mark of place 0 is the lowest bit.
     let page = [0x11, 0x22, 0x33, 0x44];
-    let marks = [1, 1, 1, 0];
+    let marks = [0b0111];
     let text = write_page(0xFFFE, &page, &marks).unwrap();
     let lines = [
         ":020000040000FA",
@@ -16,7 +16,7 @@ fn main() {
 
     // Loaded into the same window, it gives the same marks and the same bytes at them.
     let mut loaded = [0xEE; 4];
-    let mut stated = [0xEE; 4];
+    let mut stated = [0xEE; 1];
     load(&text, 0xFFFE, &mut loaded, &mut stated).unwrap();
     assert_eq!(loaded, [0x11, 0x22, 0x33, 0xEE]);
     assert_eq!(stated, marks);
@@ -30,6 +30,7 @@ fn main() {
     let full = write_page_into(0xFFFE, &page, &marks, &mut out[..length - 1]);
     assert_eq!(full, Err(PageError::OutputFull));
 
-    let refused = write_page(0xFFFE, &page, &[1, 1, 2, 3]);
-    assert_eq!(refused, Err(PageError::BadMark(2)));
+    // The page has no place 5.
+    let refused = write_page(0xFFFE, &page, &[0b0010_0111]);
+    assert_eq!(refused, Err(PageError::BadMark(5)));
 }

@@ -8,7 +8,7 @@
 //! Beside them stand, and the crate has none of it: reading bytes that are no UTF-8 ([`ByteReader`],
 //! [`Record::from_record_bytes`]), line numbers and columns ([`Reader::numbered`],
 //! [`ReaderError::column`]), a text that comes in chunks ([`ChunkReader`]), the loading of a text
-//! into a page with marks ([`load`]), and the writing of such a page ([`write_page`]).
+//! into a page with marks ([`load`], [`Marks`]), and the writing of such a page ([`write_page`]).
 //!
 //! No function panics, whatever its arguments.
 //!
@@ -29,6 +29,7 @@
 mod checksum;
 mod chunks;
 mod loader;
+mod marks;
 mod page;
 mod reader;
 mod record;
@@ -37,6 +38,7 @@ mod writer;
 pub use checksum::*;
 pub use chunks::*;
 pub use loader::*;
+pub use marks::*;
 pub use page::*;
 pub use reader::*;
 pub use record::*;

@@ -21,7 +21,8 @@ pub enum LoadError {
     Line(LineError),
     /// The text has no end record.
     MissingEndOfFileRecord,
-    /// Page and marks differ in length, the page is longer than 65,536, or it passes 2^32.
+    /// The marks do not have [`marks_len`](crate::marks_len) bytes for the places of the page, the page has
+    /// over 65,536 places, or it ends beyond 2^32.
     BadWindow,
     /// A byte of a data record lies outside the window.
     OutsideWindow {
@@ -89,6 +90,10 @@ impl Error for LoadError {
 /// Loads a text into a page whose first place has the address `first`. On acceptance each place
 /// that the text states holds its byte and its mark is 1, and every other place keeps its byte and
 /// its mark is 0. A refused load changes neither page nor marks.
+///
+/// Marks take one bit a place: place p is bit p modulo 8 of byte p / 8, lowest bit first. The marks of n
+/// places have [`marks_len(n)`](crate::marks_len) bytes. What they held before does not matter, and on
+/// acceptance the unused bits of the last byte are 0. [`Marks`](crate::Marks) reads them.
 ///
 /// While a type 02 is the latest extension record, with base 16 times its number, and before any,
 /// with base 0, byte i of a data record lies at base + ((offset + i) modulo 65,536): a record that

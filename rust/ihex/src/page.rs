@@ -14,9 +14,11 @@ pub const MAX_PAGE_FILE: usize = ihex_sys::MAX_PAGE_FILE;
 pub enum PageError {
     /// The file is longer than the output.
     OutputFull,
-    /// Page and marks differ in length, the page is longer than 65,536, or it passes 2^32.
+    /// The marks do not have [`marks_len`](crate::marks_len) bytes for the places of the page, the page has
+    /// over 65,536 places, or it ends beyond 2^32.
     BadWindow,
-    /// A mark is neither 0 nor 1, and the place of the first such mark.
+    /// An unused bit of the last byte of the marks is set: the place that the lowest such bit would have,
+    /// counted from place 0. It never comes where the number of places is a multiple of 8.
     BadMark(usize),
     /// There is no memory for the file.
     SynthesisFailed,
@@ -41,7 +43,9 @@ impl fmt::Display for PageError {
         match self {
             PageError::OutputFull => write!(f, "file is longer than the output"),
             PageError::BadWindow => write!(f, "page and marks are no window"),
-            PageError::BadMark(place) => write!(f, "mark of place {place} is neither 0 nor 1"),
+            PageError::BadMark(place) => {
+                write!(f, "place {place} is marked, but the page has no such place")
+            }
             PageError::SynthesisFailed => write!(f, "no memory for the file of the page"),
         }
     }
@@ -67,12 +71,13 @@ pub fn page_file_length(first: u32, page: &[u8], marks: &[u8]) -> Result<usize, 
 }
 
 /// The file of a page whose first place has the address `first`: the bytes of the places whose mark is
-/// 1. Of two refusals that hold, `BadWindow` goes before `BadMark`.
+/// 1. Marks take one bit a place, as in [`load`](crate::load). Of two refusals that hold, `BadWindow` goes
+/// before `BadMark`.
 ///
 /// Each run of marked places becomes data records of 16 bytes, the last of them shorter where need be,
 /// counted from the run's start and afresh at each multiple of 65,536, where a record is cut too. A
 /// type 04 record stands before the first data record and wherever the upper 16 bits of the address
-/// change; the end record is last, and stands alone where no place is marked. One LF stands behind each
+/// change; the end record is last, and stands alone where no place is marked. One LF stands after each
 /// line.
 ///
 /// [`load`](crate::load) of the file with the same `first` and lengths gives the same marks and the
@@ -92,8 +97,8 @@ pub fn write_page(first: u32, page: &[u8], marks: &[u8]) -> Result<String, PageE
 }
 
 /// Writes the file of a page, as [`write_page`] gives it, into an output that is lent, from its start on,
-/// and says how long it is. No byte behind it changes, and on a refusal none at all. `OutputFull` goes behind the other
-/// refusals.
+/// and says how long it is. No byte after it changes, and on a refusal none at all. `OutputFull` goes after
+/// the other refusals.
 pub fn write_page_into(
     first: u32,
     page: &[u8],

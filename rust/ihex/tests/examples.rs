@@ -21,4 +21,5 @@ example!(chunks, "../examples/chunks.rs");
 example!(dumps, "../examples/dumps.rs");
 example!(object, "../examples/object.rs");
 example!(load, "../examples/load.rs");
+example!(marks, "../examples/marks.rs");
 example!(page, "../examples/page.rs");

@@ -19,7 +19,23 @@ fn bytes(n: usize) -> Vec<u8> {
 
 /// The marks of this many places, of which these are marked.
 fn marked(n: usize, such: impl Fn(usize) -> bool) -> Vec<u8> {
-    (0..n).map(|place| such(place).into()).collect()
+    let mut marks = vec![0; (n + 7) / 8];
+    for place in (0..n).filter(|&place| such(place)) {
+        marks[place / 8] |= 1 << (place % 8);
+    }
+    marks
+}
+
+/// The marks of this many places, all of which are marked.
+fn all_marked(n: usize) -> Vec<u8> {
+    marked(n, |_| true)
+}
+
+/// Each byte of a page with whether its place is marked.
+fn with_marks<'a>(page: &'a [u8], marks: &'a [u8]) -> impl Iterator<Item = (u8, bool)> + 'a {
+    let is_marked = move |place: usize| marks[place / 8] >> (place % 8) & 1 == 1;
+    let places = page.iter().enumerate();
+    places.map(move |(place, &byte)| (byte, is_marked(place)))
 }
 
 /// The file of a page, by each function: as long as it is said to be, with nothing behind it written.
@@ -61,9 +77,9 @@ fn restored(first: u32, page: &[u8], marks: &[u8]) -> String {
     let text = file(first, page, marks);
     let mut held: Vec<u8> = page.iter().map(|byte| byte.wrapping_add(0x55)).collect();
     let mut stated = vec![0xEE; marks.len()];
-    let places = held.iter().zip(page).zip(marks);
+    let places = held.iter().zip(with_marks(page, marks));
     let should: Vec<u8> = places
-        .map(|((&held, &byte), &mark)| if mark == 1 { byte } else { held })
+        .map(|(&held, (byte, marked))| if marked { byte } else { held })
         .collect();
     let loaded = load(&text, first, &mut held, &mut stated).expect("a file that loads");
     let data = |line: &&str| line.get(7..9) == Some("00");
@@ -99,7 +115,7 @@ fn a_page_across_a_multiple_has_this_text() {
 
 #[test]
 fn a_record_is_cut_at_a_multiple_and_counted_afresh() {
-    let all = [1; 40];
+    let all = all_marked(40);
     // The run has 20 places ahead of the multiple and 20 from it on.
     assert_eq!(
         heads(&restored(0x3_FFEC, &bytes(40), &all)),
@@ -162,7 +178,7 @@ fn runs_are_counted_from_their_start() {
 
 #[test]
 fn a_full_page_is_written() {
-    let (page, marks) = (bytes(65_536), vec![1; 65_536]);
+    let (page, marks) = (bytes(65_536), all_marked(65_536));
     for (first, base) in [(0, ":020000040000FA"), (0xFFFF_0000, ":02000004FFFFFC")] {
         let text = restored(first, &page, &marks);
         assert_eq!(text.len(), 16 + 4096 * 44 + 12);
@@ -186,8 +202,8 @@ fn the_last_address_is_written() {
     let marks = marked(65_536, |place| place > 65_533);
     let text = restored(0xFFFF_0000, &[0xAB; 65_536], &marks);
     assert_eq!(text, format!(":02000004FFFFFC\n:02FFFE00ABABAB\n{END}"));
-    is_refused(u32::MAX, &[0; 2], &[1; 2], PageError::BadWindow);
-    let (page, marks) = (vec![0; 65_536], vec![0; 65_536]);
+    is_refused(u32::MAX, &[0; 2], &[0b11], PageError::BadWindow);
+    let (page, marks) = (vec![0; 65_536], vec![0; 8192]);
     is_refused(0xFFFF_0001, &page, &marks, PageError::BadWindow);
 }
 
@@ -197,7 +213,7 @@ fn nothing_marked_gives_an_end_record() {
         assert_eq!(restored(first, &[], &[]), END);
         assert_eq!(restored(first, &[0xAB], &[0]), END);
     }
-    assert_eq!(restored(0xFFFF_0000, &bytes(65_536), &[0; 65_536]), END);
+    assert_eq!(restored(0xFFFF_0000, &bytes(65_536), &[0; 8192]), END);
 }
 
 #[test]
@@ -205,49 +221,61 @@ fn pages_that_are_no_window_are_refused() {
     let bad = PageError::BadWindow;
     is_refused(0, &[], &[0], bad);
     is_refused(0, &[0], &[], bad);
-    is_refused(0, &[0; 7], &[1; 8], bad);
-    is_refused(0, &[0; 8], &[1; 7], bad);
+    is_refused(0, &[0; 8], &[1; 2], bad);
+    is_refused(0, &[0; 9], &[1], bad);
+    is_refused(0, &[0; 8], &[1; 8], bad);
     is_refused(u32::MAX, &[], &[1], bad);
-    is_refused(0, &vec![0; 65_537], &vec![0; 65_537], bad);
-    is_refused(0, &vec![0; 65_536], &vec![0; 65_537], bad);
+    is_refused(0, &vec![0; 65_537], &vec![0; 8193], bad);
+    is_refused(0, &vec![0; 65_536], &vec![0; 8193], bad);
+    is_refused(0, &vec![0; 65_536], &vec![0; 65_536], bad);
 }
 
 #[test]
-fn the_first_bad_mark_is_named() {
-    for wrong in [2, 3, 128, 255] {
-        for (places, first) in [
-            (&[0][..], 0),
-            (&[29], 29),
-            (&[13], 13),
-            (&[29, 13], 13),
-            (&[5, 0, 29], 0),
-        ] {
-            for kept in [0, 1] {
-                let mut marks = [kept; 30];
-                for &place in places {
-                    marks[place] = wrong;
-                }
-                is_refused(0xFFF0, &bytes(30), &marks, PageError::BadMark(first));
+fn the_lowest_unused_bit_is_named() {
+    let bad = PageError::BadMark;
+    is_refused(0, &[0; 3], &[0x22], bad(5));
+    for places in [1, 7, 9, 15, 17, 65_535] {
+        let page = bytes(places);
+        let bits = places..(places + 7) / 8 * 8;
+        for kept in [vec![0; (places + 7) / 8], all_marked(places)] {
+            for lowest in bits.clone() {
+                let mut alone = kept.clone();
+                alone[lowest / 8] |= 1 << (lowest % 8);
+                is_refused(0, &page, &alone, bad(lowest));
+                let mut with_all_above = kept.clone();
+                with_all_above[lowest / 8] |= 0xFF << (lowest % 8);
+                is_refused(0, &page, &with_all_above, bad(lowest));
             }
+            file(0, &page, &kept);
         }
     }
-    let mut marks = vec![1; 65_536];
-    marks[65_535] = 2;
-    is_refused(0, &bytes(65_536), &marks, PageError::BadMark(65_535));
+}
+
+#[test]
+fn a_multiple_of_8_has_no_unused_bit() {
+    for places in [8, 16, 65_536] {
+        let page = bytes(places);
+        for bit in 0..8 {
+            let mut marks = vec![0; places / 8];
+            marks[places / 8 - 1] = 1 << bit;
+            restored(0, &page, &marks);
+        }
+        restored(0, &page, &all_marked(places));
+    }
 }
 
 #[test]
 fn refusals_have_their_order() {
     let bad = PageError::BadWindow;
-    // No window, a bad mark, and an output that is too short.
-    is_refused(0, &[0; 2], &[2], bad);
-    is_refused(u32::MAX, &[0; 2], &[0, 2], bad);
-    is_refused(0, &vec![0; 65_537], &vec![2; 65_537], bad);
-    // A bad mark, and an output that is too short.
-    refuses(0, &[0; 2], &[1, 2], 0, PageError::BadMark(1));
-    refuses(0, &[0; 2], &[1, 2], 41, PageError::BadMark(1));
-    refuses(0, &[0; 2], &[1, 1], 43, PageError::OutputFull);
-    assert_eq!(file(0, &[0; 2], &[1, 1]).len(), 44);
+    // No window, an unused bit that is set, and an output that is too short.
+    is_refused(0, &[0; 2], &[0xFF, 0xFF], bad);
+    is_refused(u32::MAX, &[0; 2], &[0xFF], bad);
+    is_refused(0, &vec![0; 65_537], &vec![0xFF; 8193], bad);
+    // An unused bit that is set, and an output that is too short.
+    refuses(0, &[0; 2], &[0b111], 0, PageError::BadMark(2));
+    refuses(0, &[0; 2], &[0b111], 43, PageError::BadMark(2));
+    refuses(0, &[0; 2], &[0b11], 43, PageError::OutputFull);
+    assert_eq!(file(0, &[0; 2], &[0b11]).len(), 44);
 }
 
 #[test]
@@ -256,10 +284,8 @@ fn bytes_that_are_not_marked_do_not_show() {
     let page = bytes(600);
     let text = file(0xFF00, &page, &marks);
     for other in [0, 0xAB, 0xFF] {
-        let blotted: Vec<u8> = page
-            .iter()
-            .zip(&marks)
-            .map(|(&byte, &mark)| if mark == 1 { byte } else { other })
+        let blotted: Vec<u8> = with_marks(&page, &marks)
+            .map(|(byte, marked)| if marked { byte } else { other })
             .collect();
         assert_eq!(file(0xFF00, &blotted, &marks), text);
     }
@@ -291,7 +317,7 @@ fn refusals_print_and_have_numbers() {
         (
             PageError::BadMark(7),
             19,
-            "mark of place 7 is neither 0 nor 1",
+            "place 7 is marked, but the page has no such place",
         ),
         (
             PageError::SynthesisFailed,

@@ -201,8 +201,8 @@ fn loads_are_refused_and_change_nothing() {
         answer
     };
     assert_eq!(run("", 0, 1, 2), Err(LoadError::BadWindow));
-    assert_eq!(run(end, 0, 65_537, 65_537), Err(LoadError::BadWindow));
-    assert_eq!(run(end, u32::MAX, 2, 2), Err(LoadError::BadWindow));
+    assert_eq!(run(end, 0, 65_537, 8193), Err(LoadError::BadWindow));
+    assert_eq!(run(end, u32::MAX, 2, 1), Err(LoadError::BadWindow));
     assert_eq!(
         run(end, u32::MAX, 1, 1).map(|loaded| loaded.data_records),
         Ok(0)
@@ -216,20 +216,27 @@ fn loads_are_refused_and_change_nothing() {
     );
 }
 
+/// The marks of so many places, of which these are marked: no unused bit is set.
+fn packed(size: usize, marked: impl Iterator<Item = usize>) -> Vec<u8> {
+    let mut marks = vec![0; (size + 7) / 8];
+    marked.for_each(|place| marks[place / 8] |= 1 << (place % 8));
+    marks
+}
+
 /// What these lines and an end record come to in a page: the marked addresses with their bytes, or the
 /// address outside.
 fn loaded(lines: &str, first: u32, size: usize) -> Result<Vec<(u32, u8)>, u32> {
     let text = format!("{lines}:00000001FF\n");
-    let (mut page, mut marks) = (vec![0xEE; size], vec![0xEE; size]);
+    let (mut page, mut marks) = (vec![0xEE; size], vec![0xEE; (size + 7) / 8]);
     match load(&text, first, &mut page, &mut marks) {
         Ok(loaded) => {
             assert_eq!(loaded.data_records, 1);
-            let places = (first..).zip(page).zip(marks);
-            let (marked, rest): (Vec<_>, Vec<_>) = places.partition(|&(_, mark)| mark == 1);
-            for ((_, byte), mark) in rest {
-                assert_eq!((byte, mark), (0xEE, 0));
-            }
-            Ok(marked.into_iter().map(|(place, _)| place).collect())
+            let is_marked = |place: usize| marks[place / 8] >> (place % 8) & 1 == 1;
+            let places = (first..).zip(page).enumerate();
+            let (marked, rest): (Vec<_>, Vec<_>) = places.partition(|&(place, _)| is_marked(place));
+            assert!(rest.iter().all(|&(_, (_, byte))| byte == 0xEE));
+            assert_eq!(marks, packed(size, marked.iter().map(|&(place, _)| place)));
+            Ok(marked.into_iter().map(|(_, placed)| placed).collect())
         }
         Err(LoadError::OutsideWindow { address, .. }) => {
             assert!(page.iter().chain(&marks).all(|&byte| byte == 0xEE));
@@ -239,7 +246,7 @@ fn loaded(lines: &str, first: u32, size: usize) -> Result<Vec<(u32, u8)>, u32> {
     }
 }
 
-/// What a record of AA and BB across offset FFFF, behind these lines, comes to.
+/// What a record of AA and BB across offset FFFF, after these lines, comes to.
 fn crossing(ahead: &str, first: u32, size: usize) -> Result<Vec<(u32, u8)>, u32> {
     loaded(&format!("{ahead}:02FFFF00AABB9B\n"), first, size)
 }

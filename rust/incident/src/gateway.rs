@@ -2,6 +2,11 @@
 
 use original::{Reader, ReaderError, ReaderOptions, Record};
 
+/// Marks a place: one bit, the lowest of a byte first.
+fn mark(marks: &mut [u8], place: usize) {
+    marks[place / 8] |= 1 << (place % 8);
+}
+
 /// Fills page and marks from a text, and counts its data records. Bytes outside the window are passed
 /// over.
 pub fn fill(
@@ -27,7 +32,7 @@ pub fn fill(
                 for (i, byte) in value.into_iter().enumerate() {
                     if place + i < page.len() {
                         page[place + i] = byte;
-                        marks[place + i] = 1;
+                        mark(marks, place + i);
                     }
                 }
             }

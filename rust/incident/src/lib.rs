@@ -5,6 +5,8 @@
 pub mod gateway;
 pub mod shown;
 
+use ihex::marks_len;
+
 /// The address of the window's first place.
 pub const FIRST: u32 = 0x2000_0100;
 /// How many places the window has.
@@ -14,14 +16,15 @@ pub const PLACES: usize = 0x24;
 #[derive(Clone, PartialEq, Eq, Debug)]
 pub struct Side {
     pub page: [u8; PLACES],
-    pub marks: [u8; PLACES],
+    /// One bit a place.
+    pub marks: [u8; marks_len(PLACES)],
     pub answer: Result<usize, String>,
 }
 
 impl Side {
     /// A fresh page with no marks, filled by `load`.
     fn filled<E: ToString>(load: impl FnOnce(&mut [u8], &mut [u8]) -> Result<usize, E>) -> Self {
-        let (mut page, mut marks) = ([0; PLACES], [0; PLACES]);
+        let (mut page, mut marks) = ([0; PLACES], [0; marks_len(PLACES)]);
         let answer = load(&mut page, &mut marks).map_err(|why| why.to_string());
         Side {
             page,

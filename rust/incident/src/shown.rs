@@ -1,5 +1,7 @@
 //! Page, marks and answer of each side in a table, and in words what the panel draws from them.
 
+use ihex::Marks;
+
 use crate::{Side, FIRST, PLACES};
 
 /// A value on the panel: two bytes of decimal digits, high byte first.
@@ -29,19 +31,29 @@ const MEASURED: [Value; 7] = [
 ];
 
 impl Value {
-    /// Its two bytes in a page or in marks.
-    fn of(&self, row: &[u8; PLACES]) -> [u8; 2] {
+    /// The places of its two bytes.
+    fn places(&self) -> [usize; 2] {
         let place = (self.address - FIRST) as usize;
-        [row[place], row[place + 1]]
+        [place, place + 1]
+    }
+
+    fn bytes(&self, side: &Side) -> [u8; 2] {
+        self.places().map(|place| side.page[place])
+    }
+
+    /// Which of its two bytes are marked.
+    fn marked(&self, side: &Side) -> [bool; 2] {
+        let marks = Marks::new(&side.marks, PLACES);
+        self.places().map(|place| marks.is_marked(place))
     }
 
     /// What the panel draws, if both bytes are marked.
     fn drawn(&self, side: &Side) -> Option<String> {
-        let [high, low] = self.of(&side.page);
+        let [high, low] = self.bytes(side);
         let digits = u16::from_be_bytes([high, low]);
-        match self.of(&side.marks) {
-            [1, 1] if self.unit.is_empty() => Some(format!("{high:02X}:{low:02X}")),
-            [1, 1] => Some(format!("{digits:X}{}", self.unit)),
+        match self.marked(side) {
+            [true, true] if self.unit.is_empty() => Some(format!("{high:02X}:{low:02X}")),
+            [true, true] => Some(format!("{digits:X}{}", self.unit)),
             _ => None,
         }
     }
@@ -114,7 +126,7 @@ fn table(of_crate: Option<&Side>, of_port: &Side) -> String {
 }
 
 fn cell(value: &Value, side: &Side) -> String {
-    let ([a, b], [m, n]) = (value.of(&side.page), value.of(&side.marks));
+    let ([a, b], [m, n]) = (value.bytes(side), value.marked(side).map(u8::from));
     let drawn = value.drawn(side).unwrap_or_else(|| "-".into());
     format!("{a:02X} {b:02X}  {m} {n}    {drawn}")
 }

@@ -1,6 +1,7 @@
 //! What the demonstration shows is what the buffer says: the numbers here are written out by hand.
 //! Where the crate's source is not at hand, the Rust face stands in for its reader.
 
+use ihex::{marks_len, Marks};
 use incident::shown::shown;
 use incident::{by_crate, by_port, Side, FIRST, PLACES};
 
@@ -28,11 +29,13 @@ const TAIL: [(u32, &[u8]); 2] = [
 
 /// The page and marks of these placements, in their order.
 fn placed(all: &[(u32, &[u8])], records: usize) -> Side {
-    let (mut page, mut marks) = ([0; PLACES], [0; PLACES]);
+    let (mut page, mut marks) = ([0; PLACES], [0; marks_len(PLACES)]);
     for (address, bytes) in all {
         let place = (address - FIRST) as usize;
         page[place..place + bytes.len()].copy_from_slice(bytes);
-        marks[place..place + bytes.len()].fill(1);
+        for place in place..place + bytes.len() {
+            marks[place / 8] |= 1 << (place % 8);
+        }
     }
     Side {
         page,
@@ -64,8 +67,11 @@ fn nothing_of_the_tail_lands_on_the_ports_page() {
 #[test]
 fn the_pages_differ_where_the_tail_lands() {
     let (crates, port) = (by_crate(BUFFER, false), by_port(BUFFER));
-    let differs =
-        |i: &usize| (crates.page[*i], crates.marks[*i]) != (port.page[*i], port.marks[*i]);
+    let shown = |side: &Side, i| {
+        let marks = Marks::new(&side.marks, PLACES);
+        (side.page[i], marks.is_marked(i))
+    };
+    let differs = |i: &usize| shown(&crates, *i) != shown(&port, *i);
     let found: Vec<usize> = (0..PLACES).filter(differs).collect();
     let same_by_chance = [0x10, 0x16, 0x20, 0x22];
     let tail = (0x10..0x1A).chain(0x20..0x24);
@@ -99,7 +105,8 @@ fn a_refused_buffer_gives_no_green_light() {
     wrong[2] = b":080110002145180049700915F2\n";
     let wrong = wrong.concat();
     let (crates, port) = (by_crate(&wrong, false), by_port(&wrong));
-    assert_eq!((port.page, port.marks), ([0; PLACES], [0; PLACES]));
+    assert_eq!(port.page, [0; PLACES]);
+    assert_eq!(port.marks, [0; marks_len(PLACES)]);
     let told = shown(&wrong, Some(&crates), &port);
     assert!(told.contains("refused, line 3: invalid checksum '92', expecting 'F2'"));
     assert_eq!(told.matches("the light is not green").count(), 2);

@@ -5,6 +5,7 @@ use ihex_sys::MAX_PAGE;
 use oracle::comparisons::pages::of_port;
 use oracle::comparisons::run::Plan;
 use oracle::inputs::chance::Chance;
+use oracle::inputs::marks::packed_length;
 use oracle::inputs::pages::{large, page, PageCase};
 use oracle::subjects::port::Real;
 use oracle::subjects::the_crate::at_hand;
@@ -20,20 +21,28 @@ fn end(case: &PageCase) -> u64 {
     u64::from(case.first) + case.page.len() as u64
 }
 
+/// How many bytes the row of marks has too many.
+fn over(case: &PageCase) -> isize {
+    case.row().len() as isize - packed_length(case.page.len()) as isize
+}
+
 #[test]
 fn pages_are_of_every_kind() {
     let mut chance = Chance::new(3);
     let cases: Vec<PageCase> = (0..1000).map(|_| page(&mut chance)).collect();
     assert!(cases.iter().all(|case| case.page.len() < 500));
     assert!(some(&cases, |case| case.page.is_empty()));
-    assert!(some(&cases, |case| case.page.len() < case.marks.len()));
-    assert!(some(&cases, |case| case.page.len() > case.marks.len()));
+    assert!(cases.iter().all(|case| case.page.len() == case.marks.len()));
+    assert!(some(&cases, |case| case.longer == -1 && over(case) == -1));
+    assert!(some(&cases, |case| case.longer == 1 && over(case) == 1));
+    assert!(some(&cases, |case| case.row().len() == case.page.len()));
     assert!(some(&cases, |case| end(case) == 1 << 32));
     assert!(some(&cases, |case| end(case) == (1 << 32) + 1));
     assert!(some(&cases, |case| case.first == 0));
     assert!(some(&cases, |case| u64::from(case.first >> 16) < end(case) >> 16));
-    for mark in [2, 3, 128, 255] {
-        assert!(cases.iter().any(|case| case.marks.contains(&mark)));
+    for bit in 1..8 {
+        let lowest = |case: &&PageCase| case.set_unused().trailing_zeros() == bit;
+        assert!(cases.iter().filter(lowest).count() > 3, "{bit}");
     }
 }
 
@@ -80,6 +89,6 @@ fn a_wrong_writer_is_told_with_a_small_page() {
     assert_eq!(name, "does not cut a record at a multiple of 65,536");
     let report = of_port(port.as_ref(), PLAN)[0]();
     let told = report.smallest.expect("it is found");
-    let small = r#"first 0000FFFF page "\x00\x00" marks "\x01\x01" output "#;
+    let small = r#"first 0000FFFF page "\x00\x00" marks "\x03" output "#;
     assert!(told.starts_with(small), "{told}");
 }

@@ -7,7 +7,7 @@ use oracle::comparisons::stored::List;
 use oracle::inputs::replay::Given;
 use oracle::models::replay::answer;
 
-const HEADINGS_AND_CASES: [(&str, &str); 15] = [
+const HEADINGS_AND_CASES: [(&str, &str); 17] = [
     ("# a heading", "# a heading"),
     ("C 01", "FF"),
     ("C", "00"),
@@ -26,6 +26,11 @@ const HEADINGS_AND_CASES: [(&str, &str); 15] = [
     ("O C  1 0 0 0 0", "W C | 3A303030303030303146460A"),
     ("M 0 2 41 3A30303030303030314646", "! 16 @0 | CCCC | AA<41"),
     ("M 0 1 1 3AC3A90A", "! 2 0001 @1 | CC | AA"),
+    ("M 0 6 1 3A30303030303030314646", "A 0 | CCCCCCCCCCCC | 00"),
+    (
+        "M 0 9 2 3A3031303030383030373738300A3A30303030303030314646",
+        "A 1 | CCCCCCCCCCCCCCCC77 | 0001",
+    ),
 ];
 
 /// What `replay` takes another way, or not at all.
@@ -56,11 +61,11 @@ fn right_answers_agree() {
     assert_eq!(outcome.report.smallest, None);
     assert_eq!(
         (outcome.report.inputs, outcome.report.disagreements),
-        (14, 0)
+        (16, 0)
     );
     assert_eq!(
         outcome.told,
-        "2 C, 3 L, 5 T, 1 W, 1 O, 2 M; 2 of them no UTF-8, answered by the rule for bytes; 0 passed over"
+        "2 C, 3 L, 5 T, 1 W, 1 O, 4 M; 2 of them no UTF-8, answered by the rule for bytes; 0 passed over"
     );
 }
 
@@ -89,7 +94,7 @@ fn what_is_no_case_is_passed_over_and_kept() {
     let outcome = list.compare();
     assert_eq!(
         (outcome.report.inputs, outcome.report.disagreements),
-        (14, 0)
+        (16, 0)
     );
     assert!(outcome.told.ends_with("; 10 passed over"));
     assert_eq!(outcome.over, 10);

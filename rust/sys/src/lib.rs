@@ -319,7 +319,8 @@ pub fn create_object_file_representation(
     }
 }
 
-/// A text into a page with marks.
+/// A text into a page with marks. Marks take one bit a place: place p is bit p modulo 8 of byte p / 8,
+/// lowest bit first, and the unused bits of the last byte are 0 after an accepted load.
 pub fn load(
     text: &[u8],
     first: u32,
@@ -339,14 +340,14 @@ pub fn load(
     }
 }
 
-/// How long the file of a page with marks is.
+/// How long the file of a page with marks is. Marks take one bit a place.
 pub fn page_file_length(first: u32, page: &[u8], marks: &[u8], value: &mut u64) -> u32 {
     let (page, page_len) = (page.as_ptr(), page.len());
     let (marks, marks_len) = (marks.as_ptr(), marks.len());
     unsafe { c::ihex_page_file_length(first, page, page_len, marks, marks_len, value) }
 }
 
-/// The file of a page with marks.
+/// The file of a page with marks. Marks take one bit a place.
 pub fn write_page(first: u32, page: &[u8], marks: &[u8], out: &mut [u8], value: &mut u64) -> u32 {
     let (page, page_len) = (page.as_ptr(), page.len());
     let (marks, marks_len) = (marks.as_ptr(), marks.len());

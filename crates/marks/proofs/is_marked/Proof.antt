@@ -1,19 +1,43 @@
--- `marks::is_marked` meets its contract: outside the row no place is marked, and in it the mark says so.
+-- `marks::is_marked` meets its contract.
 -- Assumes nothing.
-use borrow.Author.Needs.{needs}
-use borrow.Author.Tests.{eqb-true, eq-eqb}
 use denote.Ref.{now}
-use Rattle.marks.specs.Marks.{mark-at}
-use Rattle.marks.proofs.Places.{outside}
+use Prim.Native.Nat.{ℕ}
+use mathlib.Core.Path.{_≡_, ap}
+use mathlib.Core.Bool.{Bool, true, false}
+use native.Mathlib.Omega.{arith}
+use borrow.Author.Tests.{eqb-true, eq-eqb}
+use Rattle.marks.specs.Marks.{mark-at, bit, byte-of}
+use Rattle.marks.proofs.Rows.{outside}
+use borrow.Author.Needs.{needs}
 use Rattle.marks.proofs.is_marked.Statement.{statement}
 use Rattle.marks.proofs.is_marked.Tie as tie
 
+shared-slice-read-result : tie.Need-shared-slice-read-result
+shared-slice-read-result c = search needs
+
+cast-result : tie.Need-cast-result
+cast-result c = search needs
+
+shr-result : tie.Need-shr-result
+shr-result c = search needs
+
 returns : tie.Need-returns
-returns c = let a = c .before .args in record { answer = (λ e. cc, λ m. absurd (outside (now (a .marks)) (a .place) (c .if1 .taken) m)) }
+unfolding mark-at bit byte-of
+returns c = record { answer = (λ e. eqb-true _ 1 e, λ e. eq-eqb _ 1 e) }
 
 returns-2 : tie.Need-returns-2
-unfolding mark-at
-returns-2 c = record { answer = (λ e. eqb-true _ 1 e, λ m. eq-eqb _ 1 m) }
+returns-2 c =
+    let s = c .before .args in
+    let z = outside (now (s .marks)) (s .place) (omega arith) in
+    record { answer = (λ e. absurd (no e), λ e. absurd (omega arith)) }
+  where
+    as-number : Bool → ℕ
+    as-number true = 1
+    as-number false = 0
+
+    no : _≡_ {A = Bool} false true → ⊥
+    no e = let z : _≡_ {A = ℕ} 0 1 = ap as-number e in omega arith
 
 pub is-marked-spec : {M : Type 1} → statement M
-is-marked-spec = tie.close (tie.spec returns (λ c. search needs) returns-2)
+is-marked-spec =
+    tie.close (tie.spec shared-slice-read-result cast-result shr-result returns returns-2)

@@ -7,7 +7,7 @@ use lib.ListN.{length, getD}
 use denote.Ref.{now}
 use borrow.Author.Needs.{needs}
 use Rattle.marks.specs.Marks.{flags}
-use Rattle.marks.proofs.Flags.{flags-length}
+use Rattle.marks.proofs.Rows.{flags-length}
 use Rattle.page.proofs.Marks.{Next-flag, next-flag}
 use Rattle.page.proofs.Walking.{marked-there, at-the-end, at-other-bits, at-a-piece}
 use Rattle.page.proofs.next_record.Statement.{statement}

@@ -27,7 +27,7 @@ writes c =
     (omega (arith, s .good .1 .1 .1 .0)) (b .begin .ensures) (c .write-records .ensures)
 
 write-records-requires : tie.Need-write-records-requires
-write-records-requires c κs = let w = whole (c .before) .window in omega (arith, w .even, w .below)
+write-records-requires c κs = let w = whole (c .before) .window in omega (arith, w .below)
 
 as-paged-requires : tie.Need-as-paged-requires
 as-paged-requires c κs =

@@ -8,7 +8,7 @@ use denote.Ref.{now}
 use borrow.Author.Needs.{needs}
 use borrow.Author.Tests.{not-true, not-false}
 use Rattle.marks.specs.Marks.{flags}
-use Rattle.marks.proofs.Flags.{flags-length}
+use Rattle.marks.proofs.Rows.{flags-length}
 use Rattle.record.specs.declared.Record.{Record}
 use Rattle.writer.specs.Claims.{Steps, no-step, then-step}
 use Rattle.page.specs.Helpers.{to-come}

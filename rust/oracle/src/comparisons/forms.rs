@@ -5,6 +5,7 @@ use std::ops::Range;
 use ihex_sys::{MAX_PAGE, MAX_PAGE_FILE};
 
 use crate::comparisons::seen::Times;
+use crate::inputs::marks::packed_length;
 use crate::inputs::pages::PageCase;
 use crate::models::pages::{moved, parted, runs, upper};
 
@@ -25,22 +26,36 @@ impl Look<'_> {
         self.runs.windows(2).any(|two| such(&two[0], &two[1]))
     }
 
-    /// How many marks are neither 0 nor 1.
-    fn bad_marks(&self) -> usize {
-        self.case.marks.iter().filter(|&&mark| mark > 1).count()
+    /// How many unused bits of the marks are set.
+    fn unused_set(&self) -> u32 {
+        self.case.set_unused().count_ones()
     }
 
-    /// Why page and marks are not a window: they differ in length, are too long, or pass 2^32.
+    /// Why page and marks are not a window: the marks have another length, the places are too many, or they
+    /// pass 2^32.
     fn faults(&self) -> [bool; 3] {
-        let PageCase {
-            first, page, marks, ..
-        } = self.case;
-        let end = u64::from(*first) + page.len() as u64;
+        let places = self.case.places();
+        let end = u64::from(self.case.first) + places as u64;
         [
-            page.len() != marks.len(),
-            page.len() > MAX_PAGE,
+            self.case.row().len() != packed_length(places),
+            places > MAX_PAGE,
             end > 1 << 32,
         ]
+    }
+
+    /// Whether the marks have another length, and nothing else is wrong with the window.
+    fn has_other_length(&self) -> bool {
+        self.faults() == [true, false, false]
+    }
+
+    /// Whether that is so, by so many bytes.
+    fn has_longer_row(&self, by: isize) -> bool {
+        self.has_other_length() && self.case.longer == by
+    }
+
+    /// Whether there is a file, and so many places more than a multiple of 8.
+    fn has_over(&self, more: usize) -> bool {
+        self.length.is_some() && self.case.places() % 8 == more
     }
 
     fn is_window(&self) -> bool {
@@ -52,7 +67,7 @@ impl Look<'_> {
 type Form = (&'static str, fn(&Look) -> bool);
 
 /// The forms.
-const FORMS: [Form; 22] = [
+const FORMS: [Form; 28] = [
     ("no place", |look| {
         look.length.is_some() && look.case.page.is_empty()
     }),
@@ -89,17 +104,26 @@ const FORMS: [Form; 22] = [
     ("one that is a byte short", |look| {
         look.length.is_some() && look.case.spare == -1
     }),
-    ("several bad marks", |look| {
-        look.bad_marks() > 1 && look.is_window()
+    ("a multiple of 8 places", |look| look.has_over(0)),
+    ("one more", |look| look.has_over(1)),
+    ("seven more", |look| look.has_over(7)),
+    ("one unused bit set", |look| {
+        look.unused_set() == 1 && look.is_window()
     }),
-    ("a bad mark and no output", |look| {
-        look.bad_marks() > 0 && look.is_window() && look.case.spare <= 0
+    ("several", |look| look.unused_set() > 1 && look.is_window()),
+    ("an unused bit set and no output", |look| {
+        look.unused_set() > 0 && look.is_window() && look.case.spare <= 0
     }),
-    ("a bad mark in no window", |look| {
-        look.bad_marks() > 0 && !look.is_window()
+    ("an unused bit set in no window", |look| {
+        look.unused_set() > 0 && !look.is_window()
     }),
-    ("no window for its two lengths", |look| {
-        look.faults() == [true, false, false]
+    ("no window for a byte of marks too few", |look| {
+        look.has_longer_row(-1)
+    }),
+    ("for a byte too many", |look| look.has_longer_row(1)),
+    ("for a byte a place", |look| {
+        let places = look.case.places();
+        look.has_other_length() && places > 2 && look.case.row().len() == places
     }),
     ("for its length", |look| {
         look.faults() == [false, true, false]

@@ -4,9 +4,9 @@ use ihex::{LoadError, Loaded};
 use ihex_sys::REFUSED;
 
 use crate::comparisons::lent::{Lent, Numbers};
-use crate::comparisons::run::{by_chance, Kind, Plan};
+use crate::comparisons::run::{by_block, by_chance, Kind, Plan};
 use crate::comparisons::seen::{Answers, EntryPoint};
-use crate::inputs::loads::{load, LoadCase};
+use crate::inputs::loads::{by_rule, load, LoadCase, BLOCKS};
 use crate::models::loads::{model, stated, LoadAnswer, Rules, BOTH_STOPS, RIGHT, UNWRAPPED};
 use crate::subjects::face::by_face;
 use crate::subjects::port::Port;
@@ -49,7 +49,10 @@ fn note_wraps(case: &LoadCase, code: u32) {
 
 /// A page and marks to load into, and copies of them on which the model has run, with its answer.
 fn lent(case: &LoadCase) -> (Lent, Lent, Vec<u8>, Vec<u8>, LoadAnswer) {
-    let (page, marks) = (Lent::new(case.page), Lent::new(case.marks));
+    let (page, mut marks) = (Lent::new(case.page), Lent::new(case.marks));
+    if let Some(last) = marks.slice().last_mut() {
+        *last = case.last;
+    }
     let (mut held, mut marked) = (page.bytes().to_vec(), marks.bytes().to_vec());
     let answer = model(case, &mut held, &mut marked);
     (page, marks, held, marked, answer)
@@ -120,10 +123,16 @@ pub fn face(case: &LoadCase) -> Option<String> {
 /// What is compared with the port.
 pub fn of_port<'a>(port: &'a dyn Port, plan: Plan) -> Vec<Kind<'a>> {
     let check = move |case: &LoadCase| self::port(port, case);
-    vec![by_chance("loads", plan, 60, load, check)]
+    vec![
+        by_chance("loads", plan, 60, load, check),
+        by_block("loads by rule", plan, BLOCKS, by_rule, check),
+    ]
 }
 
 /// What is compared with the face.
 pub fn of_face(plan: Plan) -> Vec<Kind<'static>> {
-    vec![by_chance("face: loads", plan, 20, load, face)]
+    vec![
+        by_chance("face: loads", plan, 20, load, face),
+        by_block("face: loads by rule", plan, BLOCKS, by_rule, face),
+    ]
 }

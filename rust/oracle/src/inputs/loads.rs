@@ -2,7 +2,8 @@
 
 use crate::inputs::chance::Chance;
 use crate::inputs::lines::{damage, damaged, random, summed};
-use crate::inputs::shrink::{readable, smaller_number, smaller_text, with_each, Case};
+use crate::inputs::marks::{packed_length, WINDOWS};
+use crate::inputs::shrink::{fewer_flags, readable, smaller_number, smaller_text, with_each, Case};
 use crate::inputs::spelling::line_of;
 
 #[derive(Clone)]
@@ -11,8 +12,23 @@ pub struct LoadCase {
     pub first: u32,
     /// The page's length.
     pub page: usize,
-    /// The marks' length.
+    /// The marks' length in bytes.
     pub marks: usize,
+    /// What the last byte of the marks holds before the load.
+    pub last: u8,
+}
+
+impl LoadCase {
+    /// A load into a page of so many places, with as many marks as there should be.
+    pub fn new(text: Vec<u8>, first: u32, places: usize, last: u8) -> Self {
+        LoadCase {
+            text,
+            first,
+            page: places,
+            marks: packed_length(places),
+            last,
+        }
+    }
 }
 
 impl Case for LoadCase {
@@ -21,11 +37,13 @@ impl Case for LoadCase {
             self,
             text in smaller_text(&self.text),
             first in smaller_number(self.first as usize).into_iter().map(|n| n as u32),
+            last in fewer_flags(self.last),
         );
-        for n in smaller_number(self.page.min(self.marks)) {
+        for page in smaller_number(self.page) {
+            let fewer = packed_length(self.page) - packed_length(page);
             found.push(LoadCase {
-                page: n,
-                marks: n,
+                page,
+                marks: self.marks.saturating_sub(fewer),
                 ..self.clone()
             });
         }
@@ -38,10 +56,14 @@ impl Case for LoadCase {
 
     fn show(&self) -> String {
         let LoadCase {
-            first, page, marks, ..
+            first,
+            page,
+            marks,
+            last,
+            ..
         } = self;
         format!(
-            "text {} first {first:08X} page {page} marks {marks}",
+            "text {} first {first:08X} page {page} marks {marks}, the last {last:02X}",
             readable(&self.text)
         )
     }
@@ -204,17 +226,72 @@ pub fn load(chance: &mut Chance) -> LoadCase {
         damage(&mut text, chance);
     }
     let Window { first, size, room } = window;
+    let fit = packed_length(size);
     let (page, marks) = match chance.under(80) {
-        0 | 1 => (size, size + 1),
-        2 | 3 => (size + 1, size),
-        4 => (chance.from_to(65_535, 65_538), 65_537),
-        5 => (room + 1, room + 1),
-        _ => (size, size),
+        0 => (size, fit + 1),
+        1 => (size, fit.saturating_sub(1)),
+        2 => (size, size / 8),
+        3 => (size, size),
+        4 => (chance.from_to(65_535, 65_538), 8193),
+        5 => (room + 1, packed_length(room + 1)),
+        _ => (size, fit),
     };
     LoadCase {
         text,
         first,
         page,
         marks,
+        last: chance.byte(),
     }
+}
+
+/// The text that states so many bytes from each of these places on, in a window from address 0 on.
+fn stating(records: &[(usize, usize)]) -> Vec<u8> {
+    let line = |&(place, n): &(usize, usize)| line_of(0, place as u16, &vec![0x41; n]);
+    let mut lines: Vec<Vec<u8>> = records.iter().map(line).collect();
+    lines.push(line_of(1, 0, &[]));
+    lines.join(&b'\n')
+}
+
+/// The most places that a text by rule states at once.
+const RUN: usize = 17;
+
+/// Texts for a window of so many places: none, one of an end record alone, and one of the place after the
+/// window. Of each of the first places and of the last: once, twice, before and after its neighbour, and as
+/// the first of a run.
+fn texts(places: usize) -> Vec<Vec<u8>> {
+    let mut found = vec![vec![], stating(&[]), stating(&[(places, 1)])];
+    for place in (0..places.min(RUN)).chain([places.saturating_sub(1)]) {
+        let (one, next) = ((place, 1), (place + 1, 1));
+        found.push(stating(&[one]));
+        found.push(stating(&[one, one]));
+        if place + 1 < places {
+            found.push(stating(&[one, next]));
+            found.push(stating(&[next, one]));
+        }
+        found.push(stating(&[(place, RUN.min(places - place))]));
+    }
+    found
+}
+
+/// How many blocks of loads by rule there are.
+pub const BLOCKS: u64 = WINDOWS.len() as u64;
+
+/// Loads by rule, into a window of a telling number of places: each text over marks whose last byte has no
+/// bit set, each bit alone, and all; then marks of a byte too few and too many.
+pub fn by_rule(block: u64, _: &mut Chance) -> Vec<LoadCase> {
+    let places = WINDOWS[block as usize];
+    let lasts: Vec<u8> = (0..8).map(|bit| 1 << bit).chain([0, 0xFF]).collect();
+    let mut found = Vec::new();
+    for text in texts(places) {
+        for &last in &lasts {
+            found.push(LoadCase::new(text.clone(), 0, places, last));
+        }
+        let fit = packed_length(places);
+        for marks in [fit.saturating_sub(1), fit + 1] {
+            let case = LoadCase::new(text.clone(), 0, places, 0xFF);
+            found.push(LoadCase { marks, ..case });
+        }
+    }
+    found
 }

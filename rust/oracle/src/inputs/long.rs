@@ -109,12 +109,7 @@ impl LongCase {
     }
 
     pub fn load(&self) -> LoadCase {
-        LoadCase {
-            text: self.bytes_of_text(),
-            first: 0,
-            page: 2,
-            marks: 2,
-        }
+        LoadCase::new(self.bytes_of_text(), 0, 2, 0xFF)
     }
 
     /// The chunks that it stands for.

@@ -9,6 +9,7 @@ pub mod lent;
 pub mod lines;
 pub mod loads;
 pub mod long;
+pub mod marks;
 pub mod pages;
 pub mod replay;
 pub mod shrink;

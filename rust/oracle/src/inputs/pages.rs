@@ -1,17 +1,23 @@
-//! Pages that are to be written: windows, marks in runs and by chance, and marks that are none.
+//! Pages that are to be written: windows, marks in runs and by chance, and rows of marks that are refused.
 
 use std::ops::Range;
 
 use ihex_sys::MAX_PAGE;
 
 use crate::inputs::chance::Chance;
-use crate::inputs::shrink::{readable, smaller_number, with_each, Case};
+use crate::inputs::marks::{packed, packed_length, WINDOWS};
+use crate::inputs::shrink::{fewer_flags, readable, smaller_number, with_each, Case};
 
 #[derive(Clone)]
 pub struct PageCase {
     pub first: u32,
     pub page: Vec<u8>,
+    /// A 0 or a 1 for each place of the page.
     pub marks: Vec<u8>,
+    /// The unused bits of the last byte of the row, the lowest first, as far as it has such.
+    pub unused: u8,
+    /// How many bytes the row has too many, or too few if below 0.
+    pub longer: isize,
     /// How many bytes longer than the file the output is, or shorter if below 0; where there is no file,
     /// how long it is.
     pub spare: isize,
@@ -53,6 +59,12 @@ fn cleared(bytes: &[u8]) -> Vec<Vec<u8>> {
     others.filter(|other| other != bytes).collect()
 }
 
+/// Numbers that are nearer to 0.
+fn nearer(number: isize) -> impl Iterator<Item = isize> {
+    let smaller = smaller_number(number.unsigned_abs()).into_iter();
+    smaller.map(move |n| n as isize * number.signum())
+}
+
 /// Smaller addresses: first those with the same lower half.
 fn sooner(first: u32) -> Vec<u32> {
     let uppers = smaller_number(first as usize >> 16).into_iter();
@@ -62,9 +74,27 @@ fn sooner(first: u32) -> Vec<u32> {
 }
 
 impl PageCase {
-    /// How many places there are, of the longer of the two.
     pub fn places(&self) -> usize {
-        self.page.len().max(self.marks.len())
+        self.page.len()
+    }
+
+    /// The unused bits of the last byte that are set.
+    pub fn set_unused(&self) -> u8 {
+        match self.places() % 8 {
+            0 => 0,
+            used => self.unused << used,
+        }
+    }
+
+    /// The row of marks that is lent.
+    pub fn row(&self) -> Vec<u8> {
+        let mut row = packed(&self.marks);
+        if let Some(last) = row.last_mut() {
+            *last |= self.set_unused();
+        }
+        let length = row.len() as isize + self.longer;
+        row.resize(length.max(0) as usize, 0);
+        row
     }
 
     /// Windows without places at the start, which begin that much later, and without a piece.
@@ -92,12 +122,13 @@ impl PageCase {
 
 impl Case for PageCase {
     fn smaller(&self) -> Vec<Self> {
-        let nearer = smaller_number(self.spare.unsigned_abs()).into_iter();
         let mut found = self.narrower();
         found.extend(with_each!(
             self,
             marks in cleared(&self.marks),
-            spare in nearer.map(|n| n as isize * self.spare.signum()),
+            unused in fewer_flags(self.unused),
+            longer in nearer(self.longer),
+            spare in nearer(self.spare),
             page in cleared(&self.page),
             first in sooner(self.first),
         ));
@@ -113,7 +144,7 @@ impl Case for PageCase {
             "first {:08X} page {} marks {} output {:+}",
             self.first,
             readable(&self.page),
-            readable(&self.marks),
+            readable(&self.row()),
             self.spare
         )
     }
@@ -169,14 +200,11 @@ fn marks(n: usize, chance: &mut Chance) -> Vec<u8> {
     }
 }
 
-/// Makes one to three marks neither 0 nor 1.
-fn spoil(marks: &mut [u8], chance: &mut Chance) {
-    for _ in 0..chance.from_to(1, 3) {
-        let place = chance.under(marks.len().max(1));
-        if let Some(mark) = marks.get_mut(place) {
-            *mark = chance.one_of(&[2, 3, 128, 255]);
-        }
-    }
+/// How many bytes the row of so many places has too many: one, or as many as if each place had a byte; or
+/// one too few.
+fn longer(n: usize, chance: &mut Chance) -> isize {
+    let bytes = n - packed_length(n);
+    chance.one_of(&[-1, -1, 1, 1, bytes as isize])
 }
 
 /// Where a window of so many places begins: mostly such that a multiple of 65,536 lies in it or next to
@@ -211,15 +239,15 @@ fn window(n: usize, chance: &mut Chance) -> PageCase {
         first: first(n, chance),
         page: chance.bytes(n),
         marks: marks(n, chance),
+        unused: 0,
+        longer: 0,
         spare: spare(chance),
     };
-    if chance.once_in(8) {
-        spoil(&mut case.marks, chance);
+    if chance.once_in(6) {
+        case.unused = chance.byte();
     }
-    match chance.under(48) {
-        0 => case.page.push(0),
-        1 => case.marks.push(1),
-        _ => {}
+    if chance.once_in(24) {
+        case.longer = longer(n, chance);
     }
     case
 }
@@ -245,6 +273,8 @@ fn longest(chance: &mut Chance) -> PageCase {
         first: (multiple - across) as u32,
         page: chance.bytes(MAX_PAGE),
         marks: (0..MAX_PAGE).map(marked).collect(),
+        unused: 0,
+        longer: 0,
         spare: spare(chance),
     }
 }
@@ -256,6 +286,8 @@ fn full(chance: &mut Chance) -> PageCase {
         first: chance.one_of(&[0, any, 0xFFFF_0000]),
         page: chance.bytes(MAX_PAGE),
         marks: vec![1; MAX_PAGE],
+        unused: 0,
+        longer: 0,
         spare: spare(chance),
     }
 }
@@ -267,6 +299,8 @@ fn over(chance: &mut Chance) -> PageCase {
         first: chance.under(0xFFFF_0000) as u32,
         page: chance.bytes(n),
         marks: marks(n, chance),
+        unused: 0,
+        longer: 0,
         spare: spare(chance),
     }
 }
@@ -286,4 +320,37 @@ fn wide(chance: &mut Chance) -> PageCase {
 pub fn large(block: u64, chance: &mut Chance) -> Vec<PageCase> {
     let one = [longest, full, over][block as usize % 3];
     vec![one(chance), wide(chance), wide(chance)]
+}
+
+/// How many blocks of pages by rule there are.
+pub const BLOCKS: u64 = WINDOWS.len() as u64;
+
+/// Pages by rule, of a telling number of places, with all marked or none: with each unused bit of the last
+/// byte of the row set alone, with all of them, with each other bit of it changed, and with a row of a byte
+/// too few, a byte too many, or a byte for each place.
+pub fn by_rule(block: u64, chance: &mut Chance) -> Vec<PageCase> {
+    let n = WINDOWS[block as usize];
+    let mut found = Vec::new();
+    for (mark, spare) in [(0, 0), (1, 0), (0, -1), (1, 9)] {
+        let plain = PageCase {
+            first: 0,
+            page: chance.bytes(n),
+            marks: vec![mark; n],
+            unused: 0,
+            longer: 0,
+            spare,
+        };
+        let last_byte = n.saturating_sub(1) / 8 * 8..n;
+        found.extend(with_each!(
+            plain,
+            unused in (0..8).map(|bit| 1 << bit).chain([0, 0xFF]),
+            longer in [-1, 1, (n - packed_length(n)) as isize],
+        ));
+        found.extend(last_byte.map(|place| {
+            let mut case = plain.clone();
+            case.marks[place] ^= 1;
+            case
+        }));
+    }
+    found
 }

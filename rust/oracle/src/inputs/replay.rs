@@ -16,6 +16,8 @@ use crate::subjects::told::Entry;
 pub const MOST: usize = 4096;
 /// The most bytes that it lends as a page or as marks.
 const MOST_PAGE: usize = 65_537;
+/// What each byte of the marks holds before a load.
+pub const MARKS: u8 = 0xAA;
 /// The most records of an object.
 pub const MOST_RECORDS: usize = 64;
 /// The flag with which the first answer of a text alone is told.
@@ -134,6 +136,7 @@ fn load_of(mut words: Words) -> Option<LoadCase> {
         first: words.number()?,
         page: words.up_to(MOST_PAGE)?,
         marks: words.up_to(MOST_PAGE)?,
+        last: MARKS,
         text: words.last_bytes()?,
     })
 }

@@ -6,6 +6,7 @@ use ihex_sys::{REFUSED, STOP_AFTER_EOF, STOP_AFTER_FIRST_ERROR};
 use original::Record;
 
 use crate::inputs::loads::LoadCase;
+use crate::inputs::marks::{packed, packed_length};
 use crate::subjects::the_crate::{by_crate, rows};
 
 /// A load reads with both stops.
@@ -47,6 +48,10 @@ pub struct Rules {
     pub segment: fn(Latest, u64) -> Latest,
     /// Which address of a data record lies outside the window, if one does.
     pub outside: fn(&[u64], &Range<u64>) -> Option<u64>,
+    /// Whether so many places want so many bytes of marks.
+    pub fits: fn(usize, usize) -> bool,
+    /// What a place that is stated does to the list of marks.
+    pub mark: fn(&mut [u8], usize),
 }
 
 /// The right rules.
@@ -58,6 +63,8 @@ pub const RIGHT: Rules = Rules {
         Latest::Back(_) | Latest::Linear(_) => Latest::Back(base),
     },
     outside: first_outside,
+    fits: |places, marks| marks == packed_length(places),
+    mark: |marks, place| marks[place] = 1,
 };
 
 /// Intel's rule: a segment's offset wraps at 64K, a linear address at 4G. Before any extension
@@ -106,7 +113,8 @@ pub const UNWRAPPED: [(&str, Placing); 3] = [
 pub fn stated(rules: Rules, case: &LoadCase) -> Result<(u64, Vec<(usize, u8)>), LoadAnswer> {
     let first = u64::from(case.first);
     let window = first..first + case.page as u64;
-    if case.page != case.marks || case.page > 65_536 || window.end > 1 << 32 {
+    let fits = (rules.fits)(case.page, case.marks);
+    if !fits || case.page > 65_536 || window.end > 1 << 32 {
         return Err((REFUSED + 16, 0, 0, 0));
     }
     let mut latest = Latest::None;
@@ -142,15 +150,19 @@ pub fn stated(rules: Rules, case: &LoadCase) -> Result<(u64, Vec<(usize, u8)>), 
     Err((REFUSED + 13, 0, 0, 0))
 }
 
-/// A load by these rules: page and marks change on acceptance only.
-pub fn placed_by(rules: Rules, case: &LoadCase, page: &mut [u8], marks: &mut [u8]) -> LoadAnswer {
+/// A load by these rules: page and marks change on acceptance only. A list of marks is made, a byte for
+/// each place, and then packed.
+pub fn placed_by(rules: Rules, case: &LoadCase, page: &mut [u8], row: &mut [u8]) -> LoadAnswer {
     match stated(rules, case) {
         Err(refused) => refused,
         Ok((records, stated)) => {
-            marks.fill(0);
+            let mut marks = vec![0; page.len()];
             for (place, byte) in stated {
                 page[place] = byte;
-                marks[place] = 1;
+                (rules.mark)(&mut marks, place);
+            }
+            for (byte, eight) in row.iter_mut().zip(packed(&marks)) {
+                *byte = eight;
             }
             (0, records, 0, 0)
         }
@@ -158,6 +170,6 @@ pub fn placed_by(rules: Rules, case: &LoadCase, page: &mut [u8], marks: &mut [u8
 }
 
 /// The model: a load by the right rules.
-pub fn model(case: &LoadCase, page: &mut [u8], marks: &mut [u8]) -> LoadAnswer {
-    placed_by(RIGHT, case, page, marks)
+pub fn model(case: &LoadCase, page: &mut [u8], row: &mut [u8]) -> LoadAnswer {
+    placed_by(RIGHT, case, page, row)
 }

@@ -5,17 +5,24 @@ use std::ops::Range;
 use ihex_sys::{MAX_PAGE, REFUSED};
 use original::{create_object_file_representation, Record};
 
+use crate::inputs::marks::{packed_length, unpacked, unused};
 use crate::models::writes::{answered, refused, Written};
 
 /// The code of page and marks that are not a window.
 pub const BAD_WINDOW: u32 = REFUSED + 16;
-/// The code of a mark that is neither 0 nor 1.
+/// The code of an unused bit of the marks that is set.
 pub const BAD_MARK: u32 = REFUSED + 19;
 
 /// What a page writer goes by.
 #[derive(Clone, Copy)]
 pub struct Rules {
-    /// The runs of places that are written, from the marks.
+    /// Whether so many places want so many bytes of marks.
+    pub fits: fn(usize, usize) -> bool,
+    /// The bit of a row that is refused, if one is, by the place that it would have.
+    pub refused: fn(&[u8], usize) -> Option<usize>,
+    /// The list of marks of so many places, from the row.
+    pub unpacked: fn(&[u8], usize) -> Vec<u8>,
+    /// The runs of places that are written, from the list of marks.
     pub runs: fn(&[u8]) -> Vec<Range<u64>>,
     /// The records of a run, by their addresses.
     pub records: fn(Range<u64>) -> Vec<Range<u64>>,
@@ -25,6 +32,9 @@ pub struct Rules {
 
 /// The right rules.
 pub const RIGHT: Rules = Rules {
+    fits: |places, row| row == packed_length(places),
+    refused: |row, places| unused(row, places).next(),
+    unpacked,
     runs,
     records: |run| records(run, 16),
     extends: |last, next| last.map(upper) != Some(upper(next)),
@@ -99,16 +109,17 @@ fn listed(rules: Rules, first: u32, page: &[u8], marks: &[u8]) -> Vec<Record> {
 /// A page's file, or the code and the value of the refusal.
 pub type Filed = Result<String, (u32, u64)>;
 
-/// The file as the crate writes the records that these rules make of a page.
-pub fn filed(rules: Rules, first: u32, page: &[u8], marks: &[u8]) -> Filed {
-    let end = u64::from(first) + page.len() as u64;
-    if page.len() != marks.len() || page.len() > MAX_PAGE || end > 1 << 32 {
+/// The file as the crate writes the records that these rules make of a page and its row of marks.
+pub fn filed(rules: Rules, first: u32, page: &[u8], row: &[u8]) -> Filed {
+    let places = page.len();
+    let end = u64::from(first) + places as u64;
+    if !(rules.fits)(places, row.len()) || places > MAX_PAGE || end > 1 << 32 {
         return Err((BAD_WINDOW, 0));
     }
-    if let Some(place) = marks.iter().position(|&mark| mark > 1) {
+    if let Some(place) = (rules.refused)(row, places) {
         return Err((BAD_MARK, place as u64));
     }
-    let list = listed(rules, first, page, marks);
+    let list = listed(rules, first, page, &(rules.unpacked)(row, places));
     let text = create_object_file_representation(&list);
     Ok(text.expect("a list of short records and an end"))
 }

@@ -4,7 +4,7 @@ use ihex_sys::{DONE, REFUSED, STOP_AFTER_EOF, STOP_AFTER_FIRST_ERROR};
 
 use crate::inputs::lines::LineCase;
 use crate::inputs::loads::LoadCase;
-use crate::inputs::replay::Given;
+use crate::inputs::replay::{Given, MARKS};
 use crate::inputs::spelling::hex;
 use crate::inputs::texts::TextCase;
 use crate::models::lines::{self, in_pool, pour};
@@ -17,7 +17,6 @@ use crate::subjects::told::{pool_full, told, Told};
 const POOL: u8 = 0xEE;
 const OUT: u8 = 0xDD;
 const PAGE: u8 = 0xCC;
-const MARKS: u8 = 0xAA;
 
 /// The most answers of a text that it prints, but for the last.
 const MOST_ANSWERS: usize = 40;

@@ -49,6 +49,7 @@ impl Port for Ruled {
             first,
             page: page.len(),
             marks: marks.len(),
+            last: 0,
         };
         let (code, x, y, n) = placed_by(self.0, &case, page, marks);
         (*a, *b, *line) = (x, y, n);
@@ -85,7 +86,8 @@ pub fn answers() -> Vec<Wrong> {
     ]
 }
 
-fn ruled(name: &'static str, rules: Rules) -> Wrong {
+/// A loader that goes by these rules.
+pub fn ruled(name: &'static str, rules: Rules) -> Wrong {
     (name, Box::new(Ruled(rules)))
 }
 

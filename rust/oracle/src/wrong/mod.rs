@@ -7,6 +7,7 @@ pub mod chunks;
 pub mod dumps;
 pub mod lines;
 pub mod loads;
+pub mod marks;
 pub mod named;
 pub mod pages;
 pub mod places;

@@ -4,6 +4,7 @@ use std::ops::Range;
 
 use ihex_sys::REFUSED;
 
+use crate::inputs::marks::{packed_length, unpacked, unused};
 use crate::models::pages::{
     filed, parted, records, runs, sized, upper, written, Rules, BAD_MARK, BAD_WINDOW, RIGHT,
 };
@@ -33,12 +34,6 @@ impl<'a> Call<'a> {
         let mut value = 0;
         let code = Real.page_file_length(self.first, self.page, self.marks, &mut value);
         Some(value as usize).filter(|_| code == 0)
-    }
-
-    /// The places of the marks that are neither 0 nor 1.
-    fn bad_marks(&self) -> impl DoubleEndedIterator<Item = usize> + 'a {
-        let marks = self.marks;
-        (0..marks.len()).filter(move |&place| marks[place] > 1)
     }
 
     /// A refusal with this value.
@@ -106,7 +101,9 @@ pub fn all() -> Vec<Wrong> {
         bases(),
         places(),
         texts(),
+        bits(),
         marks(),
+        windows(),
         order(),
         outputs(),
         lengths(),
@@ -224,31 +221,73 @@ fn texts() -> Vec<Wrong> {
     ]
 }
 
-/// Those that judge marks wrongly.
-fn marks() -> Vec<Wrong> {
+/// Those that take other bits for the marks of places.
+fn bits() -> Vec<Wrong> {
+    let taken = |name, unpacked| ruled(name, Rules { unpacked, ..RIGHT });
     vec![
-        page("names the last bad mark", |call| match call.made() {
-            BAD_MARK => {
-                let last = call.bad_marks().next_back();
-                call.refused(BAD_MARK, last.unwrap_or(0))
-            }
-            code => code,
+        taken("takes the highest bit of a byte first", |row, places| {
+            let turned: Vec<u8> = row.iter().map(|byte| byte.reverse_bits()).collect();
+            unpacked(&turned, places)
         }),
-        page(
-            "names a bad mark's value, not its place",
-            |call| match call.made() {
-                BAD_MARK => {
-                    let first = call.bad_marks().next();
-                    let value = first.map_or(0, |place| call.marks[place]);
-                    call.refused(BAD_MARK, value.into())
-                }
-                code => code,
+        taken("takes a byte with a mark for full", |row, places| {
+            let mark = |place| u8::from(row[place / 8] != 0);
+            (0..places).map(mark).collect()
+        }),
+        taken("passes over a byte that is not full", |row, places| {
+            let mark = |place| u8::from(row[place / 8] == 0xFF);
+            (0..places).map(mark).collect()
+        }),
+        taken("leaves out the places of the last byte", |row, places| {
+            let front = row.len().saturating_sub(1);
+            unpacked(&row[..front], places)
+        }),
+    ]
+}
+
+/// Those that judge the unused bits wrongly.
+fn marks() -> Vec<Wrong> {
+    let judged = |name, refused| ruled(name, Rules { refused, ..RIGHT });
+    vec![
+        judged("names the highest unused bit that is set", |row, places| {
+            unused(row, places).next_back()
+        }),
+        judged("names the bit in the byte, not the place", |row, places| {
+            unused(row, places).next().map(|place| place % 8)
+        }),
+        judged("names the first unused bit, set or not", |row, places| {
+            unused(row, places).next().map(|_| places)
+        }),
+        judged("looks at the first unused bit alone", |row, places| {
+            unused(row, places).next().filter(|&place| place == places)
+        }),
+        judged("does not look at the unused bits", |_, _| None),
+        judged(
+            "takes the last byte for unused at a multiple of 8",
+            |row, places| {
+                let last = row.last().filter(|&&last| places % 8 == 0 && last != 0);
+                let lowest = last.map(|last| places + last.trailing_zeros() as usize);
+                lowest.or_else(|| unused(row, places).next())
             },
         ),
-        page("takes each mark but 0 for 1", |call| {
-            let plain: Vec<u8> = call.marks.iter().map(|&mark| mark.min(1)).collect();
-            let (first, page) = (call.first, call.page);
-            Real.write_page(first, page, &plain, call.out, &mut call.value)
+    ]
+}
+
+/// Those that want another length of the marks.
+fn windows() -> Vec<Wrong> {
+    let fitting = |name, fits| ruled(name, Rules { fits, ..RIGHT });
+    vec![
+        fitting("rounds the length of the marks down", |places, row| {
+            row == places / 8
+        }),
+        fitting("wants a byte of marks more than that", |places, row| {
+            row == places / 8 + 1
+        }),
+        fitting("wants a byte of marks a place", |places, row| row == places),
+        fitting("takes marks that are too long", |places, row| {
+            row >= packed_length(places)
+        }),
+        fitting("takes marks that are too short", |places, row| {
+            row <= packed_length(places)
         }),
     ]
 }
@@ -263,7 +302,7 @@ fn order() -> Vec<Wrong> {
             }
         }),
         page("judges the marks before the window", |call| {
-            let first = call.bad_marks().next();
+            let first = unused(call.marks, call.page.len()).next();
             match (call.made(), first) {
                 (BAD_WINDOW, Some(place)) => call.refused(BAD_MARK, place),
                 (code, _) => code,
@@ -299,7 +338,7 @@ fn outputs() -> Vec<Wrong> {
         page("writes as much as fits, then refuses", |call| {
             blotted(call, OUTPUT_FULL)
         }),
-        page("writes, then refuses a bad mark", |call| {
+        page("writes, then refuses an unused bit", |call| {
             blotted(call, BAD_MARK)
         }),
         page("clears the output behind the file", |call| {
@@ -323,14 +362,14 @@ fn outputs() -> Vec<Wrong> {
 fn lengths() -> Vec<Wrong> {
     let length = |name, told| -> Wrong { (name, Box::new(Length(told))) };
     vec![
-        length("tells a length of a byte too much", |code, value| {
+        length("returns a length of a byte too much", |code, value| {
             if code == 0 {
                 *value += 1;
             }
             code
         }),
         length(
-            "tells a length where a mark is bad",
+            "returns a length where an unused bit is set",
             |code, value| match code {
                 BAD_MARK => {
                     *value = 12;
