@@ -209,6 +209,11 @@ uint32_t ihex_create_object_file_representation(const void *list, size_t list_le
  * While a type 02 is the latest extension record, with base 16 times its number, and before any, with base 0, byte i of a data
  * record lies at base + ((offset + i) modulo 65,536). While a type 04 is, with base 65,536 times its number, it lies at
  * (base + offset + i) modulo 2^32.
+ * One dump upon another: the joined text of A and B is the bytes of A before the line of its end record, the line :020000020000FC with one
+ * LF, and B. A's end record is the first line that the reader takes for one. In one window, let A be accepted. The joined text is accepted
+ * exactly when B is, and the counts of data records add; else it is refused as B is, at B's line plus the lines of A before its end record
+ * plus 1 (13 keeps 0). If both are accepted, loading A and then B leaves the page that the joined text leaves on the same old page, and the
+ * marks of the joined text are the union of the marks of both loads.
  * Noise: let a text be accepted, and then be damaged in one of these ways. One byte is changed, lost or added, or two neighbours are
  * swapped. It is cut off after any byte. Each line has at most one such slip, and every LF stays as it is. The load of the damaged text
  * into the same window is refused, or it is the very same load: what is returned, page and marks. Other damage can go unnoticed: two wrong

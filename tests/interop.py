@@ -1,15 +1,19 @@
-"""Pages written by ihex_write_page and loaded by other readers, and pages written by those and loaded by ihex_load.
+"""Pages written by ihex_write_page and loaded by other readers, and pages written by those and loaded by ihex_load; and dumps that other
+tools merge into one, where ihex_load loads one upon the other.
 
-    interop.py COMMAND..    the words that start the program pagefile of tests/c
+    interop.py FOLDER WORDS..    the folder of the built programs pagefile and joined; the words that run a program
 
-Each page is one test for each reader and one for each writer. Each must have exactly the marked places, with their bytes. Files that a
-tool does not take, and tools that are not there, are passed over and count nothing; a line that begins with '-- passed over:' names each.
-The last line is 'N passed, M failed'.
+Each page is one test for each reader and one for each writer. Each must have exactly the marked places, with their bytes. Each pair of
+dumps is two tests for each tool that merges, and one for ihex_load; two more for each tool see that it is given pairs enough. Files that
+a tool does not take, and tools that are not there, are passed over and count nothing; a line that begins with '-- passed over:' names
+each. The last line is 'N passed, M failed'.
 """
 import collections
+import os
 import random
 import sys
 
+import model
 from model import packed, unpacked
 from peers import run, there
 from programs import end, told
@@ -57,7 +61,7 @@ FIRSTS = [0, 1, 0xFFEF, 0xFFF8, 0xFFFF, 0x10000, 0x10001, 0x12345, 0xFFFF8, 0x10
 
 
 def whole(before):
-    """Every second place of a whole window, but two side by side behind `before` places: the longest file."""
+    """Every second place of a whole window, but two side by side after `before` places: the longest file."""
     return bytes((p % 2 == 0) == (p < before) for p in range(PAGE))
 
 
@@ -105,41 +109,158 @@ def page_file(case):
     return run(PAGEFILE + ['write', '%X' % case.first, str(len(case.page))], case.page + packed(case.marks)).decode()
 
 
-def loaded(case, text):
-    """The places that ihex_load marks in the case's window, with their bytes."""
-    n = len(case.marks)
-    both = run(PAGEFILE + ['load', '%X' % case.first, str(n)], text.encode())
+def loaded(first, n, text):
+    """The places that ihex_load marks in a window of n places, with their bytes."""
+    both = run(PAGEFILE + ['load', '%X' % first, str(n)], text.encode('latin-1'))
     marks = unpacked(both[n:], n)
     if packed(marks) != both[n:]:
         raise ValueError('an unused bit is set')
-    return stated(Case(case.name, case.first, both[:n], marks))
+    return stated(Case('', first, both[:n], marks))
 
 
-def compare(name, case, gives):
-    """One test: what is given states the marked places of the case, and nothing else. Whatever a tool raises is a failure."""
+def compare(name, places, gives):
+    """One test: what is given states these places, and nothing else. Whatever a tool raises is a failure."""
     try:
-        same, why = gives() == stated(case), 'other places or bytes'
+        same, why = gives() == places, 'other places or bytes'
     except Exception as error:
         same, why = False, str(error)
-    told('%s, %s at %X' % (name, case.name, case.first), same, why)
+    told(name, same, why)
 
 
-def compare_all(tool):
+def compare_pages(tool):
     over = 0
-    for case in CASES:
+    for case in cases():
         if not tool.takes_nothing and not any(case.marks):
             over += 1
             continue
-        compare(tool.name + ' reads', case, lambda: tool.read(page_file(case)))
-        compare(tool.name + ' writes', case, lambda: loaded(case, tool.write(stated(case))))
+        of, places = '%s at %X' % (case.name, case.first), stated(case)
+        compare('%s reads, %s' % (tool.name, of), places, lambda: tool.read(page_file(case)))
+        compare('%s writes, %s' % (tool.name, of), places, lambda: loaded(case.first, len(case.marks), tool.write(places)))
     if over:
         print('-- passed over: %s, %d pages without a mark: it refuses a file without data' % (tool.name, over))
 
 
-PAGEFILE = sys.argv[1:]
-CASES = list(cases())
-TOOLS = there()
-for each in TOOLS:
-    compare_all(each)
-told('a tool could be had', bool(TOOLS), 'none of the three')
-end()
+# ---- one dump upon another
+
+# A dump or a joined text: its text, and the places that ihex_load marks, with their bytes.
+Loaded = collections.namedtuple('Loaded', 'text places')
+
+# A pair of dumps with their joined text, and the window that they are loaded into: its first address and how many places it has.
+Pair = collections.namedtuple('Pair', 'number first length a b joined')
+NUMBERS = range(0, 200, 2)
+
+# What a tool refuses, or takes otherwise than Intel's rule, of a dump that ihex_load accepts. For srec_cat the latest start record decides
+# where a record across offset FFFF goes on: after a type 03 in its segment, after a type 05 beyond it. GNU objcopy merges no files.
+NO_DATA = 'a dump without a byte'
+ADDRESS = 'an extension record with an address'
+ACROSS_FIRST = 'a record across offset FFFF before any extension record'
+ACROSS_SEGMENT = 'a record across the end of a segment'
+ACROSS_AFTER_START = 'a record across offset FFFF after a start record'
+TWO_STARTS = 'two start records'
+STATED_TWICE = 'a place stated twice'
+CANNOT = {
+    'srec_cat': {NO_DATA, ADDRESS, ACROSS_FIRST, ACROSS_AFTER_START},
+    'intelhex': {ADDRESS, ACROSS_FIRST, ACROSS_SEGMENT, TWO_STARTS, STATED_TWICE},
+}
+
+# How many of the pairs, and of their joined texts, a tool is at least given.
+LEAST = {
+    'srec_cat': {'merges': 45, 'reads joined': 60},
+    'intelhex': {'merges': 34, 'reads joined': 25},
+}
+
+
+def pair(number):
+    """The pair of dumps that the program joined makes for an even number, with their joined text."""
+    head, rest = run(JOINED + [str(number)]).decode('latin-1').split('\n', 1)
+    first, length, a, b, joined = (int(word, base) for word, base in zip(head.split(), [16, 10, 10, 10, 10]))
+    if len(rest) != a + b + joined:
+        raise ValueError('joined: texts of other lengths')
+    texts = rest[:a], rest[a:a + b], rest[a + b:]
+    return Pair(number, first, length, *(Loaded(text, loaded(first, length, text)) for text in texts))
+
+
+def records(text):
+    """The records of an accepted dump before its end record: type, address and payload."""
+    for line in filter(None, model.lines_of(text.encode('latin-1'))):
+        _, record = model.read(line)
+        if record[0] == 1:
+            return
+        yield record
+
+
+def across(latest, is_after_start):
+    """What is odd about a record across offset FFFF, by the latest extension record, if any, and by a start record after it."""
+    if latest is None:
+        return {ACROSS_FIRST}
+    odd = (ACROSS_SEGMENT, latest == 2), (ACROSS_AFTER_START, is_after_start)
+    return {name for name, holds in odd if holds}
+
+
+def addresses(text):
+    """The address of each byte that the data records of an accepted dump state, by Intel's rule and not by a load."""
+    latest, base = None, 0
+    for kind, offset, payload in records(text):
+        if kind in (2, 4):
+            latest, base = kind, int.from_bytes(payload, 'big') * (16 if kind == 2 else PAGE)
+        elif kind == 0 and latest == 4:
+            yield from ((base + offset + i) % TOP for i in range(len(payload)))
+        elif kind == 0:
+            yield from (base + (offset + i) % PAGE for i in range(len(payload)))
+
+
+def oddities(text):
+    """What of a dump not every tool takes, by its text."""
+    found, latest, is_after_start, starts, bytes_at = set(), None, False, 0, list(addresses(text))
+    for kind, address, payload in records(text):
+        if kind == 0:
+            found |= across(latest, is_after_start) if address + len(payload) > PAGE else set()
+        elif kind in (2, 4):
+            latest, is_after_start = kind, False
+            found |= {ADDRESS} if address else set()
+        else:
+            starts, is_after_start = starts + 1, True
+    odd = (NO_DATA, not bytes_at), (TWO_STARTS, starts > 1), (STATED_TWICE, len(set(bytes_at)) < len(bytes_at))
+    return found | {name for name, holds in odd if holds}
+
+
+def compare_merges(tool, pairs):
+    """Two tests for each pair that the tool takes: what it makes of both dumps, and of their joined text, states what A and then B state."""
+    over = collections.Counter()
+    for each in pairs:
+        for what, given in ('merges', (each.a, each.b)), ('reads joined', (each.joined,)):
+            odd = set().union(*(oddities(dump.text) for dump in given)) & CANNOT[tool.name]
+            over.update(odd)
+            over[what] += bool(odd)
+            if not odd:
+                compare('%s %s, pair %d' % (tool.name, what, each.number), {**each.a.places, **each.b.places},
+                        lambda: loaded(each.first, each.length, tool.merge(*(dump.text for dump in given))))
+    for what, least in LEAST[tool.name].items():
+        taken = len(pairs) - over[what]
+        told('%s %s, pairs enough' % (tool.name, what), taken >= least, '%d, and not %d' % (taken, least))
+    why = ', '.join('%s (%d)' % (odd, over[odd]) for odd in sorted(CANNOT[tool.name]))
+    print('-- passed over: %s, %d of %d pairs of dumps and %d of their joined texts: it refuses, or takes otherwise, %s'
+          % (tool.name, over['merges'], len(pairs), over['reads joined'], why))
+
+
+def compare_joined(pairs):
+    """One test for each pair: ihex_load of the joined text marks and holds what A and then B do."""
+    for each in pairs:
+        compare('joined, pair %d' % each.number, {**each.a.places, **each.b.places}, lambda: each.joined.places)
+
+
+def main():
+    tools, pairs = there(), [pair(number) for number in NUMBERS]
+    for tool in tools:
+        compare_pages(tool)
+    compare_joined(pairs)
+    for tool in tools:
+        if tool.name in CANNOT:
+            compare_merges(tool, pairs)
+    told('a tool could be had', bool(tools), 'none of the three')
+    end()
+
+
+FOLDER, *UNDER = sys.argv[1:]
+PAGEFILE, JOINED = UNDER + [os.path.join(FOLDER, 'pagefile')], UNDER + [os.path.join(FOLDER, 'joined')]
+main()

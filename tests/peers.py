@@ -1,5 +1,6 @@
 """Other readers of Intel HEX: GNU objcopy, srec_cat and Python's intelhex. Each gives the places that a text states, by their address, or
-raises an error where it refuses the text; and each writes a text from such places. A text is a string of one character a byte."""
+raises an error where it refuses the text; and each writes a text from such places. The last two also merge texts into one, in which the
+later text wins. A text is a string of one character a byte."""
 import io
 import os
 import shutil
@@ -71,12 +72,15 @@ def run(words, given=b''):
     return ended.stdout
 
 
-def turned(text, words):
-    """What a tool makes of a text; in its words < stands for the file that it reads, > for the one that it writes."""
+def turned(words, *texts):
+    """What a tool makes of texts; in its words < stands for the file of the first text, << for that of the second, > for the file that
+    it writes."""
     with tempfile.TemporaryDirectory() as work:
-        names = {'<': os.path.join(work, 'in'), '>': os.path.join(work, 'out')}
-        with open(names['<'], 'wb') as file:
-            file.write(text.encode('latin-1'))
+        names = {'>': os.path.join(work, 'out')}
+        for number, text in enumerate(texts, 1):
+            names['<' * number] = os.path.join(work, 'in%d' % number)
+            with open(names['<' * number], 'wb') as file:
+                file.write(text.encode('latin-1'))
         run([names.get(word, word) for word in words])
         with open(names['>']) as file:
             return file.read()
@@ -88,10 +92,10 @@ class Objcopy:
     takes_nothing = False  # "the input file has no sections"
 
     def read(self, text):
-        return of_srecords(turned(text, 'objcopy -I ihex -O srec < >'.split()))
+        return of_srecords(turned('objcopy -I ihex -O srec < >'.split(), text))
 
     def write(self, places):
-        return turned(to_srecords(places), 'objcopy -I srec -O ihex < >'.split())
+        return turned('objcopy -I srec -O ihex < >'.split(), to_srecords(places))
 
 
 class SrecCat:
@@ -100,10 +104,14 @@ class SrecCat:
     takes_nothing = False  # "file contains no data"
 
     def read(self, text):
-        return of_srecords(turned(text, 'srec_cat < -intel -o > -motorola'.split()))
+        return of_srecords(turned('srec_cat < -intel -o > -motorola'.split(), text))
 
     def write(self, places):
-        return turned(to_srecords(places), 'srec_cat < -motorola -o > -intel'.split())
+        return turned('srec_cat < -motorola -o > -intel'.split(), to_srecords(places))
+
+    def merge(self, *texts):
+        files = [word for number in range(1, len(texts) + 1) for word in ('<' * number, '-intel')]
+        return turned(['srec_cat', '-contradictory-bytes=ignore', *files, '-o', '>', '-intel'], *texts)
 
 
 class Intelhex:
@@ -119,6 +127,13 @@ class Intelhex:
         text = io.StringIO()
         intelhex.IntelHex(places).write_hex_file(text)
         return text.getvalue()
+
+    def merge(self, *texts):
+        merged, written = intelhex.IntelHex(), io.StringIO()
+        for text in texts:
+            merged.merge(intelhex.IntelHex(io.StringIO(text)), overlap='replace')
+        merged.write_hex_file(written)
+        return written.getvalue()
 
 
 TOOLS = Objcopy(), SrecCat(), Intelhex()

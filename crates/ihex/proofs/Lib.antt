@@ -10,3 +10,4 @@ pub mod RoundTrip
 pub mod Objects
 pub mod Pages
 pub mod Noise
+pub mod Joined

@@ -9,3 +9,4 @@ pub mod ByLines
 pub mod Claims
 pub mod RoundTrip
 pub mod Noise
+pub mod Joined

@@ -16,3 +16,4 @@ pub mod Apart
 pub mod Agreeing
 pub mod Edits
 pub mod Noise
+pub mod Joined

@@ -6,3 +6,4 @@ pub mod Helpers
 pub mod Segments
 pub mod Packed
 pub mod Noise
+pub mod Joined

@@ -3,3 +3,6 @@ pub mod Places
 pub mod Sites
 pub mod Packed
 pub mod Runs
+pub mod Cut
+pub mod Join
+pub mod Joined

@@ -3,3 +3,4 @@ pub mod Source
 pub mod Sites
 pub mod Packed
 pub mod Runs
+pub mod Join

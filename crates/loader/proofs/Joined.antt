@@ -1,0 +1,326 @@
+-- The claims of joining, of Intel's records in one window: what `steps` proves for any source and any room, of the line that resets and of packed
+-- marks.
+-- Assumes nothing.
+use mathlib.Core.Path.{_≡_, refl, sym, ap, ap₂, _∙_, subst₂}
+use mathlib.Core.Logic.{_⊎_, inl, inr}
+use Prim.Native.Nat.{ℕ, suc, _+_, _<_, max}
+use native.Mathlib.Omega.{arith}
+use mathlib.Core.Bool.{Bool, true, false}
+use mathlib.Core.Option.{some}
+use mathlib.Core.List.{List, [], _∷_, _++_, List·Memᴰ, List·Memᴰ·head, List·Memᴰ·cases-cons, List·Memᴰ·not-nil, Memᴰ·append-right}
+use lib.ListN.{length, replicate, length-replicate}
+use Rattle.digits.specs.Common.{Every}
+use Rattle.digits.specs.Digits.{number-after}
+use Rattle.record.specs.Line.{Said, says, wrong, judge}
+use Rattle.record.specs.Meaning.{Meaning, data-at, end-of-file, extended-segment, start-segment, extended-linear, start-linear, meaning}
+use Rattle.reader.specs.Lines.{LF, lines}
+use Rattle.marks.specs.Marks.{row-length, mark-at, flags}
+use Rattle.marks.proofs.Below.{split}
+use Rattle.marks.proofs.Rows.{flags-length, zeros-none, zeros-bytes}
+use Rattle.marks.proofs.Claims.{same-row}
+use Rattle.steps.specs.Steps.{Placement, Action, places, finishes, fails, Tally, nothing-yet, accepted, decision, verdict}
+use Rattle.steps.specs.Sites as sites
+use Rattle.steps.specs.Sites.{Loaded, Room, Stated, Owed-at}
+use Rattle.steps.specs.Packed.{load-packed}
+use Rattle.steps.specs.Join as join
+use Rattle.steps.specs.Join.{Ends, None-ends, Has-end, state-after, together}
+use Rattle.steps.proofs.Sites as sites-proved
+use Rattle.steps.proofs.Sites.{judged}
+use Rattle.steps.specs.Source as source
+use Rattle.steps.proofs.Cut as general
+use Rattle.steps.proofs.Join.{after-verdict}
+use Rattle.steps.proofs.Joined as general-joined
+use Rattle.window.specs.Window.{within, unfit, one-window}
+use Rattle.window.specs.Claims.{Window}
+use Rattle.window.proofs.Tests.{no-window}
+use Rattle.window.proofs.Storing.{shows}
+use Rattle.loader.specs.Placing.{Base, base-behind, placed, does, act, intel, intel-by}
+use Rattle.loader.specs.Load.{room-of, steps-of, placements, stopping, load}
+use Rattle.loader.specs.Claims.{said-record}
+use Rattle.loader.specs.Joined.{before-end, reset, joined, May-be-joined, End-record, Before-end-made-so, Before-end-only-so, Accepted-has-end, Answer-by-lengths, Joined-accepted, Joined-refused, Joined-states, Upon, One-upon-another, Seen, from-B, from-A, as-before, What-a-panel-sees, Either-grouping, Nothing-stated, end-record, End-alone, Examples}
+use Rattle.loader.proofs.Demand3.{load-answer, fit-stopping, plain, as-plain, plain-sizes, row, mark-of, fit-window, what-is-stored, sizes-kept}
+
+-- ---- what ends a text
+
+only-one : (a : Action) → List·Memᴰ finishes (a ∷ []) → finishes ≡ a
+only-one a m = go (List·Memᴰ·cases-cons m)
+  where
+    go : (finishes ≡ a) ⊎ List·Memᴰ finishes [] → finishes ≡ a
+    go (inl e) = e
+    go (inr n) = absurd (List·Memᴰ·not-nil n)
+
+-- only an end record does, and it does nothing else
+ends-so : (base : Base) (m : Meaning) → List·Memᴰ finishes (does base m) → m ≡ end-of-file
+unfolding does
+ends-so base (data-at offset bytes) e = let q = only-one (places (placed base offset 0 bytes)) e in let z : _≡_ {A = ℕ} 0 1 = cc in absurd (omega arith)
+ends-so base end-of-file e = refl
+ends-so base (extended-segment x) e = absurd (List·Memᴰ·not-nil e)
+ends-so base (start-segment cs ip) e = absurd (List·Memᴰ·not-nil e)
+ends-so base (extended-linear x) e = absurd (List·Memᴰ·not-nil e)
+ends-so base (start-linear x) e = absurd (List·Memᴰ·not-nil e)
+
+said-end : (base : Base) (said : Said) → List·Memᴰ finishes (act base said) → said-record said ≡ some end-of-file
+unfolding act said-record
+said-end base (says kind address payload) e = ap (λ (m : Meaning). some m) (ends-so base (meaning kind address payload) e)
+said-end base (wrong r) e = let q = only-one (fails r) e in let z : _≡_ {A = ℕ} 0 1 = cc in absurd (omega arith)
+
+end-said : (base : Base) (said : Said) → said-record said ≡ some end-of-file → act base said ≡ finishes ∷ []
+unfolding act said-record does
+end-said base (says kind address payload) e = let m : meaning kind address payload ≡ end-of-file = cc in rw m
+end-said base (wrong r) e = let z : _≡_ {A = ℕ} 0 1 = cc in absurd (omega arith)
+
+pub may-be-joined : May-be-joined
+unfolding intel-by act does base-behind judge meaning number-after lines
+may-be-joined =
+    record {
+      has-a-byte = λ e. let z : _≡_ {A = ℕ} 0 1 = cc in omega arith;
+      one-line = λ text. refl;
+      silent = λ base. refl;
+      back = λ base. refl;
+      plain-end = λ base line e. end-said base (judge line) (said-end base (judge line) e);
+    }
+
+-- ---- lines that are end records, whatever the base
+
+empty-is-none : ¬ End-record []
+unfolding judge said-record
+empty-is-none e = let z : _≡_ {A = ℕ} 0 1 = cc in omega arith
+
+is-record : (base : Base) (line : List ℕ) → Ends intel base line → End-record line
+unfolding intel-by
+is-record base [] e = absurd e
+is-record base (c ∷ line) e = said-end base (judge (c ∷ line)) e
+
+record-is : (base : Base) (line : List ℕ) → End-record line → Ends intel base line
+unfolding intel-by
+record-is base [] e = absurd (empty-is-none e)
+record-is base (c ∷ line) e = rw (end-said base (judge (c ∷ line)) e) (List·Memᴰ·head refl)
+
+to-records : (base : Base) (ls : List (List ℕ)) → None-ends intel base ls → Every (λ (line : List ℕ). ¬ End-record line) ls
+to-records base [] h = tt
+to-records base ([] ∷ ls) h = (empty-is-none, to-records base ls h)
+to-records base ((c ∷ l) ∷ ls) (x, h) = (λ e. x (record-is base (c ∷ l) e), to-records _ ls h)
+
+from-records : (base : Base) (ls : List (List ℕ)) → Every (λ (line : List ℕ). ¬ End-record line) ls → None-ends intel base ls
+from-records base [] h = tt
+from-records base ([] ∷ ls) (x, h) = from-records base ls h
+from-records base ((c ∷ l) ∷ ls) (x, h) = (λ e. x (is-record base (c ∷ l) e), from-records _ ls h)
+
+-- where a list has an element
+parted : (x : List ℕ) (xs : List (List ℕ)) → List·Memᴰ x xs → (before : List (List ℕ)) × (later : List (List ℕ)) × (xs ≡ before ++ (x ∷ later))
+parted x [] m = absurd (List·Memᴰ·not-nil m)
+parted x (y ∷ xs) m = go (List·Memᴰ·cases-cons m) (parted x xs)
+  where
+    go : (x ≡ y) ⊎ List·Memᴰ x xs → (List·Memᴰ x xs → (before : List (List ℕ)) × (later : List (List ℕ)) × (xs ≡ before ++ (x ∷ later)))
+        → (before : List (List ℕ)) × (later : List (List ℕ)) × (y ∷ xs ≡ before ++ (x ∷ later))
+    go (inl e) h = ([], xs, ap (λ (z : List ℕ). z ∷ xs) (sym e))
+    go (inr n) h = let (before, later, e) = h n in (y ∷ before, later, ap (λ (l : List (List ℕ)). y ∷ l) e)
+
+pub before-end-made-so : Before-end-made-so
+before-end-made-so text line m e =
+    let (before, later, whole) = parted line (lines text) m in
+    let h : Has-end intel text = record { before = before; line = line; later = later; whole = whole; is-end = record-is (state-after intel (intel .beginning) before) line e } in
+    let b = general.before-end-made-so _ intel text h in
+    record {
+      rest = b .rest;
+      whole = b .whole;
+      whole-lines = b .whole-lines;
+      none-before = to-records (intel .beginning) (lines (before-end text)) (b .none-ends);
+      line = b .line;
+      later = b .later;
+      next = b .next;
+      is-end = is-record (state-after intel (intel .beginning) (lines (before-end text))) (b .line) (b .is-end);
+    }
+
+pub before-end-only-so : Before-end-only-so
+before-end-only-so text before b =
+    general.before-end-only-so _ intel text before (record {
+      rest = b .rest;
+      whole = b .whole;
+      whole-lines = b .whole-lines;
+      none-ends = from-records (intel .beginning) (lines before) (b .none-before);
+      line = b .line;
+      later = b .later;
+      next = b .next;
+      is-end = record-is (state-after intel (intel .beginning) (lines before)) (b .line) (b .is-end);
+    })
+
+-- ---- answers
+
+-- an accepted text has an end
+has-end : (text : List ℕ) (first : ℕ) (page marks : List ℕ) (k : Tally) → (load text first page marks) .answer ≡ accepted k → Has-end intel text
+has-end text first page marks k e =
+    general-joined.accepted-has-end _ intel (room-of first page marks) text page (flags (length page) marks) k (sym (as-plain text first page marks .answers) ∙ e)
+
+pub accepted-has-end : Accepted-has-end
+accepted-has-end text first page marks k e =
+    let h = has-end text first page marks k e in
+    (h .line, rw (h .whole) (Memᴰ·append-right (h .before) (List·Memᴰ·head refl)), is-record (state-after intel (intel .beginning) (h .before)) (h .line) (h .is-end))
+
+pub answer-by-lengths : Answer-by-lengths
+unfolding load load-packed
+answer-by-lengths text first page marks page′ marks′ lp lm =
+    plain-answer (room-of first page marks) page (flags (length page) marks)
+    ∙ ap₂ (λ (p m : ℕ). judged (one-window first p m) (source.steps-of intel text)) lp lm
+    ∙ sym (plain-answer (room-of first page′ marks′) page′ (flags (length page′) marks′))
+  where
+    plain-answer : (room : Room) (page marks : List ℕ) → (sites.load intel room text page marks) .answer ≡ judged room (source.steps-of intel text)
+    plain-answer room page marks = sites-proved.load-answer intel room text page marks
+
+pub joined-accepted : Joined-accepted
+unfolding load load-packed join.joined
+joined-accepted first a b page marks ta tj =
+    general-joined.joined-accepted _ intel reset may-be-joined (room-of first page marks) a b page (flags (length page) marks) ta tj
+
+-- the answer to the joined text, from B's
+pub joined-answer : (first : ℕ) (a b page marks : List ℕ) (ta : Tally) → (load a first page marks) .answer ≡ accepted ta
+    → (load (joined a b) first page marks) .answer ≡ after-verdict (suc (length (lines (before-end a)))) ta ((load b first page marks) .answer)
+unfolding load load-packed join.joined
+joined-answer first a b page marks ta e =
+    rw (← general.lines-ahead-counts _ intel a (has-end a first page marks ta e))
+    (general-joined.joined-answer _ intel reset may-be-joined (room-of first page marks) a b page (flags (length page) marks) ta e)
+
+pub joined-refused : Joined-refused
+joined-refused first a b page marks ta r line ea eb =
+    joined-answer first a b page marks ta ea ∙ ap (after-verdict (suc (length (lines (before-end a)))) ta) eb
+
+pub joined-states : Joined-states
+unfolding load load-packed placements steps-of join.joined
+joined-states first a b page marks ta e =
+    general-joined.joined-states _ intel reset may-be-joined (room-of first page marks) a b page (flags (length page) marks) ta e
+
+pub either-grouping : Either-grouping
+unfolding join.joined
+either-grouping a b c first page marks ta first′ page′ marks′ tb ea eb =
+    general-joined.either-grouping _ intel reset may-be-joined a b c (has-end a first page marks ta ea) (has-end b first′ page′ marks′ tb eb)
+
+-- ---- page and marks
+
+module _ (first : ℕ) (a b page ma mb mj : List ℕ) (ta tb : Tally) (lm : length mj ≡ length ma)
+    (ea : (load a first page ma) .answer ≡ accepted ta) (eb : (load b first ((load a first page ma) .page) mb) .answer ≡ accepted tb) where
+  abbrev la : Loaded
+  la = load a first page ma
+
+  abbrev lb : Loaded
+  lb = load b first ((load a first page ma) .page) mb
+
+  abbrev lj : Loaded
+  lj = load (joined a b) first page mj
+
+  -- all three have one length of page and one of marks
+  pages-same : length (la .page) ≡ length page
+  pages-same = sizes-kept a first page ma .0
+
+  rows-same : length mb ≡ length mj
+  rows-same = fit-window b first (la .page) mb tb eb .row ∙ ap row-length pages-same ∙ sym (fit-window a first page ma ta ea .row) ∙ sym lm
+
+  accepted-both : lj .answer ≡ accepted (together ta tb)
+  accepted-both =
+      joined-accepted first a b page mj ta (together ta tb) (answer-by-lengths a first page mj page ma refl lm ∙ ea)
+      .1 (tb, answer-by-lengths b first page mj (la .page) mb (sym pages-same) (sym rows-same) ∙ eb, refl)
+
+  -- the loads with their marks unpacked, in one room
+  plain-a : sites.load intel (room-of first page mj) a page (flags (length page) ma) ≡ plain a first page ma
+  plain-a = ap (λ (n : ℕ). sites.load intel (one-window first (length page) n) a page (flags (length page) ma)) lm
+
+  plain-page : (sites.load intel (room-of first page mj) a page (flags (length page) ma)) .page ≡ la .page
+  plain-page = ap (λ (l : Loaded). l .page) plain-a ∙ sym (as-plain a first page ma .pages)
+
+  plain-b : sites.load intel (room-of first page mj) b ((sites.load intel (room-of first page mj) a page (flags (length page) ma)) .page) (flags (length page) mb)
+      ≡ plain b first (la .page) mb
+  plain-b =
+      ap (λ (p : List ℕ). sites.load intel (room-of first page mj) b p (flags (length page) mb)) plain-page
+      ∙ ap₂ (λ (m n : ℕ). sites.load intel (one-window first m n) b (la .page) (flags m mb)) (sym pages-same) (sym rows-same)
+
+  upon : join.Upon (room-of first page mj .site) (length (flags (length page) mj)) (plain a first page ma) (plain b first (la .page) mb) (plain (joined a b) first page mj)
+  unfolding join.joined
+  upon =
+      subst₂ (λ (x y : Loaded). join.Upon (room-of first page mj .site) (length (flags (length page) mj)) x y (plain (joined a b) first page mj)) plain-a plain-b
+      (general-joined.one-upon-another _ intel reset may-be-joined (room-of first page mj) a b page (flags (length page) ma) (flags (length page) mb) (flags (length page) mj) ta tb
+      (flags-length (length page) ma ∙ sym (flags-length (length page) mj)) (flags-length (length page) mb ∙ sym (flags-length (length page) mj))
+      (ap (λ (l : Loaded). l .answer) plain-a ∙ sym (as-plain a first page ma .answers) ∙ ea)
+      (ap (λ (l : Loaded). l .answer) plain-b ∙ sym (as-plain b first (la .page) mb .answers) ∙ eb))
+
+  shown : (p : ℕ) → p < length page → room-of first page mj .site p ≡ some (first + p)
+  unfolding one-window
+  shown p h = shows first (length page) p h
+
+  union : (p : ℕ) → mark-at (lj .marks) p ≡ max (mark-at (la .marks) p) (mark-at (lb .marks) p)
+  union p = split (length page) p
+      (λ beyond. rw (
+        row (joined a b) first page mj (together ta tb) accepted-both .unused p (omega (arith, plain-sizes (joined a b) first page mj .1)),
+        row a first page ma ta ea .unused p (omega (arith, plain-sizes a first page ma .1)),
+        row b first (la .page) mb tb eb .unused p (omega (arith, plain-sizes b first (la .page) mb .1, pages-same)),
+      ))
+      (λ below.
+      mark-of (joined a b) first page mj (together ta tb) accepted-both p below
+      ∙ upon .marks p (omega (arith, flags-length (length page) mj)) (first + p, shown p below)
+      ∙ sym (ap₂ max (mark-of a first page ma ta ea p below) (mark-of b first (la .page) mb tb eb p (omega (arith, pages-same)))))
+
+  upon-another : (lj .answer ≡ accepted (together ta tb)) × Upon la lb lj
+  upon-another =
+      (accepted-both, record { pages = as-plain (joined a b) first page mj .pages ∙ upon .pages ∙ sym (as-plain b first (la .page) mb .pages); marks = union })
+
+pub one-upon-another : One-upon-another
+one-upon-another first a b page ma mb mj ta tb lm ea eb = upon-another first a b page ma mb mj ta tb lm ea eb
+
+-- ---- what a panel sees
+
+see : {ps qs : List Placement} {address old mark-a mark-b byte-a byte : ℕ} → Owed-at ps address old mark-a byte-a → Owed-at qs address byte-a mark-b byte → Seen ps qs address old byte
+see {ps} {qs} {address} {old} {mark-a} {mark-b} {byte-a} {byte} x y = by (x .one-or-zero) (y .one-or-zero)
+  where
+    not-stated : {rs : List Placement} {o m c : ℕ} → Owed-at rs address o m c → m ≡ 0 → ¬ Stated address rs
+    not-stated w e s = let one = w .marked-iff-stated .1 s in omega arith
+
+    by : (mark-a ≡ 1) ⊎ (mark-a ≡ 0) → (mark-b ≡ 1) ⊎ (mark-b ≡ 0) → Seen ps qs address old byte
+    by p (inl q) = from-B byte (y .marked-holds q)
+    by (inl p) (inr q) = rw (y .unmarked-keeps q) (from-A byte-a (not-stated y q) (x .marked-holds p))
+    by (inr p) (inr q) = rw (y .unmarked-keeps q, x .unmarked-keeps p) (as-before (not-stated y q) (not-stated x p))
+
+pub what-a-panel-sees : What-a-panel-sees
+what-a-panel-sees first a b page ma mb mj ta tb lm ea eb i h =
+    let pa = (load a first page ma) .page in
+    let seen = see (what-is-stored a first page ma ta ea i h) (what-is-stored b first pa mb tb eb i (omega (arith, sizes-kept a first page ma .0))) in
+    (seen, rw (one-upon-another first a b page ma mb mj ta tb lm ea eb .1 .pages) seen)
+
+-- ---- nothing stated
+
+pub nothing-stated : Nothing-stated
+unfolding placements steps-of one-window
+nothing-stated text first page marks k e s =
+    let p = as-plain text first page marks in
+    let l = load text first page marks in
+    let (kept, zero) = general-joined.nothing-stated _ intel (room-of first page marks) text page (flags (length page) marks) k (sym (p .answers) ∙ e) s in
+    let size = length-replicate {A = ℕ} (length marks) 0 in (
+      p .pages ∙ kept,
+      same-row (l .marks) (replicate (length marks) 0) (row text first page marks k e .bytes) (zeros-bytes (length marks)) (sizes-kept text first page marks .1 ∙ sym size)
+          (λ i h. split (length page) i
+          (λ beyond. row text first page marks k e .unused i (omega (arith, plain-sizes text first page marks .1)))
+          (λ below. mark-of text first page marks k e i below
+          ∙ zero i (omega (arith, flags-length (length page) marks)) (first + i, shows first (length page) i below))
+          ∙ sym (zeros-none (length marks) i)),
+    )
+
+-- a text that is accepted with no data record wherever the window is fit, and states nothing
+alone : (text : List ℕ) → ((inside : ℕ → Bool) → verdict (decision inside nothing-yet (steps-of text)) ≡ accepted (record { records = 0 })) → placements text ≡ []
+    → (first : ℕ) (page marks : List ℕ) → Window first page marks
+    → load text first page marks ≡ record { answer = accepted (record { records = 0 }); page = page; marks = replicate (length marks) 0 }
+unfolding sites.stopping-by stopping
+alone text d s first page marks w = go (unfit first (length page) (length marks)) refl
+  where
+    go : (b : Bool) → unfit first (length page) (length marks) ≡ b → load text first page marks ≡ record { answer = accepted (record { records = 0 }); page = page; marks = replicate (length marks) 0 }
+    go true e = absurd (no-window first page marks e w)
+    go false e =
+        let answer = load-answer text first page marks ∙ ap verdict (fit-stopping first page marks (steps-of text) e) ∙ d (within first (length page)) in
+        let (p, m) = nothing-stated text first page marks (record { records = 0 }) answer s in
+        λ i. record { answer = answer i; page = p i; marks = m i }
+
+pub end-alone : End-alone
+unfolding steps-of source.steps-of placements intel-by judge meaning number-after decision verdict
+end-alone first page marks w = (alone end-record (λ inside. refl) refl first page marks w, alone (end-record ++ (LF ∷ [])) (λ inside. refl) refl first page marks w)
+
+-- ---- examples
+
+pub examples : Examples
+unfolding load placements intel-by judge meaning number-after join.joined
+examples = record { ends-by-the-judge = refl; text-is = refl; one-load = refl; the-first = refl; the-second = refl; later-line = refl; no-line = refl; with-the-line = refl; without-it = refl; in-a-segment = refl; under-type-04 = refl }
