@@ -1,6 +1,6 @@
 -- Parts of rows. The code takes a part from a place to another, or to the row's end.
 -- Assumes nothing.
-use Prim.Native.Nat.{ℕ, _+_, _-_, _≤_}
+use Prim.Native.Nat.{ℕ, zero, suc, _+_, _-_, _≤_}
 use mathlib.Core.Path.{_≡_, refl, sym, _∙_, ap, ap₂}
 use mathlib.Core.List.{List, [], _∷_, _++_, append-assoc, append-nil}
 use native.Mathlib.Omega.{arith}
@@ -48,3 +48,18 @@ every-front P (a ∷ front) after (h, hs) = (h, every-front P front after hs)
 pub every-after : (P : ℕ → Type 0) (front after : List ℕ) → Every P (front ++ after) → Every P after
 every-after P [] after h = h
 every-after P (a ∷ front) after (h, hs) = every-after P front after hs
+
+pub every-both : (P : ℕ → Type 0) (front after : List ℕ) → Every P front → Every P after → Every P (front ++ after)
+every-both P [] after h k = k
+every-both P (a ∷ front) after (h, hs) k = (h, every-both P front after hs k)
+
+-- and so of each that is taken, and of each that is left
+pub every-take : (P : ℕ → Type 0) (n : ℕ) (l : List ℕ) → Every P l → Every P (take n l)
+every-take P zero l h = tt
+every-take P (suc n) [] h = tt
+every-take P (suc n) (x ∷ l) (h, hs) = (h, every-take P n l hs)
+
+pub every-drop : (P : ℕ → Type 0) (n : ℕ) (l : List ℕ) → Every P l → Every P (drop n l)
+every-drop P zero l h = h
+every-drop P (suc n) [] h = tt
+every-drop P (suc n) (x ∷ l) (h, hs) = every-drop P n l hs

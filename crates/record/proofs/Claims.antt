@@ -22,7 +22,7 @@ pub record-type-unique : Record-type-unique
 record-type-unique x r r′ a b = a .answer ∙ sym (b .answer)
 
 pub one-offender : One-offender
-one-offender line p q f g = same-place line p q f g
+one-offender line p q f g = same-place 58 line p q f g
 
 -- of the faults only `no-digit` has the number 2
 named-by : {line : List ℕ} {r : Refusal} → Fault line r → number-of r ≡ 2 → (place : ℕ) × First-offender line place × (r ≡ contains-invalid-characters (named place))

@@ -109,7 +109,7 @@ offends-there : (before : List ℕ) (d : ℕ) (after : List ℕ) → Every Is-he
     → First-offender (58 ∷ (before ++ (d ∷ after))) (suc (length before))
 offends-there before d after h n =
     record {
-      colon = refl;
+      starts = refl;
       behind = omega arith;
       inside = omega (arith, length-append before (d ∷ after));
       offends = λ x. n (subst Is-hex (getD-append-seam before d after 0) x);

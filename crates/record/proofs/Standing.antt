@@ -83,7 +83,7 @@ stands-digits ds =
     let s = digits-spell ds d even in
     let n : length ds ≡ 2 * length (bytes ds) = spells-length s in
     stands-bytes ds (bytes ds) s (omega arith) (omega arith)))))
-    (λ d. no-digit (suc (leading ds)) (first-offender ds d))
+    (λ d. no-digit (suc (leading ds)) (first-offender 58 ds d))
 
 pub stands : (line : List ℕ) → Stands line (judge line)
 unfolding judge
@@ -138,7 +138,7 @@ judge-invalid ds e = judge-colon ds ∙ rw e
 pub refused : {line : List ℕ} {r : Refusal} → Fault line r → judge line ≡ wrong r
 unfolding judge-digits
 refused {line} (no-colon h) = without-colon line h
-refused {line} (no-digit place f) = let o = offended line place f in ap judge (o .starts) ∙ judge-invalid (o .digits) (o .bad) ∙ ap (λ (p : ℕ). wrong (contains-invalid-characters (named p))) (sym (o .counts))
+refused {line} (no-digit place f) = let o = offended 58 line place f in ap judge (o .starts) ∙ judge-invalid (o .digits) (o .bad) ∙ ap (λ (p : ℕ). wrong (contains-invalid-characters (named p))) (sym (o .counts))
 refused (short ds e d h) = ap judge e ∙ judge-colon ds ∙ rw (hex-every ds d, lt-ltb (length ds) 10 h)
 refused (long ds e d h) =
     ap judge e ∙ judge-colon ds ∙ rw (hex-every ds d, le-ltb (length ds) 10 (omega arith), lt-ltb 520 (length ds) h)

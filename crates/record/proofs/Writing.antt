@@ -18,7 +18,7 @@ use Rattle.record.specs.Written.{body, written, kind-of, address-of, pay
 use Rattle.digits.specs.Spelling.{spelt, Capital}
 use Rattle.record.specs.Claims.{Written-in-format, Written-in-capitals, Only-in-capitals, Reads-back, Said-is-sayable}
 use Rattle.digits.proofs.Spelt.{spelt-spells, spelt-length, spelt-capitals, spelt-only, spelt-plain}
-use Rattle.digits.proofs.Parts.{none-left, every-front}
+use Rattle.digits.proofs.Parts.{none-left, every-front, every-both}
 use Rattle.digits.proofs.Hex.{last-small, spells-small}
 use Rattle.record.proofs.Judging.{resize, size-fits, check-sums, sums-check}
 use Rattle.record.proofs.Standing.{Stands, stands, admitted}
@@ -39,17 +39,13 @@ module _ (kind address : ℕ) (payload : List ℕ) where
       let n = length-append b (negated-sum b ∷ []) in
       omega arith
 
-every-snoc : (bs : List ℕ) (c : ℕ) → Every Byte bs → Byte c → Every Byte (bs ++ (c ∷ []))
-every-snoc [] c h k = (k, tt)
-every-snoc (b ∷ bs) c (h, hs) k = (h, every-snoc bs c hs k)
-
 -- all of it are bytes, the checksum too
 body-bytes : (kind address : ℕ) (payload : List ℕ) → Writable kind address payload
     → let b = body kind address payload in Every Byte (b ++ (negated-sum b ∷ []))
 body-bytes kind address payload w =
     let k = size-fits (w .sized) in
     let b : List ℕ = body kind address payload in
-    every-snoc b (negated-sum b) (omega (arith, w .most), (omega (arith, w .address-small), (omega arith, (omega arith, w .payload-bytes)))) (negated-small b)
+    every-both Byte b (negated-sum b ∷ []) (omega (arith, w .most), (omega (arith, w .address-small), (omega arith, (omega arith, w .payload-bytes)))) (negated-small b, tt)
 
 pub written-in-format : Written-in-format
 unfolding written
@@ -153,7 +149,7 @@ fields-again address payload (type-05 e z) h = rw e (refl, refl, again-four payl
 
 -- ---- what is said is sayable
 
-two-small : (p : List ℕ) → length p ≡ 2 → Every Byte p → big-endian p < 65536
+pub two-small : (p : List ℕ) → length p ≡ 2 → Every Byte p → big-endian p < 65536
 unfolding number-after
 two-small [] n h = absurd (omega arith)
 two-small (a ∷ []) n h = absurd (omega arith)
@@ -161,7 +157,7 @@ two-small (a ∷ b ∷ []) n (h, (k, u)) = omega arith
 two-small (a ∷ b ∷ c ∷ p) n h = absurd (omega arith)
 
 -- four bytes, as two numbers of two and as one
-four-small : (p : List ℕ) → length p ≡ 4 → Every Byte p → (big-endian (take 2 p) < 65536) × (big-endian (drop 2 p) < 65536) × (big-endian p < 4294967296)
+pub four-small : (p : List ℕ) → length p ≡ 4 → Every Byte p → (big-endian (take 2 p) < 65536) × (big-endian (drop 2 p) < 65536) × (big-endian p < 4294967296)
 unfolding number-after
 four-small [] n h = absurd (omega arith)
 four-small (a ∷ []) n h = absurd (omega arith)

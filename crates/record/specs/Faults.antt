@@ -12,13 +12,17 @@ use Rattle.record.specs.Refusals.{Refusal, missing-start-code, contains-
 use Rattle.digits.specs.Reading.{named}
 use Rattle.record.specs.Format.{Size, layout}
 
--- the place of the first character behind a colon that is no digit, the colon's being 0: the least such place
-pub record First-offender (line : List ℕ) (place : ℕ) : Type 0 where
-  pub colon : getD line 0 0 ≡ 58
+-- the place of the first character after a start character that is not a digit, the start's being 0: the least such place
+pub record First-offender-after (start : ℕ) (line : List ℕ) (place : ℕ) : Type 0 where
+  pub starts : getD line 0 0 ≡ start
   pub behind : 0 < place
   pub inside : place < length line
   pub offends : ¬ Is-hex (getD line place 0)
   pub least : (i : ℕ) → 0 < i → i < length line → ¬ Is-hex (getD line i 0) → place ≤ i
+
+-- the same after a colon
+abbrev pub First-offender : (line : List ℕ) (place : ℕ) → Type 0
+First-offender line place = First-offender-after 58 line place
 
 -- the line is a colon and digits that spell these bytes, which sum to zero: what stands before refusals 7 to 9
 pub record Sums-up (line bytes : List ℕ) : Type 0 where

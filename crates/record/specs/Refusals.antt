@@ -75,3 +75,13 @@ carry-too-small = refusal 18 []
 
 abbrev pub bad-mark : (place : ℕ) → Refusal
 bad-mark place = refusal 19 (place ∷ [])
+
+-- of a load of S-records, beside those above
+
+abbrev pub count-mismatch : (stated seen : ℕ) → Refusal
+count-mismatch stated seen = refusal 20 (stated ∷ seen ∷ [])
+
+-- of an S-record to be written, beside 9, 11, 12 and 15
+
+abbrev pub address-too-wide : Refusal
+address-too-wide = refusal 25 []

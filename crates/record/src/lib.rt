@@ -70,6 +70,10 @@ pub mod refusals {
     pub const CARRY_TOO_SMALL: u8 = 18;
 
     pub const BAD_MARK: u8 = 19;
+
+    pub const COUNT_MISMATCH: u8 = 20;
+
+    pub const ADDRESS_TOO_WIDE: u8 = 25;
 }
 
 // The characters that a text has a meaning for, beside digits.

@@ -11,12 +11,8 @@ use borrow.Author.Tests.{le-leb, lt-leb}
 use Rattle.digits.specs.Common.{pasted}
 use Rattle.record.specs.Refusals.{Refusal, output-full}
 use Rattle.digits.proofs.Tests.{split}
-use Rattle.writer.specs.declared.WriterError.{WriterError}
-use Rattle.writer.specs.declared.WriterError.the-variants.{OutputFull}
-use Rattle.writer.specs.declared.Written.{Written}
-use Rattle.writer.specs.declared.Written.the-variants.{Wrote, Refused}
-use Rattle.writer.specs.Told.{wrote, refuses, writer-refusal, told-written}
-use Rattle.writer.specs.Text.{Text, chars, refused, unless, place-behind, Writes}
+use Rattle.writer.specs.Told.{Told-written, wrote, refuses, writer-refusal}
+use Rattle.writer.specs.Text.{Text, chars, refused, unless, place-behind, Leaves}
 use Rattle.writer.specs.Claims.{Refusal-changes-nothing, Rest-untouched}
 use Rattle.digits.proofs.Pasting.{pasted-before, pasted-behind}
 
@@ -26,45 +22,49 @@ there none cs n e = let z : n ≡ 0 + length cs = cc in (refl, omega arith)
 there (some r) cs n e = let z : _≡_ {A = ℕ} 0 1 = cc in absurd (omega arith)
 
 -- or it is refused, and so is the text that stands for it at any place
-pub not-there : (f : Option Refusal) (cs ds out : List ℕ) (at : ℕ) (e : WriterError) → refuses (writer-refusal e) ≡ place-behind (unless f cs) 0
-    → Writes (unless f ds) out at (Refused e) out
-not-there none cs ds out at e q = let z : _≡_ {A = ℕ} 0 1 = cc in absurd (omega arith)
-not-there (some r) cs ds out at e q = record { answer = q; left = refl }
+pub not-there : (f : Option Refusal) (cs ds out : List ℕ) (at : ℕ) (r : Refusal) → refuses r ≡ place-behind (unless f cs) 0
+    → Leaves (unless f ds) out at (refuses r) out
+not-there none cs ds out at r q = let z : _≡_ {A = ℕ} 0 1 = cc in absurd (omega arith)
+not-there (some f) cs ds out at r q = record { answer = q; left = refl }
 
 module _ (f : Option Refusal) (cs out : List ℕ) (at : ℕ) (t : f ≡ none) where
-  pub full : length out < at + length cs → Writes (unless f cs) out at (Refused OutputFull) out
+  pub full : length out < at + length cs → Leaves (unless f cs) out at (refuses output-full) out
   full h = rw t (record { answer = rw (lt-leb (at + length cs) (length out) h); left = rw (lt-leb (at + length cs) (length out) h) })
 
-  pub written-there : (n : ℕ) (out′ : List ℕ) → at + length cs ≤ length out → n ≡ at + length cs → out′ ≡ pasted out at cs → Writes (unless f cs) out at (Wrote n) out′
+  pub written-there : (n : ℕ) (out′ : List ℕ) → at + length cs ≤ length out → n ≡ at + length cs → out′ ≡ pasted out at cs → Leaves (unless f cs) out at (wrote n) out′
   written-there n out′ h e p =
       rw t (record { answer = rw (le-leb (at + length cs) (length out) h) (ap wrote e); left = rw (le-leb (at + length cs) (length out) h) p })
 
 -- ---- the output
 
 -- a text that may fit: if it does, it is pasted, and if not, all is as it was
-module _ (cs out : List ℕ) (at : ℕ) (r : Written) (out′ : List ℕ) (w : Writes (chars cs) out at r out′) where
-  either : {X : Type 0} → (at + length cs ≤ length out → told-written r ≡ wrote (at + length cs) → out′ ≡ pasted out at cs → X) → (told-written r ≡ refuses output-full → out′ ≡ out → X) → X
+module _ (cs out : List ℕ) (at : ℕ) (t : Told-written) (out′ : List ℕ) (w : Leaves (chars cs) out at t out′) where
+  either : {X : Type 0} → (at + length cs ≤ length out → t ≡ wrote (at + length cs) → out′ ≡ pasted out at cs → X) → (t ≡ refuses output-full → out′ ≡ out → X) → X
   either f g =
       split (at + length cs) (length out)
       (λ h. let e = le-leb (at + length cs) (length out) h in f h (rw e at (w .answer)) (rw e at (w .left)))
       (λ h. let e = lt-leb (at + length cs) (length out) h in g (rw e at (w .answer)) (rw e at (w .left)))
 
+-- a refusal changes nothing
+pub unchanged : (t : Text) (out : List ℕ) (at : ℕ) (r : Refusal) (out′ : List ℕ) → Leaves t out at (refuses r) out′ → out′ ≡ out
+unchanged (chars cs) out at r out′ w =
+    either cs out at (refuses r) out′ w (λ h a l. let z : _≡_ {A = ℕ} 0 1 = cc in absurd (omega arith)) (λ a l. l)
+unchanged (refused f) out at r out′ w = w .left
+
 pub refusal-changes-nothing : Refusal-changes-nothing
-refusal-changes-nothing (chars cs) out at e out′ w =
-    either cs out at (Refused e) out′ w (λ h a l. let z : _≡_ {A = ℕ} 0 1 = cc in absurd (omega arith)) (λ a l. l)
-refusal-changes-nothing (refused r) out at e out′ w = w .left
+refusal-changes-nothing t out at e out′ w = unchanged t out at (writer-refusal e) out′ w
 
 pub rest-untouched : Rest-untouched
 rest-untouched (chars cs) out at n out′ w =
-    either cs out at (Wrote n) out′ w
+    either cs out at (wrote n) out′ w
     (λ h a l. let e : n ≡ at + length cs = cc in (ap (take at) l ∙ pasted-before out at cs h, ap (drop n) l ∙ rw e (pasted-behind out at cs h)))
     (λ a l. let z : _≡_ {A = ℕ} 0 1 = cc in absurd (omega arith))
 rest-untouched (refused r) out at n out′ w = let a = w .answer in let z : _≡_ {A = ℕ} 0 1 = cc in absurd (omega arith)
 
 -- a text that was written at the beginning is what stands there, and no longer than the output
-pub stands-there : (t : Text) (out : List ℕ) (n : ℕ) (out′ : List ℕ) → Writes t out 0 (Wrote n) out′ → (t ≡ chars (take n out′)) × (n ≤ length out)
+pub stands-there : (t : Text) (out : List ℕ) (n : ℕ) (out′ : List ℕ) → Leaves t out 0 (wrote n) out′ → (t ≡ chars (take n out′)) × (n ≤ length out)
 stands-there (chars cs) out n out′ w =
-    either cs out 0 (Wrote n) out′ w
+    either cs out 0 (wrote n) out′ w
     (λ h a l.
     let e : n ≡ 0 + length cs = cc in
     (ap chars (sym (ap (take n) l ∙ take-at cs (drop (0 + length cs) out) n (omega arith))), omega arith))

@@ -1,6 +1,6 @@
 -- The claims of `specs/Claims.antt` on one record and on an object's text, proved: from the laws of the format and of what is read back.
 -- Assumes nothing.
-use Prim.Native.Nat.{ℕ, zero, suc, _+_, _≤_}
+use Prim.Native.Nat.{ℕ, _+_, _≤_}
 use mathlib.Core.Path.{_≡_, refl, sym, _∙_, ap, ap₂}
 use mathlib.Core.Option.{none}
 use mathlib.Core.List.{List, [], _∷_, _++_, append-assoc, map}
@@ -14,7 +14,7 @@ use Rattle.record.specs.Record.{Inside, meant}
 use Rattle.record.specs.Meaning.{Meaning}
 use Rattle.record.specs.Line.{says, judge}
 use Rattle.record.specs.Written.{written, kind-of, address-of, payload-of, line-of, Sayable}
-use Rattle.digits.proofs.Parts.{every-front, part-length}
+use Rattle.digits.proofs.Parts.{every-front, every-take, every-drop, part-length}
 use Rattle.record.proofs.Writing.{written-in-format, written-in-capitals, only-in-capitals, written-plain, writable, reads-back, said-is-sayable, fields-again}
 use Rattle.record.proofs.Claims.{admits}
 use Rattle.digits.proofs.Hex.{spells-small}
@@ -27,22 +27,12 @@ use Rattle.writer.proofs.Objects.{unless-chars, object-whole}
 
 -- ---- one record
 
-every-drop : (n : ℕ) (l : List ℕ) → Every Byte l → Every Byte (drop n l)
-every-drop zero l h = h
-every-drop (suc n) [] h = tt
-every-drop (suc n) (x ∷ l) (h, hs) = every-drop n l hs
-
-every-take : (n : ℕ) (l : List ℕ) → Every Byte l → Every Byte (take n l)
-every-take zero l h = tt
-every-take (suc n) [] h = tt
-every-take (suc n) (x ∷ l) (h, hs) = (h, every-take n l hs)
-
 -- what has a line can be said in one
 pub sayable : (r : Record) (pool : List ℕ) → In-range r → Every Byte pool → line-refusal r (length pool) ≡ none → Sayable (meant r pool)
 sayable (Data offset at len) pool i b f =
     let p = fine-data offset at len (length pool) f in
     let n = part-length pool at len (p .0) in
-    (i, omega arith, every-take len (drop at pool) (every-drop at pool b))
+    (i, omega arith, every-take Byte len (drop at pool) (every-drop Byte at pool b))
 sayable EndOfFile pool i b f = tt
 sayable (ExtendedSegmentAddress a) pool i b f = i
 sayable (StartSegmentAddress cs ip) pool i b f = i

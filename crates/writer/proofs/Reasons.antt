@@ -40,7 +40,7 @@ module _ (Fault : Refusal → Type 0) (Long : ℕ → Type 0) (f : Option Refusa
   faultless : f ≡ none → (g : Refusal) → ¬ Fault g
   faultless e g h = let k = exact g .0 h in let z : _≡_ {A = ℕ} 0 1 = cc in absurd (omega arith)
 
-  reason : (cs : List ℕ) → (f ≡ none → Long (length cs)) → Why Fault Long at room (if-room (place-behind (unless f cs) at) room)
+  pub reason : (cs : List ℕ) → (f ≡ none → Long (length cs)) → Why Fault Long at room (if-room (place-behind (unless f cs) at) room)
   reason cs long = go f refl
     where
       go : (g : Option Refusal) → f ≡ g → Why Fault Long at room (if-room (place-behind (unless g cs) at) room)
@@ -49,7 +49,7 @@ module _ (Fault : Refusal → Type 0) (Long : ℕ → Type 0) (f : Option Refusa
           (λ b. no-room (length cs) (faultless e) (long e) (leb-false (at + length cs) room b))
       go (some g) e = faulty g (exact g .1 e)
 
-  one-answer : ((n m : ℕ) → Long n → Long m → n ≡ m) → (t t′ : Told-written) → Why Fault Long at room t → Why Fault Long at room t′ → t ≡ t′
+  pub one-answer : ((n m : ℕ) → Long n → Long m → n ≡ m) → (t t′ : Told-written) → Why Fault Long at room t → Why Fault Long at room t′ → t ≡ t′
   one-answer one _ _ (faulty g h) (faulty g′ h′) = let k : some g ≡ some g′ = sym (exact g .0 h) ∙ exact g′ .0 h′ in cc
   one-answer one _ _ (faulty g h) (no-room n s l r) = absurd (s g h)
   one-answer one _ _ (faulty g h) (written n s l r) = absurd (s g h)

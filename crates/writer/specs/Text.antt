@@ -35,7 +35,11 @@ abbrev pub put-at : Text → (out : List ℕ) (at : ℕ) → List ℕ
 put-at (chars cs) out at = if leb (at + length cs) (length out) then pasted out at cs else out
 put-at (refused r) out at = out
 
--- what a writer of a text answers, and leaves in the output
-pub record Writes (text : Text) (out : List ℕ) (at : ℕ) (r : Written) (out′ : List ℕ) : Type 0 where
-  pub answer : told-written r ≡ if-room (place-behind text at) (length out)
+-- what a writer of a text tells, and leaves in the output
+pub record Leaves (text : Text) (out : List ℕ) (at : ℕ) (t : Told-written) (out′ : List ℕ) : Type 0 where
+  pub answer : t ≡ if-room (place-behind text at) (length out)
   pub left : out′ ≡ put-at text out at
+
+-- the same of an answer
+abbrev pub Writes : (text : Text) (out : List ℕ) (at : ℕ) → Written → (out′ : List ℕ) → Type 0
+Writes text out at r out′ = Leaves text out at (told-written r) out′

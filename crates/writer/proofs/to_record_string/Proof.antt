@@ -5,7 +5,7 @@ use mathlib.Core.Path.{_≡_, sym, _∙_, ap}
 use mathlib.Core.Option.{none}
 use denote.Ref.{now}
 use lib.ListN.{length}
-use Rattle.writer.specs.Told.{told-written}
+use Rattle.writer.specs.Told.{writer-refusal, told-written}
 use Rattle.writer.specs.Line.{line-refusal, line}
 use Rattle.writer.proofs.Answers.{there, not-there, full, written-there}
 use borrow.Author.Needs.{needs}
@@ -33,7 +33,7 @@ put-record-requires c κs = let m = measured (c .before .before) in record { fin
 returns-2 : tie.Need-returns-2
 returns-2 c =
     let a = c .before .before .before .before .before .before .args in
-    not-there (line-refusal (a .«record») (length (now (a .pool)))) (line (a .«record») (now (a .pool))) (line (a .«record») (now (a .pool))) (now (a .out)) 0 (c .before .measured .given .0 .0)
+    not-there (line-refusal (a .«record») (length (now (a .pool)))) (line (a .«record») (now (a .pool))) (line (a .«record») (now (a .pool))) (now (a .out)) 0 (writer-refusal (c .before .measured .given .0 .0))
     (sym (ap told-written (c .before .measured .given .1)) ∙ c .before .before .before .measure .ensures)
 
 returns-3 : tie.Need-returns-3

@@ -5,7 +5,7 @@ use mathlib.Core.Path.{_≡_, sym, _∙_, ap}
 use mathlib.Core.Option.{none}
 use denote.Ref.{now}
 use lib.ListN.{length, set, length-append}
-use Rattle.writer.specs.Told.{told-written}
+use Rattle.writer.specs.Told.{writer-refusal, told-written}
 use Prim.Native.Nat.{_+_}
 use mathlib.Core.List.{[], _∷_}
 use Rattle.writer.specs.Line.{line-refusal, line, ended-line}
@@ -44,7 +44,7 @@ put-record-requires c κs = let m = measured (c .before .before .before) in reco
 returns-3 : tie.Need-returns-3
 returns-3 c =
     let a = c .before .before .before .before .before .before .args in
-    not-there (line-refusal (a .«record») (length (now (a .pool)))) (line (a .«record») (now (a .pool))) (ended-line (a .«record») (now (a .pool))) (now (a .out)) (a .at) (c .before .measured .given .0 .0)
+    not-there (line-refusal (a .«record») (length (now (a .pool)))) (line (a .«record») (now (a .pool))) (ended-line (a .«record») (now (a .pool))) (now (a .out)) (a .at) (writer-refusal (c .before .measured .given .0 .0))
     (sym (ap told-written (c .before .measured .given .1)) ∙ c .before .before .before .measure .ensures)
 
 returns-4 : tie.Need-returns-4
