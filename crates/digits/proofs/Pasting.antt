@@ -1,7 +1,7 @@
 -- Bytes pasted into a buffer, one row behind the other: the buffer is split where they stand.
 -- Assumes nothing.
 use Prim.Native.Nat.{ℕ, suc, _+_, _<_, _≤_}
-use mathlib.Core.Path.{_≡_, sym, _∙_, ap, ap₂}
+use mathlib.Core.Path.{_≡_, refl, sym, _∙_, ap, ap₂}
 use mathlib.Core.List.{List, [], _∷_, _++_, append-assoc, append-nil}
 use native.Mathlib.Omega.{arith}
 use native.Mathlib.Nat.{add-zero}
@@ -52,7 +52,14 @@ module _ (out : List ℕ) (at : ℕ) (xs : List ℕ) (room : at + length xs ≤ 
       → out₂ ≡ pasted out at (xs ++ ys)
   pasted-more ys place p e q = q ∙ ap (λ (l : List ℕ). pasted l place ys) p ∙ pasted-on ys place e
 
--- two stores, one behind the other
+  -- what was pasted is found again
+  pub pasted-part : take (length xs) (drop at (pasted out at xs)) ≡ xs
+  pasted-part =
+      ap (λ (l : List ℕ). take (length xs) (drop at l)) (append-assoc (take at out) xs (drop (at + length xs) out))
+      ∙ ap (take (length xs)) (drop-at (take at out) (xs ++ drop (at + length xs) out) at (length-take-le at out (omega arith)))
+      ∙ take-at xs (drop (at + length xs) out) (length xs) refl
+
+-- two stores, one after the other
 pub pasted-two : (out : List ℕ) (at a b : ℕ) → at + 2 ≤ length out → set (set out at a) (at + 1) b ≡ pasted out at (a ∷ b ∷ [])
 pasted-two out at a b h =
     pasted-more out at (a ∷ []) (omega arith) (b ∷ []) (at + 1) (pasted-one out at a (omega arith)) (omega arith)

@@ -121,7 +121,7 @@ again-two (a ∷ []) n h = absurd (omega arith)
 again-two (a ∷ b ∷ []) n (h, (k, u)) = ap₂ (λ (x y : ℕ). x ∷ y ∷ []) (omega arith) (omega arith)
 again-two (a ∷ b ∷ c ∷ p) n h = absurd (omega arith)
 
-again-four : (p : List ℕ) → length p ≡ 4 → Every Byte p
+pub again-four : (p : List ℕ) → length p ≡ 4 → Every Byte p
     → (two-bytes (big-endian (take 2 p)) ++ two-bytes (big-endian (drop 2 p)) ≡ p) × (four-bytes (big-endian p) ≡ p)
 unfolding number-after
 again-four [] n h = absurd (omega arith)

@@ -78,8 +78,12 @@ Sayable (start-segment cs ip) = (cs < 65536) × (ip < 65536)
 Sayable (extended-linear n) = n < 65536
 Sayable (start-linear n) = n < 4294967296
 
--- a line that has only capital digits after its colon
-pub record In-capitals (line : List ℕ) : Type 0 where
+-- a line that has only capital digits after its start character
+pub record In-capitals-after (start : ℕ) (line : List ℕ) : Type 0 where
   pub digits : List ℕ
-  pub starts : line ≡ 58 ∷ digits
+  pub starts : line ≡ start ∷ digits
   pub capitals : Every Capital digits
+
+-- the same after a colon
+abbrev pub In-capitals : (line : List ℕ) → Type 0
+In-capitals line = In-capitals-after 58 line

@@ -1,0 +1,14 @@
+pub mod Examples
+pub mod Naming
+pub mod Judging
+pub mod Standing
+pub mod Writing
+pub mod Buffer
+pub mod Answers
+pub mod Judge
+pub mod Line
+pub mod Measuring
+pub mod Lines
+pub mod Claims
+pub mod Unique
+pub mod RoundTrip

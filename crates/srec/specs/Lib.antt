@@ -1,0 +1,11 @@
+pub mod Types
+pub mod Line
+pub mod Format
+pub mod Faults
+pub mod Written
+pub mod Record
+pub mod Answer
+pub mod Writer
+pub mod Helpers
+pub mod Claims
+pub mod Examples
