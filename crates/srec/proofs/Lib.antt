@@ -12,3 +12,4 @@ pub mod Lines
 pub mod Claims
 pub mod Unique
 pub mod RoundTrip
+pub mod Reasons

@@ -111,6 +111,10 @@ fits-size kind n e = go (ltb kind 4) refl e
     go true t f = let h = ltb-true kind 4 t in holds (omega arith)
     go false t f = empty (eqb-true n 0 (rw t at f))
 
+-- and what does not fit has no such size
+pub unfit : (kind n : ℕ) → fits kind n ≡ false → ¬ Size kind n
+unfit kind n e z = never (sym (size-fits z) ∙ e)
+
 pub misfit : (kind n : ℕ) → ¬ Size kind n → fits kind n ≡ false
 misfit kind n z = go (fits kind n) refl
   where

@@ -8,16 +8,17 @@ use mathlib.Core.List.{List, [], _∷_}
 use native.Mathlib.Omega.{arith}
 use lib.ListN.{length, take, drop}
 use borrow.Author.Tests.{le-leb, lt-ltb, le-ltb, ne-eqb, eqb-true}
-use Rattle.digits.specs.Common.{if_then_else_, Byte}
+use Rattle.digits.specs.Common.{if_then_else_, Every, Byte}
 use Rattle.digits.specs.Reading.{named}
 use Rattle.digits.proofs.Tests.{split}
 use Rattle.digits.proofs.Parts.{part-length, none-left, every-take, every-drop}
 use Rattle.digits.proofs.Pasting.{pasted-part}
 use Rattle.record.specs.Refusals.{Refusal, number-of, contains-invalid-characters, pool-full}
 use Rattle.record.specs.Line.{Said, says, wrong}
-use Rattle.reader.specs.Told.{gives, refuses}
+use Rattle.reader.specs.Told.{gives, refuses, refusal-of}
 use Rattle.reader.specs.Answer.{fits-pool}
 use Rattle.reader.specs.Text.{is-full}
+use Rattle.reader.specs.declared.ReaderError.{ReaderError}
 use Rattle.reader.specs.declared.ReaderError.the-variants.{ContainsInvalidCharacters}
 use Rattle.writer.proofs.Answers as text
 use Rattle.writer.proofs.Objects.{unless-chars}
@@ -29,16 +30,17 @@ use Rattle.srec.specs.declared.SWritten.the-variants as writings
 use Rattle.srec.specs.Types.{holds-data}
 use Rattle.srec.specs.Line.{judge}
 use Rattle.srec.specs.Faults.{First-offender}
-use Rattle.srec.specs.Record.{digit-of, data-of}
-use Rattle.srec.specs.Answer.{Reads, ReadSRecord, answered, poured}
+use Rattle.srec.specs.Written.{Writable}
+use Rattle.srec.specs.Record.{digit-of, numbers-of, data-of}
+use Rattle.srec.specs.Answer.{told, Reads, ReadSRecord, answered, poured}
 use Rattle.srec.specs.Writer.{swriter-refusal, refusal-for, line, line-text, ToSRecordString}
-use Rattle.srec.specs.Claims.{Answers-the-offender, Never-full, Refusal-changes-nothing, Rest-untouched, Round-trip, Reads-what-was-written}
+use Rattle.srec.specs.Claims.{Bounds, Heard, Answers-the-offender, Never-full, Reads-at-start, Refusal-changes-nothing, Rest-untouched, Writes-line, One-line, Line-injective, Line-plain, Round-trip, Reads-what-was-written}
 use Rattle.srec.proofs.Naming.{width-few}
 use Rattle.srec.proofs.Standing.{Stands, stands, fault-few}
-use Rattle.srec.proofs.Writing.{said-is-writable, reads-back}
+use Rattle.srec.proofs.Writing.{said-is-writable, said-is-bounded, written-in-format, written-in-capitals, only-in-capitals, written-plain, reads-back}
 use Rattle.srec.proofs.Claims.{names-the-offender}
 use Rattle.srec.proofs.Measuring.{digit-named, fine}
-use Rattle.srec.proofs.Unique.{told-apart}
+use Rattle.srec.proofs.Unique.{same-type, told-apart}
 
 -- ---- the reader
 
@@ -84,6 +86,43 @@ never-full line n at r = go (judge line) refl
         with-room (holds-data kind) kind address payload (le-leb (at + length payload) n (omega (arith, w .most)))
     go (wrong w) e = ne-eqb (number-of w) 10 (λ q. omega (arith, fault-few (subst (Stands line) e (stands line))))
 
+-- what is told, taken apart
+told-gives : (r : SAnswer) (kind : ℕ) (numbers : List ℕ) → told r ≡ gives kind numbers → (x : SRecord) × (r ≡ Read x) × (digit-of (x .kind) ≡ kind) × (numbers-of x ≡ numbers)
+told-gives (Read x) kind numbers e = (x, refl, cc, cc)
+told-gives (Refused f) kind numbers e = let z : _≡_ {A = ℕ} 0 1 = cc in absurd (omega arith)
+
+told-refuses : (r : SAnswer) (f : Refusal) → told r ≡ refuses f → (e : ReaderError) × (r ≡ Refused e) × (refusal-of e ≡ f)
+told-refuses (Read x) f e = let z : _≡_ {A = ℕ} 0 1 = cc in absurd (omega arith)
+told-refuses (Refused w) f e = (w, refl, cc)
+
+module _ (kind address : ℕ) (payload pool : List ℕ) (r : SAnswer) (pool′ : List ℕ) (room : 252 ≤ length pool) (b : Bounds kind address payload) where
+  heard-data : kind < 4 → Reads (says kind address payload) pool 0 r pool′ → Heard (says kind address payload) pool r pool′
+  unfolding answered poured
+  heard-data k x =
+      let e = lt-ltb kind 4 k in
+      let f = le-leb (0 + length payload) (length pool) (omega (arith, b .most)) in
+      let (y, is, d, ns) = told-gives r kind (address ∷ 0 ∷ length payload ∷ []) (rw (e, f) at (x .answer)) in
+      (y, is, d, cc, cc, cc, ap (take (length payload)) (rw (e, f) at (x .left)) ∙ pasted-part pool 0 payload (omega (arith, b .most)))
+
+  heard-bare : 4 ≤ kind → Reads (says kind address payload) pool 0 r pool′ → Heard (says kind address payload) pool r pool′
+  unfolding answered poured
+  heard-bare k x =
+      let e = le-ltb kind 4 k in
+      let (y, is, d, ns) = told-gives r kind (address ∷ 0 ∷ 0 ∷ []) (rw e at (x .answer)) in
+      let none-there : payload ≡ [] = b .bare k in
+      let len : y .len ≡ 0 = cc in
+      (y, is, d, cc, cc, len ∙ sym (ap length none-there), ap (λ (l : List ℕ). take (length l) pool′) none-there ∙ sym none-there)
+
+pub reads-at-start : Reads-at-start
+unfolding answered poured
+reads-at-start line pool r pool′ room x = go (judge line) refl x
+  where
+    go : (s : Said) → judge line ≡ s → Reads s pool 0 r pool′ → Heard s pool r pool′
+    go (says kind address payload) e x =
+        let b = said-is-bounded line kind address payload e in
+        split 4 kind (λ k. heard-bare kind address payload pool r pool′ room b k x) (λ k. heard-data kind address payload pool r pool′ room b k x)
+    go (wrong f) e x = let (w, is, n) = told-refuses r f (x .answer) in (w, is, n, x .left)
+
 -- ---- the writer
 
 pub refusal-changes-nothing : Refusal-changes-nothing
@@ -97,20 +136,46 @@ lined x pool out n out′ w = unless-chars (refusal-for x (length pool)) (line x
 pub rest-untouched : Rest-untouched
 rest-untouched x pool out n out′ w = (lined x pool out n out′ w .1, text.rest-untouched (line-text x pool) out 0 n out′ w .1)
 
-pub round-trip : Round-trip
-round-trip x pool out n out′ h w =
-    let s = lined x pool out n out′ w in
-    let f = fine (digit-of (x .kind)) (x .address) (x .at) (x .len) (length pool) (s .0) in
+-- a record that has no fault can be written
+writable : (x : SRecord) (pool : List ℕ) → Every Byte pool → refusal-for x (length pool) ≡ none → Writable (digit-of (x .kind)) (x .address) (data-of x pool)
+writable x pool h e =
+    let f = fine (digit-of (x .kind)) (x .address) (x .at) (x .len) (length pool) e in
     let l = part-length pool (x .at) (x .len) (f .inside) in
-    ap judge (s .1)
-    ∙ reads-back (digit-of (x .kind)) (x .address) (data-of x pool)
-    (record {
+    record {
       named = digit-named (x .kind);
       sized = rw l (f .fit);
       most = omega (arith, f .most);
       address-small = f .small;
       payload-bytes = every-take Byte (x .len) (drop (x .at) pool) (every-drop Byte (x .at) pool h);
-    })
+    }
+
+pub writes-line : Writes-line
+writes-line x pool out n out′ h w =
+    let s = lined x pool out n out′ w in
+    let t = writable x pool h (s .0) in
+    rw (s .1) (record { formal = written-in-format _ _ _ t; capitals = written-in-capitals _ _ _ t })
+
+-- both are the line that is written
+pub one-line : One-line
+one-line x pool l l′ f f′ =
+    only-in-capitals l (digit-of (x .kind)) (x .address) (data-of x pool) (f .formal) (f .capitals)
+    ∙ sym (only-in-capitals l′ (digit-of (x .kind)) (x .address) (data-of x pool) (f′ .formal) (f′ .capitals))
+
+pub line-injective : Line-injective
+line-injective x y pool pool′ cs h h′ e e′ =
+    let p = unless-chars (refusal-for x (length pool)) (line x pool) cs e in
+    let p′ = unless-chars (refusal-for y (length pool′)) (line y pool′) cs e′ in
+    let q : says (digit-of (x .kind)) (x .address) (data-of x pool) ≡ says (digit-of (y .kind)) (y .address) (data-of y pool′) =
+    sym (reads-back _ _ _ (writable x pool h (p .0))) ∙ ap judge (sym (p .1) ∙ p′ .1) ∙ reads-back _ _ _ (writable y pool′ h′ (p′ .0)) in
+    (same-type (x .kind) (y .kind) cc, cc, cc)
+
+pub line-plain : Line-plain
+line-plain x pool = written-plain (digit-of (x .kind)) (x .address) (data-of x pool)
+
+pub round-trip : Round-trip
+round-trip x pool out n out′ h w =
+    let s = lined x pool out n out′ w in
+    ap judge (s .1) ∙ reads-back (digit-of (x .kind)) (x .address) (data-of x pool) (writable x pool h (s .0))
 
 -- ---- both
 

@@ -55,6 +55,9 @@ type-again S7 = refl
 type-again S8 = refl
 type-again S9 = refl
 
+pub same-type : (t u : SType) → digit-of t ≡ digit-of u → t ≡ u
+same-type t u e = sym (type-again t) ∙ ap type-at e ∙ type-again u
+
 -- what was named
 named-by : Option ℕ → Named
 named-by (some d) = Kind (type-at d)

@@ -8,4 +8,5 @@ pub mod Answer
 pub mod Writer
 pub mod Helpers
 pub mod Claims
+pub mod Reasons
 pub mod Examples

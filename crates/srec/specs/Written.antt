@@ -8,7 +8,7 @@ use lib.ListN.{length, drop}
 use lib.Dec.{eqb}
 use Rattle.digits.specs.Common.{if_then_else_, Every, Byte}
 use Rattle.digits.specs.Spelling.{spelt}
-use Rattle.record.specs.Written.{four-bytes}
+use Rattle.record.specs.Written.{four-bytes, In-capitals-after}
 use Rattle.srec.specs.Types.{is-named, width, fits}
 use Rattle.srec.specs.Line.{complement-sum, count-of}
 use Rattle.srec.specs.Format.{body}
@@ -34,6 +34,10 @@ written kind address payload =
 -- the most bytes of data: 252, 251 or 250
 abbrev pub most-data : (kind : ℕ) → ℕ
 most-data kind = 254 - width kind
+
+-- a line that has only capital digits after its S
+abbrev pub In-capitals : (line : List ℕ) → Type 0
+In-capitals line = In-capitals-after 83 line
 
 -- type, address and data that a line can hold
 pub record Writable (kind address : ℕ) (payload : List ℕ) : Type 0 where
