@@ -39,6 +39,23 @@ four-is a one two three four small e f g h =
     let s : four ≡ a % 65536 % 256 = omega arith in
     cc
 
+one-more : (a b x y : ℕ) → x ≡ a % 256 → y ≡ (x + b) % 256 → y ≡ (a + b) % 256
+one-more a b x y e f = omega arith
+
+-- the sums of count, address and data, one after the other, are that of all
+sums-to : (count : ℕ) (place payload : List ℕ) (first second total : ℕ) → first ≡ (0 + sum (count ∷ [])) % 256 → second ≡ (first + sum place) % 256
+    → total ≡ (second + sum payload) % 256 → total ≡ sum (body count place payload) % 256
+unfolding sum
+sums-to count place payload first second total e f g =
+    let one : first ≡ count % 256 = omega arith in
+    let two = one-more count (sum place) first second one f in
+    let all : count + sum place + sum payload ≡ sum (body count place payload) = let s = sum-append place payload in omega arith in
+    one-more (count + sum place) (sum payload) second total two g ∙ ap (λ (n : ℕ). n % 256) all
+
+check-is : (bytes : List ℕ) (total : ℕ) → total ≡ sum bytes % 256 → 255 - total ≡ complement-sum bytes
+unfolding complement-sum
+check-is bytes total e = omega arith
+
 module _ (kind address : ℕ) (payload out place : List ℕ) (fit : Fitting kind payload out) (ep : place ≡ in-bytes (width kind) address) where
   pub place-length : length place ≡ width kind
   place-length = ap length ep ∙ address-length kind address (fit .named)
@@ -60,7 +77,7 @@ module _ (kind address : ℕ) (payload out place : List ℕ) (fit : Fitting kind
       → Row (count ∷ []) 0 (set (set out 0 83) 1 (48 + kind)) 2 first out₁ → Row place first out₁ 4 second out₂
       → Row payload second out₂ (4 + 2 * w) total out₃ → Row ((255 - total) ∷ []) 0 out₃ (4 + 2 * w + 2 * n) r out₄
       → out₄ ≡ pasted out 0 (written kind address payload)
-  unfolding spelt sum complement-sum front
+  unfolding spelt front
   line-put w n count first second total r {out₁} {out₂} {out₃} {out₄} ew en ec p₁ p₂ p₃ p₄ =
       let room : 6 + 2 * width kind + 2 * length payload ≤ length out = fit .room in
       let len = place-length in
@@ -68,11 +85,8 @@ module _ (kind address : ℕ) (payload out place : List ℕ) (fit : Fitting kind
       let b = spelt-length payload in
       let c : count ≡ count-of kind payload = omega arith in
       let k : List ℕ = 83 ∷ (48 + kind) ∷ spelt (count-of kind payload ∷ []) in
-      let s₀ : first ≡ (0 + (count + 0)) % 256 = p₁ .sums in
-      let s₁ = p₂ .sums in
-      let s₂ = p₃ .sums in
-      let s₃ = sum-append place payload in
-      let right : 255 - total ≡ complement-sum front = omega arith in
+      let right : 255 - total ≡ complement-sum front =
+      check-is front total (sums-to count place payload first second total (p₁ .sums) (p₂ .sums) (p₃ .sums) ∙ ap (λ (x : ℕ). sum (body x place payload) % 256) c) in
       let q₀ : set (set out 0 83) 1 (48 + kind) ≡ pasted out 0 (83 ∷ (48 + kind) ∷ []) = pasted-two out 0 83 (48 + kind) (omega arith) in
       let q₁ : out₁ ≡ pasted out 0 k =
       pasted-more out 0 (83 ∷ (48 + kind) ∷ []) (omega arith) (spelt (count-of kind payload ∷ [])) 2 q₀ (omega arith) (p₁ .left ∙ ap (λ (x : ℕ). pasted (set (set out 0 83) 1 (48 + kind)) 2 (spelt (x ∷ []))) c) in

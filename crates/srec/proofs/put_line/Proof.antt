@@ -79,8 +79,8 @@ returns c =
     let w = c .before .before .before .before .before .before .before .before .before .before .before .before .before .before .before .before .before .before .before .before .before .before .before .before .width-of in
     let low = c .before .before .before .before .before .before .before .before .before .before .before .before .before .before .before .before .before .before .before .before in
     line-put (s .args .kind) (s .args .address) (now (s .args .payload)) (now (s .args .out)) (place-of low) (s .pre) (place-is low)
-    (w .result) (length (now (s .args .payload))) (w .result + length (now (s .args .payload)) + 1) (c .before .before .before .before .before .before .before .before .before .before .before .before .before .before .before .before .before .put .result) (c .before .before .before .before .before .before .before .before .before .before .before .put2 .result) (c .before .before .before .before .before .before .before .put3 .result) (c .before .before .put4 .result)
-    (w .ensures .0) refl refl (c .before .before .before .before .before .before .before .before .before .before .before .before .before .before .before .before .before .put .ensures) (c .before .before .before .before .before .before .before .before .before .before .before .put2 .ensures) (c .before .before .before .before .before .before .before .put3 .ensures) (c .before .before .put4 .ensures)
+    (w .result) (length (now (s .args .payload))) _ (c .before .before .before .before .before .before .before .before .before .before .before .before .before .before .before .before .before .put .result) (c .before .before .before .before .before .before .before .before .before .before .before .put2 .result) (c .before .before .before .before .before .before .before .put3 .result) (c .before .before .put4 .result)
+    (w .ensures .0) refl (omega arith) (c .before .before .before .before .before .before .before .before .before .before .before .before .before .before .before .before .before .put .ensures) (c .before .before .before .before .before .before .before .before .before .before .before .put2 .ensures) (c .before .before .before .before .before .before .before .put3 .ensures) (c .before .before .put4 .ensures)
 
 pub put-line-spec : {M : Type 1} → statement M
 put-line-spec =
