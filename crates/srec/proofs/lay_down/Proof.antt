@@ -15,20 +15,11 @@ returns c =
     let n = part-length (now (s .args .buf)) (s .args .«from») (s .args .n) (s .pre .inside) in
     full (s .args .kind) (s .pre .holds) (s .args .address) (take (s .args .n) (drop (s .args .«from») (now (s .args .buf)))) (now (s .args .pool)) (s .args .at) (omega arith)
 
-sub-if2 : tie.Need-sub-if2
-sub-if2 c = search needs
-
 returns-2 : tie.Need-returns-2
 returns-2 c =
     let s = c .before .before .before .before in
     let n = part-length (now (s .args .buf)) (s .args .«from») (s .args .n) (s .pre .inside) in
     full (s .args .kind) (s .pre .holds) (s .args .address) (take (s .args .n) (drop (s .args .«from») (now (s .args .buf)))) (now (s .args .pool)) (s .args .at) (omega arith)
-
-pour-requires : tie.Need-pour-requires
-pour-requires c κs = search needs
-
-same-length : tie.Need-same-length
-same-length c = search needs
 
 returns-3 : tie.Need-returns-3
 returns-3 c =
@@ -39,4 +30,4 @@ returns-3 c =
     (s .args .n) (p .last .1 .1 .1 .0) (omega arith) n (p .ensures)
 
 pub lay-down-spec : {M : Type 1} → statement M
-lay-down-spec = tie.close (tie.spec returns sub-if2 returns-2 pour-requires same-length returns-3)
+lay-down-spec = tie.close (tie.spec returns (λ c. search needs) returns-2 (λ c κs. search needs) (λ c. search needs) returns-3)

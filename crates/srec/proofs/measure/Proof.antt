@@ -14,21 +14,12 @@ use borrow.Author.Needs.{needs}
 use Rattle.srec.proofs.measure.Statement.{statement}
 use Rattle.srec.proofs.measure.Tie as tie
 
-digit-requires : tie.Need-digit-requires
-digit-requires c κs = search needs
-
-width-of-requires : tie.Need-width-of-requires
-width-of-requires c κs = search needs
-
 returns : tie.Need-returns
 returns c =
     let s = c .before .before .before .before in
     let r = s .args .«record» in
     let pool = now (s .args .pool) in
     outside r pool (omega arith)
-
-sub-if2 : tie.Need-sub-if2
-sub-if2 c = search needs
 
 returns-2 : tie.Need-returns-2
 returns-2 c =
@@ -37,18 +28,12 @@ returns-2 c =
     let pool = now (s .args .pool) in
     outside r pool (omega arith)
 
-may-hold-requires : tie.Need-may-hold-requires
-may-hold-requires c κs = search needs
-
 returns-3 : tie.Need-returns-3
 returns-3 c =
     let s = c .before .before .before .before .before .before .before .before in
     let r = s .args .«record» in
     let pool = now (s .args .pool) in
     misfit r pool (omega arith) (ap (λ (k : ℕ). fits k (r .len)) (sym (c .before .before .before .before .before .before .digit .ensures .answer)) ∙ sym (c .before .may-hold .ensures) ∙ not-true (c .before .may-hold .result) (c .if3 .taken))
-
-sub-if4 : tie.Need-sub-if4
-sub-if4 c = search needs
 
 returns-4 : tie.Need-returns-4
 returns-4 c =
@@ -60,9 +45,6 @@ returns-4 c =
     let e = ap width d in
     too-long r pool (omega arith) (ap (λ (k : ℕ). fits k (r .len)) (sym (c .before .before .before .before .before .before .before .digit .ensures .answer)) ∙ sym (c .before .before .may-hold .ensures) ∙ not-false (c .before .before .may-hold .result) (c .before .if3 .left)) (omega arith)
 
-fits-in-requires : tie.Need-fits-in-requires
-fits-in-requires c κs = search needs
-
 returns-5 : tie.Need-returns-5
 returns-5 c =
     let s = c .before .before .before .before .before .before .before .before .before .before .before in
@@ -72,18 +54,6 @@ returns-5 c =
     let w = c .before .before .before .before .before .before .before .before .width-of .ensures in
     let e = ap width d in
     too-wide r pool (omega arith) (ap (λ (k : ℕ). fits k (r .len)) (sym (c .before .before .before .before .before .before .before .before .before .digit .ensures .answer)) ∙ sym (c .before .before .before .before .may-hold .ensures) ∙ not-false (c .before .before .before .before .may-hold .result) (c .before .before .before .if3 .left)) (omega arith) (ap (λ (n : ℕ). ltb (r .address) (beyond n)) (sym (w .0 ∙ ap width d)) ∙ sym (c .before .fits-in .ensures) ∙ not-true (c .before .fits-in .result) (c .if5 .taken))
-
-mul-t10 : tie.Need-mul-t10
-mul-t10 c = search needs
-
-add-t7 : tie.Need-add-t7
-add-t7 c = search needs
-
-mul-t16 : tie.Need-mul-t16
-mul-t16 c = search needs
-
-add-t17 : tie.Need-add-t17
-add-t17 c = search needs
 
 returns-6 : tie.Need-returns-6
 returns-6 c =
@@ -99,19 +69,19 @@ pub measure-spec : {M : Type 1} → statement M
 measure-spec =
     tie.close
     (tie.spec
-    digit-requires
-    width-of-requires
+    (λ c κs. search needs)
+    (λ c κs. search needs)
     returns
-    sub-if2
+    (λ c. search needs)
     returns-2
-    may-hold-requires
+    (λ c κs. search needs)
     returns-3
-    sub-if4
+    (λ c. search needs)
     returns-4
-    fits-in-requires
+    (λ c κs. search needs)
     returns-5
-    mul-t10
-    add-t7
-    mul-t16
-    add-t17
+    (λ c. search needs)
+    (λ c. search needs)
+    (λ c. search needs)
+    (λ c. search needs)
     returns-6)

@@ -22,15 +22,6 @@ fine-at s = let r = s .args .«record» in fine (digit-of (r .kind)) (r .address
 add-end : tie.Need-add-end
 add-end c = let f = fine-at (c .before .before .before) in omega arith
 
-digit-requires : tie.Need-digit-requires
-digit-requires c κs = search needs
-
-sub-put-line : tie.Need-sub-put-line
-sub-put-line c = search needs
-
-part-put-line-start : tie.Need-part-put-line-start
-part-put-line-start c = search needs
-
 part-put-line-end : tie.Need-part-put-line-end
 part-put-line-end c = let f = fine-at (c .before .before .before .before) in omega arith
 
@@ -45,9 +36,6 @@ put-line-requires c κs =
     rw (d, part-is (now (s .args .pool)) (r .at) (r .len))
     (record { named = digit-named (r .kind); digit = digit-small (r .kind); most = omega (arith, f .most); room = omega (arith, s .pre .room) })
 
-same-length : tie.Need-same-length
-same-length c = search needs
-
 returns : tie.Need-returns
 returns c =
     let s = c .before .before .before .before .before .before .before .before .before in
@@ -60,10 +48,10 @@ put-record-spec =
     tie.close
     (tie.spec
     add-end
-    digit-requires
-    sub-put-line
-    part-put-line-start
+    (λ c κs. search needs)
+    (λ c. search needs)
+    (λ c. search needs)
     part-put-line-end
     put-line-requires
-    same-length
+    (λ c. search needs)
     returns)

@@ -20,15 +20,6 @@ measured c =
     there (refusal-for (a .«record») (length (now (a .pool)))) (line (a .«record») (now (a .pool))) (c .before .measured2 .given .0 .0)
     (sym (ap told-swritten (c .before .measured2 .given .1)) ∙ c .before .before .before .measure .ensures)
 
-measure-requires : tie.Need-measure-requires
-measure-requires c κs = search needs
-
-enum-known-measured : tie.Need-enum-known-measured
-enum-known-measured c = search needs
-
-enum-known-measured-2 : tie.Need-enum-known-measured-2
-enum-known-measured-2 c = search needs
-
 returns : tie.Need-returns
 returns c =
     let a = c .before .before .before .before .before .before .before .args in
@@ -43,9 +34,6 @@ returns-2 c =
     let a = c .before .before .before .before .before .before .args in
     not-there (refusal-for (a .«record») (length (now (a .pool)))) (line (a .«record») (now (a .pool))) (line (a .«record») (now (a .pool))) (now (a .out)) 0 (swriter-refusal (c .before .measured .given .0 .0)) (sym (ap told-swritten (c .before .measured .given .1)) ∙ c .before .before .before .measure .ensures)
 
-same-length : tie.Need-same-length
-same-length c = search needs
-
 returns-3 : tie.Need-returns-3
 returns-3 c =
     let a = c .before .before .before .before .before .before .before .before .before .before .before .args in
@@ -56,11 +44,11 @@ pub to-srecord-string-spec : {M : Type 1} → statement M
 to-srecord-string-spec =
     tie.close
     (tie.spec
-    measure-requires
-    enum-known-measured
-    enum-known-measured-2
+    (λ c κs. search needs)
+    (λ c. search needs)
+    (λ c. search needs)
     returns
     put-record-requires
     returns-2
-    same-length
+    (λ c. search needs)
     returns-3)
