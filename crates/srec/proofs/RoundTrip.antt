@@ -44,7 +44,7 @@ use Rattle.srec.proofs.Unique.{same-type, told-apart}
 
 -- ---- the reader
 
--- what is returned as refusal 2 is said so: a record is returned as one, or as PoolFull
+-- what is returned as refusal 2 is said so: for a record the reader returns the record, or PoolFull
 said-so : (said : Said) (r : Refusal) (n at : ℕ) → number-of r ≡ 2 → refuses r ≡ answered said n at → said ≡ wrong r
 unfolding answered
 said-so (wrong w) r n at two e = ap wrong (sym cc)
@@ -86,7 +86,7 @@ never-full line n at r = go (judge line) refl
         with-room (holds-data kind) kind address payload (le-leb (at + length payload) n (omega (arith, w .most)))
     go (wrong w) e = ne-eqb (number-of w) 10 (λ q. omega (arith, fault-few (subst (Stands line) e (stands line))))
 
--- what is told, taken apart
+-- an answer, from what it tells
 told-gives : (r : SAnswer) (kind : ℕ) (numbers : List ℕ) → told r ≡ gives kind numbers → (x : SRecord) × (r ≡ Read x) × (digit-of (x .kind) ≡ kind) × (numbers-of x ≡ numbers)
 told-gives (Read x) kind numbers e = (x, refl, cc, cc)
 told-gives (Refused f) kind numbers e = let z : _≡_ {A = ℕ} 0 1 = cc in absurd (omega arith)

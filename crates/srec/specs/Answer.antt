@@ -20,7 +20,7 @@ abbrev pub told : SAnswer → Told
 told (Read r) = gives (digit-of (r .kind)) (numbers-of r)
 told (Refused e) = refuses (refusal-of e)
 
--- what is returned of a record that goes into a pool of n bytes at a position: S5 and the ends have no data, and name no place of the pool
+-- what is returned for a record that goes into a pool of n bytes at a position: S5 and the ends have no data, and name no place of the pool
 unfoldable pub answered : Said → (n at : ℕ) → Told
 answered (says kind address payload) n at =
     if holds-data kind

@@ -108,7 +108,7 @@ Digit-unique = (t : SType) (r r′ : ℕ) → DigitOf t r → DigitOf t r′ →
 
 -- ---- the record reader
 
--- no two answers are told alike
+-- no two answers have the same number and values
 abbrev pub Told-apart : Type 0
 Told-apart = (a b : SAnswer) → told a ≡ told b → a ≡ b
 

@@ -17,7 +17,7 @@ use Rattle.srec.specs.Format.{body}
 abbrev pub in-bytes : (n a : ℕ) → List ℕ
 in-bytes n a = drop (4 - n) (four-bytes a)
 
--- what stands after the largest address of n bytes
+-- the first address that n bytes, two to four, cannot hold
 unfoldable pub beyond : (n : ℕ) → ℕ
 beyond n = if eqb n 2 then 65536 else if eqb n 3 then 16777216 else 4294967296
 
