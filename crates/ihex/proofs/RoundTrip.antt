@@ -3,11 +3,10 @@
 use Prim.Native.Nat.{ℕ, suc, _+_, _^_, _≤_, _<_}
 use mathlib.Core.Path.{_≡_, refl, sym, _∙_, ap, subst}
 use mathlib.Core.Bool.{Bool, true, false}
-use mathlib.Core.List.{List, [], _∷_, _++_, append-assoc}
+use mathlib.Core.List.{List, [], _∷_}
 use native.Mathlib.Omega.{arith}
 use lib.Dec.{leb}
-use lib.ListN.{length, take, drop, length-take}
-use lib.Seq.{take-at, drop-at, length-take-le}
+use lib.ListN.{length, take, length-take}
 use borrow.Author.Tests.{le-leb, leb-true}
 use Rattle.digits.specs.Common.{if_then_else_, Every, pasted}
 use Rattle.record.specs.Refusals.{pool-full}
@@ -17,6 +16,7 @@ use Rattle.record.specs.Record.{meant}
 use Rattle.record.specs.Meaning.{Meaning, data-at, end-of-file, extended-segment, start-segment, extended-linear, start-linear, meaning}
 use Rattle.record.specs.Written.{kind-of, address-of, payload-of, Sayable}
 use Rattle.digits.proofs.Tests.{both-ways}
+use Rattle.digits.proofs.Pasting.{pasted-part}
 use Rattle.record.proofs.Writing.{reads-back}
 use Rattle.reader.specs.declared.Answer.the-variants.{Read}
 use Rattle.reader.specs.Told.{gives, refuses, told}
@@ -44,9 +44,7 @@ given-again (data-at offset bytes) pool at h = room-or-not (leb (at + length byt
         → (r : Record) × ((if b then gives 0 (offset ∷ at ∷ length bytes ∷ []) else refuses pool-full) ≡ told (Read r)) × (meant r (if b then pasted pool at bytes else pool) ≡ data-at offset bytes)
     room-or-not true e h =
         let fits : at + length bytes ≤ length pool = leb-true (at + length bytes) (length pool) e in
-        let d : drop at (pasted pool at bytes) ≡ bytes ++ drop (at + length bytes) pool = ap (drop at) (append-assoc (take at pool) bytes (drop (at + length bytes) pool)) ∙ drop-at (take at pool) (bytes ++ drop (at + length bytes) pool) at (length-take-le at pool (omega arith)) in
-        let p : take (length bytes) (drop at (pasted pool at bytes)) ≡ bytes = ap (take (length bytes)) d ∙ take-at bytes (drop (at + length bytes) pool) (length bytes) refl in
-        (Data offset at (length bytes), refl, ap (data-at offset) p)
+        (Data offset at (length bytes), refl, ap (data-at offset) (pasted-part pool at bytes fits))
     room-or-not false e h = let z : _≡_ {A = ℕ} 0 1 = cc in absurd (omega arith)
 given-again end-of-file pool at h = (EndOfFile, refl, refl)
 given-again (extended-segment n) pool at h = (ExtendedSegmentAddress n, refl, refl)
