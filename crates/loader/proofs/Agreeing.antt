@@ -4,12 +4,15 @@
 use mathlib.Core.Path.{_≡_, refl, sym, ap}
 use Prim.Native.Nat.{ℕ, suc}
 use native.Mathlib.Omega.{arith}
-use mathlib.Core.Bool.{Bool}
+use mathlib.Core.Bool.{Bool, true, false}
 use mathlib.Core.Option.{Option, none, some}
 use mathlib.Core.List.{List, [], _∷_, _++_, map}
+use lib.Dec.{eqb}
+use Rattle.digits.specs.Common.{if_then_else_}
+use Rattle.record.specs.Refusals.{count-mismatch}
 use Rattle.record.specs.Line.{Said, says, wrong, judge}
 use Rattle.record.specs.Noise.{Says-a-record}
-use Rattle.steps.specs.Steps.{Placement, Action, places, finishes, fails, Step, step, Tally, one-more, accepted, by, outside, at-data, turn, onward, decision, stated}
+use Rattle.steps.specs.Steps.{Placement, Action, places, counts, finishes, fails, Step, step, Tally, one-more, accepted, refused, by, outside, on, stop, at-data, turn, onward, decision, stated}
 use Rattle.steps.specs.Source.{steps}
 use Rattle.loader.specs.Placing.{Base, act, base-after, intel, intel-by}
 
@@ -34,6 +37,14 @@ module _ (inside : ℕ → Bool) where
           → (t ≡ t′) × (what ++ stated s ≡ what ++ stated s′)
       go none e e′ = let (p, q) = g (one-more tally) m m′ t t′ e e′ in (p, ap (λ (ps : List Placement). what ++ ps) q)
       go (some a) e e′ = (cc, cc)
+  agreed-step n n′ (counts c) s s′ g tally m m′ t t′ = go (eqb c (tally .records))
+    where
+      go : (b : Bool)
+          → onward n (if b then on tally else stop (refused (count-mismatch c (tally .records)) n)) (λ k. decision inside k s) ≡ some (by m (accepted t))
+          → onward n′ (if b then on tally else stop (refused (count-mismatch c (tally .records)) n′)) (λ k. decision inside k s′) ≡ some (by m′ (accepted t′))
+          → (t ≡ t′) × (stated s ≡ stated s′)
+      go true e e′ = g tally m m′ t t′ e e′
+      go false e e′ = (cc, cc)
   agreed-step n n′ finishes s s′ g tally m m′ t t′ = λ e e′. (cc, refl)
   agreed-step n n′ (fails r) s s′ g tally m m′ t t′ = λ e e′. (cc, refl)
 

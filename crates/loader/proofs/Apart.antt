@@ -28,14 +28,15 @@ use Rattle.window.proofs.Tests.{within-true, good-window}
 use Rattle.loader.specs.Placing.{Base, from-segment, from-linear, from-start, byte-address, placed, base-behind, does, act, base-after, intel-by, along}
 use Rattle.marks.specs.Marks.{flags}
 use Rattle.steps.specs.Packed.{repacked, load-packed}
-use Rattle.loader.specs.Load.{room-of, load}
+use Rattle.window.specs.Load.{room-of, load-window}
+use Rattle.loader.specs.Load.{load}
 use Rattle.loader.specs.Segments.{flat, flat-load, In-segment, In-segments, Outside, Never-both, Same-or-outside}
 use Rattle.loader.specs.Helpers.{left, does-on}
 use Rattle.loader.proofs.Rows.{by-row}
-use Rattle.loader.proofs.Demand3.{accepted-window, accepted-decision}
-use Rattle.loader.proofs.Reasons.{Seen, seen}
-use Rattle.loader.proofs.Puts.{first-inside}
-use Rattle.loader.proofs.Segments.{Low, low-start, length-placed, unwrapped, by-rows}
+use Rattle.window.proofs.Loads.{accepted-window, accepted-decision}
+use Rattle.steps.proofs.Firsts.{Seen, seen}
+use Rattle.steps.proofs.Puts.{length-spread, first-inside}
+use Rattle.loader.proofs.Segments.{Low, low-start, unwrapped, by-rows}
 
 module _ (first size : ℕ) (small : size ≤ 65536) where
   abbrev inside : ℕ → Bool
@@ -54,7 +55,7 @@ module _ (first size : ℕ) (small : size ≤ 65536) where
   byte-inside base offset bytes j h e =
       let ps = placed base offset 0 bytes in
       within-true first size (byte-address base offset (0 + j))
-      (first-inside inside base offset 0 bytes ps [] (sym (append-nil ps)) (subst (Seen inside ps) e (seen inside ps)) j (rw (length-placed base offset 0 bytes) h))
+      (first-inside (byte-address base offset) inside 0 bytes ps [] (sym (append-nil ps)) (subst (Seen inside ps) e (seen inside ps)) j (rw (length-spread (byte-address base offset) 0 bytes) h))
 
   -- a record that passes its segment's end does not lie inside by both placings
   not-both : (base offset : ℕ) (bytes : List ℕ) → base + 65536 ≤ 2 ^ 32 → offset < 65536 → 65536 < offset + length bytes
@@ -185,7 +186,7 @@ module _ (text : List ℕ) (first : ℕ) (page marks : List ℕ) where
       ∙ stored-answer (room-of first page marks .site) (stated (read f)) page unpacked (judged f)
 
 pub never-both : Never-both
-unfolding load flat-load
+unfolding load-window flat-load
 never-both text first page marks t t′ x y =
     let x′ = sym (answer-is text first page marks flat) ∙ x in
     let y′ = sym (answer-is text first page marks (λ base. base)) ∙ y in
@@ -195,7 +196,7 @@ never-both text first page marks t t′ x y =
     (t′, accepted-decision first page marks (read text first page marks (λ base. base)) t′ y′)
 
 pub same-or-outside : Same-or-outside
-unfolding load flat-load load-packed load-steps one-window stopping-by
+unfolding load-window flat-load load-packed load-steps one-window stopping-by
 same-or-outside text first page marks =
     packed-too (rw (by-row flat (room-of first page marks) text page m, by-row (λ base. base) (room-of first page marks) text page m) apart)
   where

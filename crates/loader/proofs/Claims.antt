@@ -6,10 +6,9 @@ use native.Mathlib.Omega.{arith}
 use mathlib.Core.Bool.{Bool, true, false}
 use mathlib.Core.Option.{Option, none, some}
 use mathlib.Core.List.{List, []}
-use lib.Dec.{eqb}
-use lib.ListN.{length, getD}
+use lib.ListN.{length}
 use Rattle.digits.specs.Common.{if_then_else_}
-use Rattle.record.specs.Refusals.{Refusal, refusal, number-of, contains-invalid-characters, missing-end-of-file-record, bad-window, outside-window}
+use Rattle.record.specs.Refusals.{Refusal, number-of, contains-invalid-characters, missing-end-of-file-record, bad-window, outside-window}
 use Rattle.digits.specs.Digits.{number-after}
 use Rattle.record.specs.Line.{wrong, judge}
 use Rattle.digits.specs.Reading.{named}
@@ -19,44 +18,36 @@ use Rattle.record.proofs.Standing.{Stands, stands}
 use Rattle.record.proofs.Claims.{names-the-offender}
 use Rattle.reader.specs.Lines.{lines}
 use Rattle.reader.specs.Claims.{Offends}
-use Rattle.reader.specs.declared.Answer.{Answer}
-use Rattle.reader.specs.declared.Answer.the-variants.{Read, Refused as AnswerRefused}
-use Rattle.reader.specs.declared.ReaderError.{ReaderError}
-use Rattle.reader.specs.declared.ReaderError.the-variants.{MissingStartCode, RecordTooShort, RecordTooLong, RecordNotEvenLength, ContainsInvalidCharacters, ChecksumMismatch, PayloadLengthMismatch, UnsupportedRecordType, InvalidLengthForType, PoolFull}
-use Rattle.reader.specs.Told.{refuses, refusal-of}
-use Rattle.reader.proofs.Claims.{untold, untold-told}
-use Rattle.loader.specs.declared.LoaderError.{LoaderError}
-use Rattle.loader.specs.declared.LoaderError.the-variants.{Line, MissingEndOfFileRecord, BadWindow, OutsideWindow}
-use Rattle.loader.specs.declared.Loading.{Loading}
-use Rattle.loader.specs.declared.Loading.the-variants.{Accepted, Refused}
-use Rattle.steps.specs.Steps.{nothing-yet, Verdict, accepted, refused, Decision, by, decision, verdict}
+use Rattle.steps.specs.Steps.{nothing-yet, Verdict, refused, Decision, by, decision, verdict, stated}
 use Rattle.steps.specs.Source as source
 use Rattle.steps.specs.Sites.{stopping-by}
+use Rattle.steps.proofs.Firsts.{Walked}
 use Rattle.window.specs.Window.{within, unfit, one-window}
 use Rattle.window.specs.Claims.{Window}
 use Rattle.window.proofs.Tests.{good-window, no-window}
-use Rattle.loader.specs.Placing.{intel-by}
-use Rattle.loader.specs.Load.{placements, steps-of, stopping, load}
-use Rattle.loader.specs.Told.{loader-refusal, told-loading}
-use Rattle.loader.specs.Claims.{in-force, data-records, Stops, the-end, no-record, first-outside, Decided, Why, bad-one, no-end, at-line, Reasons, Load-names-the-offender, Among, Total, Told-apart, Load-unique, Examples}
-use Rattle.loader.proofs.Demand3.{load-answer}
-use Rattle.loader.proofs.Reasons.{Walked, walked}
+use Rattle.loader.specs.Placing.{intel, intel-by}
+use Rattle.window.specs.Load.{stopping-by-window, load-window}
+use Rattle.loader.specs.Load.{steps-of}
+use Rattle.loader.specs.Claims.{in-force, data-records, Stops, the-end, no-record, first-outside, Decided, Why, bad-one, no-end, at-line, Reasons, Load-names-the-offender, Among, Total, Examples}
+use Rattle.window.proofs.Loads.{load-answer}
+use Rattle.loader.proofs.OneReason.{account}
+use Rattle.loader.proofs.Reasons.{walked}
 
 pub examples : Examples
-unfolding load stopping placements intel-by judge meaning number-after
+unfolding load-window stopping-by-window source.steps-of stated intel-by judge meaning number-after
 examples = record { sixth-place = refl; unused-bits = refl; below-it = refl; wraps = refl }
 
 -- ---- reasons
 
 pub reasons : Reasons
-unfolding stopping placements steps-of source.steps-of in-force data-records verdict one-window stopping-by intel-by
+unfolding stopping-by-window source.steps-of in-force data-records verdict one-window stopping-by intel-by
 reasons text first page marks =
-    rw (load-answer text first page marks) (go (unfit first (length page) (length marks)) refl)
+    rw (load-answer intel text first page marks) (go (unfit first (length page) (length marks)) refl)
   where
     inside : ℕ → Bool
     inside = within first (length page)
 
-    by-its-line : Window first page marks → (d : Option Decision) → Walked inside [] (steps-of text) 1 (lines text) d → Why text first page marks (verdict d)
+    by-its-line : Window first page marks → (d : Option Decision) → Walked (account inside) [] (steps-of text) 1 (lines text) d → Why text first page marks (verdict d)
     by-its-line w none all = no-end w all
     by-its-line w (some (by m v)) f =
         at-line m v w (record { ahead = f .mid; line = f .line; later = f .later; whole = f .whole; number = omega (arith, f .number); pass = f .pass; stops = f .stops; stated = f .states })
@@ -114,54 +105,3 @@ load-names-the-offender text first page marks r n e two = go (reasons text first
     go (bad-one w) q = let is : bad-window ≡ r = cc in absurd (omega (arith, ap number-of is))
     go (no-end w all) q = let is : missing-end-of-file-record ≡ r = cc in absurd (omega (arith, ap number-of is))
     go (at-line k v w d) q = named-by d q two
-
--- ---- the contract
-
-reader-error : Answer → ReaderError
-reader-error (AnswerRefused e) = e
-reader-error (Read r) = PoolFull
-
--- a refusal's error: the loader's own by their numbers, a line's as the reader finds it again
-error : Refusal → LoaderError
-unfolding reader-error
-error (refusal n vs) =
-    if eqb n 13 then MissingEndOfFileRecord else
-    if eqb n 16 then BadWindow else
-    if eqb n 17 then OutsideWindow (getD vs 0 0) else
-    Line (reader-error (untold (refuses (refusal n vs))))
-
-of-line : (e : ReaderError) → Line (reader-error (untold (refuses (refusal-of e)))) ≡ Line e
-unfolding reader-error
-of-line e = ap (λ (a : Answer). Line (reader-error a)) (untold-told (AnswerRefused e))
-
-again : (e : LoaderError) → error (loader-refusal e) ≡ e
-unfolding error
-again (Line MissingStartCode) = of-line MissingStartCode
-again (Line RecordTooShort) = of-line RecordTooShort
-again (Line RecordTooLong) = of-line RecordTooLong
-again (Line RecordNotEvenLength) = of-line RecordNotEvenLength
-again (Line (ContainsInvalidCharacters a)) = of-line (ContainsInvalidCharacters a)
-again (Line (ChecksumMismatch a b)) = of-line (ChecksumMismatch a b)
-again (Line PayloadLengthMismatch) = of-line PayloadLengthMismatch
-again (Line (UnsupportedRecordType a)) = of-line (UnsupportedRecordType a)
-again (Line InvalidLengthForType) = of-line InvalidLengthForType
-again (Line PoolFull) = of-line PoolFull
-again MissingEndOfFileRecord = refl
-again BadWindow = refl
-again (OutsideWindow a) = refl
-
-untold-load : Verdict → Loading
-untold-load (accepted t) = Accepted (record { records = t .records })
-untold-load (refused r n) = Refused (error r) n
-
-told-again : (l : Loading) → untold-load (told-loading l) ≡ l
-unfolding untold-load
-told-again (Accepted n) = refl
-told-again (Refused e n) = ap (λ (x : LoaderError). Refused x n) (again e)
-
-pub told-apart : Told-apart
-told-apart a b e = sym (told-again a) ∙ ap untold-load e ∙ told-again b
-
-pub load-unique : Load-unique
-load-unique text first page marks r r′ p p′ m m′ x y =
-    (told-apart r r′ (x .answer ∙ sym (y .answer)), x .page ∙ sym (y .page), x .marks ∙ sym (y .marks))

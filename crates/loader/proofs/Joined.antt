@@ -18,7 +18,7 @@ use Rattle.marks.specs.Marks.{row-length, mark-at, flags}
 use Rattle.marks.proofs.Below.{split}
 use Rattle.marks.proofs.Rows.{flags-length, zeros-none, zeros-bytes}
 use Rattle.marks.proofs.Claims.{same-row}
-use Rattle.steps.specs.Steps.{Placement, Action, places, finishes, fails, Tally, nothing-yet, accepted, decision, verdict}
+use Rattle.steps.specs.Steps.{Placement, Action, places, counts, finishes, fails, Tally, nothing-yet, accepted, decision, verdict, stated}
 use Rattle.steps.specs.Sites as sites
 use Rattle.steps.specs.Sites.{Loaded, Room, Stated, Owed-at}
 use Rattle.steps.specs.Packed.{load-packed}
@@ -35,24 +35,26 @@ use Rattle.window.specs.Claims.{Window}
 use Rattle.window.proofs.Tests.{no-window}
 use Rattle.window.proofs.Storing.{shows}
 use Rattle.loader.specs.Placing.{Base, base-behind, placed, does, act, intel, intel-by}
-use Rattle.loader.specs.Load.{room-of, steps-of, placements, stopping, load}
+use Rattle.window.specs.Load.{room-of, stopping-by-window, load-window}
+use Rattle.loader.specs.Load.{steps-of, placements, stopping, load}
 use Rattle.loader.specs.Claims.{said-record}
 use Rattle.loader.specs.Joined.{before-end, reset, joined, May-be-joined, End-record, Before-end-made-so, Before-end-only-so, Accepted-has-end, Answer-by-lengths, Joined-accepted, Joined-refused, Joined-states, Upon, One-upon-another, Seen, from-B, from-A, as-before, What-a-panel-sees, Either-grouping, Nothing-stated, end-record, End-alone, Examples}
-use Rattle.loader.proofs.Demand3.{load-answer, fit-stopping, plain, as-plain, plain-sizes, row, mark-of, fit-window, what-is-stored, sizes-kept}
+use Rattle.window.proofs.Loads.{load-answer, fit-stopping, plain, as-plain, plain-sizes, row, mark-of, fit-window}
+use Rattle.loader.proofs.Demand3.{what-is-stored, sizes-kept}
 
 -- ---- what ends a text
 
-only-one : (a : Action) → List·Memᴰ finishes (a ∷ []) → finishes ≡ a
-only-one a m = go (List·Memᴰ·cases-cons m)
+only-one : (x a : Action) → List·Memᴰ x (a ∷ []) → x ≡ a
+only-one x a m = go (List·Memᴰ·cases-cons m)
   where
-    go : (finishes ≡ a) ⊎ List·Memᴰ finishes [] → finishes ≡ a
+    go : (x ≡ a) ⊎ List·Memᴰ x [] → x ≡ a
     go (inl e) = e
     go (inr n) = absurd (List·Memᴰ·not-nil n)
 
 -- only an end record does, and it does nothing else
 ends-so : (base : Base) (m : Meaning) → List·Memᴰ finishes (does base m) → m ≡ end-of-file
 unfolding does
-ends-so base (data-at offset bytes) e = let q = only-one (places (placed base offset 0 bytes)) e in let z : _≡_ {A = ℕ} 0 1 = cc in absurd (omega arith)
+ends-so base (data-at offset bytes) e = let q = only-one finishes (places (placed base offset 0 bytes)) e in let z : _≡_ {A = ℕ} 0 1 = cc in absurd (omega arith)
 ends-so base end-of-file e = refl
 ends-so base (extended-segment x) e = absurd (List·Memᴰ·not-nil e)
 ends-so base (start-segment cs ip) e = absurd (List·Memᴰ·not-nil e)
@@ -62,12 +64,27 @@ ends-so base (start-linear x) e = absurd (List·Memᴰ·not-nil e)
 said-end : (base : Base) (said : Said) → List·Memᴰ finishes (act base said) → said-record said ≡ some end-of-file
 unfolding act said-record
 said-end base (says kind address payload) e = ap (λ (m : Meaning). some m) (ends-so base (meaning kind address payload) e)
-said-end base (wrong r) e = let q = only-one (fails r) e in let z : _≡_ {A = ℕ} 0 1 = cc in absurd (omega arith)
+said-end base (wrong r) e = let q = only-one finishes (fails r) e in let z : _≡_ {A = ℕ} 0 1 = cc in absurd (omega arith)
 
 end-said : (base : Base) (said : Said) → said-record said ≡ some end-of-file → act base said ≡ finishes ∷ []
 unfolding act said-record does
 end-said base (says kind address payload) e = let m : meaning kind address payload ≡ end-of-file = cc in rw m
 end-said base (wrong r) e = let z : _≡_ {A = ℕ} 0 1 = cc in absurd (omega arith)
+
+-- and no line states a count
+none-counts : (base : Base) (m : Meaning) (c : ℕ) → ¬ List·Memᴰ (counts c) (does base m)
+unfolding does
+none-counts base (data-at offset bytes) c e = let q = only-one (counts c) (places (placed base offset 0 bytes)) e in let z : _≡_ {A = ℕ} 0 1 = cc in omega arith
+none-counts base end-of-file c e = let q = only-one (counts c) finishes e in let z : _≡_ {A = ℕ} 0 1 = cc in omega arith
+none-counts base (extended-segment x) c e = List·Memᴰ·not-nil e
+none-counts base (start-segment cs ip) c e = List·Memᴰ·not-nil e
+none-counts base (extended-linear x) c e = List·Memᴰ·not-nil e
+none-counts base (start-linear x) c e = List·Memᴰ·not-nil e
+
+no-count : (base : Base) (said : Said) (c : ℕ) → ¬ List·Memᴰ (counts c) (act base said)
+unfolding act
+no-count base (says kind address payload) c e = none-counts base (meaning kind address payload) c e
+no-count base (wrong r) c e = let q = only-one (counts c) (fails r) e in let z : _≡_ {A = ℕ} 0 1 = cc in omega arith
 
 pub may-be-joined : May-be-joined
 unfolding intel-by act does base-behind judge meaning number-after lines
@@ -78,6 +95,7 @@ may-be-joined =
       silent = λ base. refl;
       back = λ base. refl;
       plain-end = λ base line e. end-said base (judge line) (said-end base (judge line) e);
+      no-count = λ base line. no-count base (judge line);
     }
 
 -- ---- lines that are end records, whatever the base
@@ -150,7 +168,7 @@ before-end-only-so text before b =
 -- an accepted text has an end
 has-end : (text : List ℕ) (first : ℕ) (page marks : List ℕ) (k : Tally) → (load text first page marks) .answer ≡ accepted k → Has-end intel text
 has-end text first page marks k e =
-    general-joined.accepted-has-end _ intel (room-of first page marks) text page (flags (length page) marks) k (sym (as-plain text first page marks .answers) ∙ e)
+    general-joined.accepted-has-end _ intel (room-of first page marks) text page (flags (length page) marks) k (sym (as-plain intel text first page marks .answers) ∙ e)
 
 pub accepted-has-end : Accepted-has-end
 accepted-has-end text first page marks k e =
@@ -158,7 +176,7 @@ accepted-has-end text first page marks k e =
     (h .line, rw (h .whole) (Memᴰ·append-right (h .before) (List·Memᴰ·head refl)), is-record (state-after intel (intel .beginning) (h .before)) (h .line) (h .is-end))
 
 pub answer-by-lengths : Answer-by-lengths
-unfolding load load-packed
+unfolding load-window load-packed
 answer-by-lengths text first page marks page′ marks′ lp lm =
     plain-answer (room-of first page marks) page (flags (length page) marks)
     ∙ ap₂ (λ (p m : ℕ). judged (one-window first p m) (source.steps-of intel text)) lp lm
@@ -168,14 +186,14 @@ answer-by-lengths text first page marks page′ marks′ lp lm =
     plain-answer room page marks = sites-proved.load-answer intel room text page marks
 
 pub joined-accepted : Joined-accepted
-unfolding load load-packed join.joined
+unfolding load-window load-packed join.joined
 joined-accepted first a b page marks ta tj =
     general-joined.joined-accepted _ intel reset may-be-joined (room-of first page marks) a b page (flags (length page) marks) ta tj
 
 -- the answer to the joined text, from B's
 pub joined-answer : (first : ℕ) (a b page marks : List ℕ) (ta : Tally) → (load a first page marks) .answer ≡ accepted ta
     → (load (joined a b) first page marks) .answer ≡ after-verdict (suc (length (lines (before-end a)))) ta ((load b first page marks) .answer)
-unfolding load load-packed join.joined
+unfolding load-window load-packed join.joined
 joined-answer first a b page marks ta e =
     rw (← general.lines-ahead-counts _ intel a (has-end a first page marks ta e))
     (general-joined.joined-answer _ intel reset may-be-joined (room-of first page marks) a b page (flags (length page) marks) ta e)
@@ -185,7 +203,7 @@ joined-refused first a b page marks ta r line ea eb =
     joined-answer first a b page marks ta ea ∙ ap (after-verdict (suc (length (lines (before-end a)))) ta) eb
 
 pub joined-states : Joined-states
-unfolding load load-packed placements steps-of join.joined
+unfolding load-window load-packed join.joined
 joined-states first a b page marks ta e =
     general-joined.joined-states _ intel reset may-be-joined (room-of first page marks) a b page (flags (length page) marks) ta e
 
@@ -212,7 +230,7 @@ module _ (first : ℕ) (a b page ma mb mj : List ℕ) (ta tb : Tally) (lm : leng
   pages-same = sizes-kept a first page ma .0
 
   rows-same : length mb ≡ length mj
-  rows-same = fit-window b first (la .page) mb tb eb .row ∙ ap row-length pages-same ∙ sym (fit-window a first page ma ta ea .row) ∙ sym lm
+  rows-same = fit-window intel b first (la .page) mb tb eb .row ∙ ap row-length pages-same ∙ sym (fit-window intel a first page ma ta ea .row) ∙ sym lm
 
   accepted-both : lj .answer ≡ accepted (together ta tb)
   accepted-both =
@@ -220,26 +238,26 @@ module _ (first : ℕ) (a b page ma mb mj : List ℕ) (ta tb : Tally) (lm : leng
       .1 (tb, answer-by-lengths b first page mj (la .page) mb (sym pages-same) (sym rows-same) ∙ eb, refl)
 
   -- the loads with their marks unpacked, in one room
-  plain-a : sites.load intel (room-of first page mj) a page (flags (length page) ma) ≡ plain a first page ma
+  plain-a : sites.load intel (room-of first page mj) a page (flags (length page) ma) ≡ plain intel a first page ma
   plain-a = ap (λ (n : ℕ). sites.load intel (one-window first (length page) n) a page (flags (length page) ma)) lm
 
   plain-page : (sites.load intel (room-of first page mj) a page (flags (length page) ma)) .page ≡ la .page
-  plain-page = ap (λ (l : Loaded). l .page) plain-a ∙ sym (as-plain a first page ma .pages)
+  plain-page = ap (λ (l : Loaded). l .page) plain-a ∙ sym (as-plain intel a first page ma .pages)
 
   plain-b : sites.load intel (room-of first page mj) b ((sites.load intel (room-of first page mj) a page (flags (length page) ma)) .page) (flags (length page) mb)
-      ≡ plain b first (la .page) mb
+      ≡ plain intel b first (la .page) mb
   plain-b =
       ap (λ (p : List ℕ). sites.load intel (room-of first page mj) b p (flags (length page) mb)) plain-page
       ∙ ap₂ (λ (m n : ℕ). sites.load intel (one-window first m n) b (la .page) (flags m mb)) (sym pages-same) (sym rows-same)
 
-  upon : join.Upon (room-of first page mj .site) (length (flags (length page) mj)) (plain a first page ma) (plain b first (la .page) mb) (plain (joined a b) first page mj)
+  upon : join.Upon (room-of first page mj .site) (length (flags (length page) mj)) (plain intel a first page ma) (plain intel b first (la .page) mb) (plain intel (joined a b) first page mj)
   unfolding join.joined
   upon =
-      subst₂ (λ (x y : Loaded). join.Upon (room-of first page mj .site) (length (flags (length page) mj)) x y (plain (joined a b) first page mj)) plain-a plain-b
+      subst₂ (λ (x y : Loaded). join.Upon (room-of first page mj .site) (length (flags (length page) mj)) x y (plain intel (joined a b) first page mj)) plain-a plain-b
       (general-joined.one-upon-another _ intel reset may-be-joined (room-of first page mj) a b page (flags (length page) ma) (flags (length page) mb) (flags (length page) mj) ta tb
       (flags-length (length page) ma ∙ sym (flags-length (length page) mj)) (flags-length (length page) mb ∙ sym (flags-length (length page) mj))
-      (ap (λ (l : Loaded). l .answer) plain-a ∙ sym (as-plain a first page ma .answers) ∙ ea)
-      (ap (λ (l : Loaded). l .answer) plain-b ∙ sym (as-plain b first (la .page) mb .answers) ∙ eb))
+      (ap (λ (l : Loaded). l .answer) plain-a ∙ sym (as-plain intel a first page ma .answers) ∙ ea)
+      (ap (λ (l : Loaded). l .answer) plain-b ∙ sym (as-plain intel b first (la .page) mb .answers) ∙ eb))
 
   shown : (p : ℕ) → p < length page → room-of first page mj .site p ≡ some (first + p)
   unfolding one-window
@@ -248,18 +266,18 @@ module _ (first : ℕ) (a b page ma mb mj : List ℕ) (ta tb : Tally) (lm : leng
   union : (p : ℕ) → mark-at (lj .marks) p ≡ max (mark-at (la .marks) p) (mark-at (lb .marks) p)
   union p = split (length page) p
       (λ beyond. rw (
-        row (joined a b) first page mj (together ta tb) accepted-both .unused p (omega (arith, plain-sizes (joined a b) first page mj .1)),
-        row a first page ma ta ea .unused p (omega (arith, plain-sizes a first page ma .1)),
-        row b first (la .page) mb tb eb .unused p (omega (arith, plain-sizes b first (la .page) mb .1, pages-same)),
+        row intel (joined a b) first page mj (together ta tb) accepted-both .unused p (omega (arith, plain-sizes intel (joined a b) first page mj .1)),
+        row intel a first page ma ta ea .unused p (omega (arith, plain-sizes intel a first page ma .1)),
+        row intel b first (la .page) mb tb eb .unused p (omega (arith, plain-sizes intel b first (la .page) mb .1, pages-same)),
       ))
       (λ below.
-      mark-of (joined a b) first page mj (together ta tb) accepted-both p below
+      mark-of intel (joined a b) first page mj (together ta tb) accepted-both p below
       ∙ upon .marks p (omega (arith, flags-length (length page) mj)) (first + p, shown p below)
-      ∙ sym (ap₂ max (mark-of a first page ma ta ea p below) (mark-of b first (la .page) mb tb eb p (omega (arith, pages-same)))))
+      ∙ sym (ap₂ max (mark-of intel a first page ma ta ea p below) (mark-of intel b first (la .page) mb tb eb p (omega (arith, pages-same)))))
 
   upon-another : (lj .answer ≡ accepted (together ta tb)) × Upon la lb lj
   upon-another =
-      (accepted-both, record { pages = as-plain (joined a b) first page mj .pages ∙ upon .pages ∙ sym (as-plain b first (la .page) mb .pages); marks = union })
+      (accepted-both, record { pages = as-plain intel (joined a b) first page mj .pages ∙ upon .pages ∙ sym (as-plain intel b first (la .page) mb .pages); marks = union })
 
 pub one-upon-another : One-upon-another
 one-upon-another first a b page ma mb mj ta tb lm ea eb = upon-another first a b page ma mb mj ta tb lm ea eb
@@ -286,17 +304,17 @@ what-a-panel-sees first a b page ma mb mj ta tb lm ea eb i h =
 -- ---- nothing stated
 
 pub nothing-stated : Nothing-stated
-unfolding placements steps-of one-window
+unfolding one-window
 nothing-stated text first page marks k e s =
-    let p = as-plain text first page marks in
+    let p = as-plain intel text first page marks in
     let l = load text first page marks in
     let (kept, zero) = general-joined.nothing-stated _ intel (room-of first page marks) text page (flags (length page) marks) k (sym (p .answers) ∙ e) s in
     let size = length-replicate {A = ℕ} (length marks) 0 in (
       p .pages ∙ kept,
-      same-row (l .marks) (replicate (length marks) 0) (row text first page marks k e .bytes) (zeros-bytes (length marks)) (sizes-kept text first page marks .1 ∙ sym size)
+      same-row (l .marks) (replicate (length marks) 0) (row intel text first page marks k e .bytes) (zeros-bytes (length marks)) (sizes-kept text first page marks .1 ∙ sym size)
           (λ i h. split (length page) i
-          (λ beyond. row text first page marks k e .unused i (omega (arith, plain-sizes text first page marks .1)))
-          (λ below. mark-of text first page marks k e i below
+          (λ beyond. row intel text first page marks k e .unused i (omega (arith, plain-sizes intel text first page marks .1)))
+          (λ below. mark-of intel text first page marks k e i below
           ∙ zero i (omega (arith, flags-length (length page) marks)) (first + i, shows first (length page) i below))
           ∙ sym (zeros-none (length marks) i)),
     )
@@ -305,22 +323,22 @@ nothing-stated text first page marks k e s =
 alone : (text : List ℕ) → ((inside : ℕ → Bool) → verdict (decision inside nothing-yet (steps-of text)) ≡ accepted (record { records = 0 })) → placements text ≡ []
     → (first : ℕ) (page marks : List ℕ) → Window first page marks
     → load text first page marks ≡ record { answer = accepted (record { records = 0 }); page = page; marks = replicate (length marks) 0 }
-unfolding sites.stopping-by stopping
+unfolding sites.stopping-by stopping-by-window
 alone text d s first page marks w = go (unfit first (length page) (length marks)) refl
   where
     go : (b : Bool) → unfit first (length page) (length marks) ≡ b → load text first page marks ≡ record { answer = accepted (record { records = 0 }); page = page; marks = replicate (length marks) 0 }
     go true e = absurd (no-window first page marks e w)
     go false e =
-        let answer = load-answer text first page marks ∙ ap verdict (fit-stopping first page marks (steps-of text) e) ∙ d (within first (length page)) in
+        let answer = load-answer intel text first page marks ∙ ap verdict (fit-stopping first page marks (steps-of text) e) ∙ d (within first (length page)) in
         let (p, m) = nothing-stated text first page marks (record { records = 0 }) answer s in
         λ i. record { answer = answer i; page = p i; marks = m i }
 
 pub end-alone : End-alone
-unfolding steps-of source.steps-of placements intel-by judge meaning number-after decision verdict
+unfolding source.steps-of intel-by judge meaning number-after decision verdict stated
 end-alone first page marks w = (alone end-record (λ inside. refl) refl first page marks w, alone (end-record ++ (LF ∷ [])) (λ inside. refl) refl first page marks w)
 
 -- ---- examples
 
 pub examples : Examples
-unfolding load placements intel-by judge meaning number-after join.joined
+unfolding load-window source.steps-of stated intel-by judge meaning number-after join.joined
 examples = record { ends-by-the-judge = refl; text-is = refl; one-load = refl; the-first = refl; the-second = refl; later-line = refl; no-line = refl; with-the-line = refl; without-it = refl; in-a-segment = refl; under-type-04 = refl }

@@ -1,6 +1,5 @@
 pub mod Rows
 pub mod Demand3
-pub mod Packed
 pub mod Reasons
 pub mod Claims
 pub mod OneReason
@@ -10,7 +9,6 @@ pub mod Meeting
 pub mod Passes
 pub mod Loads
 pub mod Segments
-pub mod Puts
 pub mod Stored
 pub mod Apart
 pub mod Agreeing

@@ -20,17 +20,15 @@ use Rattle.steps.specs.Steps.{Step, accepted, refused, outside, turn, decision,
 use Rattle.window.specs.declared.Reach.{Reach}
 use Rattle.window.specs.declared.Reach.the-variants.{Inside, Outside}
 use Rattle.window.specs.Window.{within}
-use Rattle.window.specs.Contracts.{first-byte, Painted}
-use Rattle.window.proofs.Packed.{row-same}
-use Rattle.marks.specs.Marks.{bits}
-use Rattle.steps.proofs.Places.{painted-none}
+use Rattle.window.specs.Contracts.{first-byte, Surveyed, Painted}
+use Rattle.window.proofs.Loads.{painted-nothing}
 use Rattle.loader.specs.declared.Base.{Base as CodeBase}
 use Rattle.loader.specs.declared.Base.the-variants.{Segment, Linear}
-use Rattle.loader.specs.declared.Tally.{Tally as CodeTally}
+use Rattle.steps.specs.declared.Tally.{Tally as CodeTally}
 use Rattle.loader.specs.declared.Walk.{Walk}
 use Rattle.loader.specs.Placing.{Base, base-behind, byte-address, placed, does}
-use Rattle.loader.specs.Told.{tallied}
-use Rattle.loader.specs.Helpers.{based, Surveyed, stated-by, Short, Lies-in, Behind, does-on, Passed}
+use Rattle.steps.specs.Told.{tallied}
+use Rattle.loader.specs.Helpers.{based, stated-by, Short, Lies-in, Behind, does-on, Passed}
 
 -- ---- the base behind a record
 
@@ -80,7 +78,7 @@ module _ (first size : ℕ) (w : Walk) (tally : CodeTally) (x : Record) (pool : 
   inside = within first size
 
   -- where the payload of a data record lies, as it was surveyed
-  surveyed : (offset at len : ℕ) → x ≡ Data offset at len → (r : Reach) → Surveyed (based (w .base)) offset len first size r
+  surveyed : (offset at len : ℕ) → x ≡ Data offset at len → (r : Reach) → Surveyed (byte-address (based (w .base)) offset) len first size r
       → outside inside (placed (based (w .base)) offset 0 (take len (drop at pool))) ≡ Option·map (byte-address (based (w .base)) offset) (first-byte r)
   surveyed offset at len e r s =
       let l : Lies-in (Data offset at len) pool = rw e at lies in
@@ -90,7 +88,7 @@ module _ (first size : ℕ) (w : Walk) (tally : CodeTally) (x : Record) (pool : 
   abbrev pub there : CodeBase → Walk
   there b = record { state = w .state; base = b }
 
-  pub met-inside : (offset at len : ℕ) → x ≡ Data offset at len → Surveyed (based (w .base)) offset len first size Inside
+  pub met-inside : (offset at len : ℕ) → x ≡ Data offset at len → Surveyed (byte-address (based (w .base)) offset) len first size Inside
       → (b : CodeBase) → Behind (w .base) x b → Passed inside w tally (meant x pool) (there b) (record { records = tally .records + 1 })
   unfolding decision turn does is-end
   met-inside offset at len e s b k =
@@ -102,7 +100,7 @@ module _ (first size : ℕ) (w : Walk) (tally : CodeTally) (x : Record) (pool : 
       → (b : CodeBase) → Behind (w .base) x b → Passed inside w tally (meant x pool) (there b) tally
   met-quiet e q b k = record { state = refl; base = k .base-is pool; goes-on = e; counted = omega arith; same = λ rest. rw (q (based (w .base))) }
 
-  pub met-outside : (offset at len i : ℕ) → x ≡ Data offset at len → Surveyed (based (w .base)) offset len first size (Outside i)
+  pub met-outside : (offset at len i : ℕ) → x ≡ Data offset at len → Surveyed (byte-address (based (w .base)) offset) len first size (Outside i)
       → (rest : List Step) → refused (outside-window (byte-address (based (w .base)) offset i)) (w .state .line) ≡ verdict (decision inside (tallied tally) (does-on (w .state .line) (based (w .base)) (meant x pool) ++ rest))
   unfolding decision turn does verdict
   met-outside offset at len i e s rest = let o = surveyed offset at len e (Outside i) s in rw (e, o)
@@ -117,7 +115,7 @@ module _ (first size : ℕ) (w : Walk) (tally : CodeTally) (x : Record) (pool : 
 module _ (first : ℕ) (base : Base) (x : Record) (pool page marks : List ℕ) where
   -- a record that states nothing leaves page and marks as they are
   pub idle : stated-by base (meant x pool) ≡ [] → Painted first (stated-by base (meant x pool)) page marks page marks
-  idle e = rw e (record { page = sym (painted-none _ 0 page); marks = sym (painted-none _ 0 (bits marks)); row = row-same marks })
+  idle e = rw e (painted-nothing first page marks)
 
   pub painted-data : (offset at len : ℕ) (page′ marks′ : List ℕ) → x ≡ Data offset at len
       → Painted first (placed base offset 0 (take (at + len - at) (drop at pool))) page marks page′ marks′ → Painted first (stated-by base (meant x pool)) page marks page′ marks′

@@ -22,11 +22,13 @@ use Rattle.steps.specs.Source as source
 use Rattle.steps.specs.Sites.{painted, marked}
 use Rattle.steps.proofs.Sites.{accepted-by}
 use Rattle.window.specs.Window.{window}
-use Rattle.loader.specs.Placing.{from-start, intel-by}
+use Rattle.loader.specs.Placing.{from-start, intel-by, intel}
 use Rattle.marks.specs.Marks.{flags, packed}
-use Rattle.loader.specs.Load.{room-of, steps-of, placements, stopping, load}
+use Rattle.window.specs.Load.{room-of, stopping-by-window, load-window}
+use Rattle.loader.specs.Load.{steps-of, placements, stopping, load}
 use Rattle.loader.specs.Noise.{No-LF, Slips, the-rest, last-line, one-more, Damaged, one-slip, one-in-each-line, cut-off, Refused-or-same, is-refused, is-the-same, Damage-is-noticed, Examples}
-use Rattle.loader.proofs.Demand3.{load-answer, accepted-load, refusal-changes-nothing}
+use Rattle.window.proofs.Loads.{load-answer, accepted-load}
+use Rattle.loader.proofs.Demand3.{refusal-changes-nothing}
 use Rattle.loader.proofs.Agreeing.{Fine, word, Agree, agree-swap, agree-none, agree-fine, agree-word, agree-skip, agree-same, agree-after}
 use Rattle.loader.proofs.Edits.{few, swapped, Turn, turn-at, turn, without-CR, without-append, without-parts, without-few, without-turned, edited, no-LF-append, feed-or-not, Tail, ends, feeds, first-cut, last-cut, cut-rest, fine-line}
 
@@ -210,16 +212,16 @@ equal-loads : (text text′ : List ℕ) (first : ℕ) (page marks : List ℕ) (t
     → verdict (stopping text first page marks) ≡ accepted t → verdict (stopping text′ first page marks) ≡ accepted t′
     → t ≡ t′ → placements text ≡ placements text′ → load text′ first page marks ≡ load text first page marks
 equal-loads text text′ first page marks t t′ e e′ tallies ps =
-    accepted-load text′ first page marks t′ e′
+    accepted-load intel text′ first page marks t′ e′
     ∙ ap₂ (λ (k : Tally) (l : List Placement). record { answer = accepted k; page = painted (window first (length page)) 0 l page; marks = packed (marked (window first (length page)) 0 l (flags (length page) marks)) }) (sym tallies) (sym ps)
-    ∙ sym (accepted-load text first page marks t e)
+    ∙ sym (accepted-load intel text first page marks t e)
 
 module _ (text text′ : List ℕ) (agree : (inside : ℕ → Bool) → Agree inside (lines text) (lines text′)) where
   -- two texts that are both accepted
   same-load : (first : ℕ) (page marks : List ℕ) (t t′ : Tally)
       → verdict (stopping text first page marks) ≡ accepted t → verdict (stopping text′ first page marks) ≡ accepted t′
       → load text′ first page marks ≡ load text first page marks
-  unfolding stopping placements steps-of source.steps-of intel-by
+  unfolding stopping-by-window source.steps-of intel-by
   same-load first page marks t t′ e e′ =
       let room = room-of first page marks in
       let (m, d) = accepted-by (room .fault) (room .inside) (steps-of text) t e in
@@ -239,9 +241,9 @@ load-noticed text text′ d first page marks tally e = go (verdict (stopping tex
         → let l = load text first page marks in let l′ = load text′ first page marks in
         Refused-or-same page marks (l .answer) (l .page) (l .marks) (l′ .answer) (l′ .page) (l′ .marks)
     go (accepted t′) e′ =
-        rw (same-load text text′ (λ inside. damaged inside text text′ d) first page marks tally t′ (sym (load-answer text first page marks) ∙ e) e′) is-the-same
+        rw (same-load text text′ (λ inside. damaged inside text text′ d) first page marks tally t′ (sym (load-answer intel text first page marks) ∙ e) e′) is-the-same
     go (refused why n) e′ =
-        let a : (load text′ first page marks) .answer ≡ refused why n = load-answer text′ first page marks ∙ e′ in
+        let a : (load text′ first page marks) .answer ≡ refused why n = load-answer intel text′ first page marks ∙ e′ in
         let (q, k) = refusal-changes-nothing text′ first page marks why n a in
         rw (a, q, k) (is-refused why n)
 
@@ -253,5 +255,5 @@ damage-is-noticed text text′ d first page marks r p m tally l e r′ p′ m′
 -- ---- examples
 
 pub examples : Examples
-unfolding load intel-by judge meaning number-after
+unfolding load-window intel-by judge meaning number-after
 examples = record { small-letter = refl; other-digit = refl; joined = refl; CR-added = refl; swapped = refl; LF-cut-off = refl; digit-cut-off = refl }

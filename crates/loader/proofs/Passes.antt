@@ -29,17 +29,19 @@ use Rattle.steps.specs.Runs.{as-mark}
 use Rattle.steps.proofs.Places.{length-painted, painted-append}
 use Rattle.window.specs.Window.{window}
 use Rattle.window.specs.Contracts.{Painted}
+use Rattle.window.proofs.Loads.{painting-step}
 use Rattle.marks.specs.Marks.{bits}
 use Rattle.loader.specs.declared.Base.{Base as CodeBase}
 use Rattle.loader.specs.declared.Base.the-variants.{Segment}
-use Rattle.loader.specs.declared.Tally.{Tally as CodeTally}
+use Rattle.steps.specs.declared.Tally.{Tally as CodeTally}
 use Rattle.loader.specs.declared.Turn.{Turn}
 use Rattle.loader.specs.declared.Turn.the-variants.{On, Stop}
 use Rattle.loader.specs.declared.Walk.{Walk}
 use Rattle.loader.specs.Placing.{Base, base-behind, does, act, base-after, along}
 use Rattle.loader.specs.Load.{steps-of}
-use Rattle.loader.specs.Told.{tallied}
-use Rattle.loader.specs.Helpers.{based, stated-by, Behind, left, ahead-of, does-on, Under-way, Few, Met, Judged, Same-painting, Written-on}
+use Rattle.steps.specs.Told.{tallied}
+use Rattle.window.specs.Load.{Same-painting}
+use Rattle.loader.specs.Helpers.{based, stated-by, Behind, left, ahead-of, does-on, Under-way, Few, Met, Judged, Written-on}
 use Rattle.loader.proofs.Rows.{steps-along}
 use Rattle.loader.proofs.Calls.{One}
 
@@ -143,9 +145,6 @@ module _ (text : List ℕ) (w : Walk) (pool : List ℕ) (r : Replied) (pool′ :
   wrote first page₀ marks₀ page′ marks′ x one b p h =
       record { under-way = record { options = one .options; countable = one .countable }; less = shorter x one; same = same }
     where
-      site : (place : ℕ) → Option ℕ
-      site = window first (length page₀)
-
       ps : List Placement
       ps = stated-by (based (w .base)) (meant x pool′)
 
@@ -156,14 +155,7 @@ module _ (text : List ℕ) (w : Walk) (pool : List ℕ) (r : Replied) (pool′ :
       all = stated-ahead x one ∙ ap (λ (y : Base). ps ++ stated (left y (unread (r .state) text))) (sym (h .base-is pool′))
 
       same : Same-painting first (ahead-of w text) page₀ marks₀ (left (based b) (unread (r .state) text)) page′ marks′
-      same =
-          record {
-            size = ap length (p .page) ∙ length-painted site ps 0 page₀;
-            page = ap (painted site 0 qs) (p .page) ∙ sym (painted-append site 0 ps qs page₀) ∙ ap (λ (l : List Placement). painted site 0 l page₀) (sym all);
-            marks = ap (painted site 0 (map as-mark qs)) (p .marks) ∙ sym (painted-append site 0 (map as-mark ps) (map as-mark qs) (bits marks₀))
-                ∙ ap (λ (l : List Placement). painted site 0 l (bits marks₀)) (sym (map-append as-mark ps qs) ∙ ap (map as-mark) (sym all));
-            row = p .row;
-          }
+      same = painting-step first (ahead-of w text) (left (based b) (unread (r .state) text)) ps page₀ marks₀ page′ marks′ all p
 
   -- after a line that is refused, and after the last line, nothing is stated
   pub refused-states : (n : ℕ) (e : ReaderError) (more : List Numbered) → unread (w .state) text ≡ on n (wrong (refusal-of e)) ∷ more → stated (ahead-of w text) ≡ []

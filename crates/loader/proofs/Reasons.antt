@@ -4,19 +4,20 @@ use mathlib.Core.Path.{_≡_, refl, sym, ap, _∙_}
 use mathlib.Core.Logic.{_≢_}
 use Prim.Native.Nat.{ℕ, suc, _+_}
 use native.Mathlib.Omega.{arith}
-use mathlib.Core.Bool.{Bool, true, false}
+use mathlib.Core.Bool.{Bool}
 use mathlib.Core.Option.{Option, none, some, Option·getD}
-use mathlib.Core.List.{List, [], _∷_, _++_, map, append-assoc, append-nil, nil≢cons}
-use lib.ListN.{length}
-use Rattle.digits.specs.Common.{if_then_else_, or-else, Every}
+use mathlib.Core.List.{List, [], _∷_, _++_, map, nil≢cons}
+use Rattle.digits.specs.Common.{or-else}
 use Rattle.record.specs.Line.{Said, says, wrong, judge}
 use Rattle.record.specs.Meaning.{Meaning, data-at, end-of-file, extended-segment, start-segment, extended-linear, start-linear, meaning}
 use Rattle.record.proofs.Choices.{or-else-none, or-else-assoc, getD-or-else}
-use Rattle.steps.specs.Steps.{Placement, Step, step, Tally, one-more, Verdict, accepted, refused, Decision, by, outside, at-data as met, turn, onward, decision, stated}
+use Rattle.steps.specs.Steps.{Step, step, Tally, one-more, refused, outside, at-data as met, turn, onward, decision, stated}
 use Rattle.steps.specs.Source.{steps}
+use Rattle.steps.proofs.Firsts.{Seen, seen, Walked, past, here}
 use Rattle.loader.specs.Placing.{Base, segment, linear, stated-by, base-behind, placed, does, act, base-after, intel, intel-by}
 use Rattle.loader.specs.Helpers.{does-on}
-use Rattle.loader.specs.Claims.{said-record, record-on, sets, latest, in-force, states, all-states, counts, data-records, Counted, Passes, is-empty, goes-on, All-pass, Stops, the-end, no-record, first-outside}
+use Rattle.loader.specs.Claims.{said-record, record-on, sets, latest, in-force, states, counts, data-records, Counted, is-empty, goes-on, the-end, no-record, first-outside}
+use Rattle.loader.proofs.OneReason.{account}
 
 -- ---- one line more behind lines
 
@@ -47,85 +48,16 @@ unfolding data-records
 records-snoc [] l o e = rw e
 records-snoc (x ∷ ahead) l o e = let h = records-snoc ahead l o e in omega arith
 
--- ---- the first placement outside
+-- ---- the line that decides
 
 module _ (inside : ℕ → Bool) where
-  abbrev pub All-inside : List Placement → Type 0
-  All-inside ps = Every (λ (p : Placement). inside (p .address) ≡ true) ps
-
-  pub record First (ps : List Placement) (address : ℕ) : Type 0 where
-    pub before : List Placement
-    pub after : List Placement
-    pub p : Placement
-    pub whole : ps ≡ before ++ (p ∷ after)
-    pub insides : All-inside before
-    pub out : inside (p .address) ≡ false
-    pub there : p .address ≡ address
-
-  abbrev pub Seen : List Placement → Option ℕ → Type 0
-  Seen ps none = All-inside ps
-  Seen ps (some address) = First ps address
-
-  pub seen : (ps : List Placement) → Seen ps (outside inside ps)
-  unfolding outside
-  seen [] = tt
-  seen (p ∷ ps) = go (inside (p .address)) refl (outside inside ps) (seen ps)
-    where
-      go : (b : Bool) → inside (p .address) ≡ b → (o : Option ℕ) → Seen ps o → Seen (p ∷ ps) (if b then o else some (p .address))
-      go true e none s = (e, s)
-      go true e (some a) s =
-          record { before = p ∷ s .before; after = s .after; p = s .p; whole = ap (λ (l : List Placement). p ∷ l) (s .whole); insides = (e, s .insides); out = s .out; there = s .there }
-      go false e o s = record { before = []; after = ps; p = p; whole = refl; insides = tt; out = e; there = refl }
-
-  -- ---- the line that decides
-
-  -- of lines numbered from n on, behind others, whose steps are s: line m decides, and those ahead of it pass
-  pub record Found (ahead : List (List ℕ)) (s : List Step) (n : ℕ) (ls : List (List ℕ)) (m : ℕ) (v : Verdict) : Type 0 where
-    pub mid : List (List ℕ)
-    pub line : List ℕ
-    pub later : List (List ℕ)
-    pub whole : ls ≡ mid ++ (line ∷ later)
-    pub number : m ≡ n + length mid
-    pub pass : All-pass inside ahead mid
-    pub stops : Stops inside (ahead ++ mid) line m v
-    pub states : (t : Tally) → v ≡ accepted t → stated s ≡ all-states ahead mid
-
-  abbrev pub Walked : (ahead : List (List ℕ)) → List Step → ℕ → List (List ℕ) → Option Decision → Type 0
-  Walked ahead s n ls none = All-pass inside ahead ls
-  Walked ahead s n ls (some (by m v)) = Found ahead s n ls m v
-
-  -- a line that passes
-  past : (ahead : List (List ℕ)) (l : List ℕ) (s s′ : List Step) (n : ℕ) (ls : List (List ℕ)) → Passes inside ahead l
-      → stated s ≡ states ahead (record-on l) ++ stated s′
-      → (d : Option Decision) → Walked (ahead ++ (l ∷ [])) s′ (suc n) ls d → Walked ahead s n (l ∷ ls) d
-  unfolding all-states
-  past ahead l s s′ n ls p e none w = (p, w)
-  past ahead l s s′ n ls p e (some (by m v)) w =
-      record {
-        mid = l ∷ w .mid;
-        line = w .line;
-        later = w .later;
-        whole = ap (λ (x : List (List ℕ)). l ∷ x) (w .whole);
-        number = omega (arith, w .number);
-        pass = (p, w .pass);
-        stops = rw append-assoc at (w .stops);
-        states = λ t h. e ∙ ap (λ (x : List Placement). states ahead (record-on l) ++ x) (w .states t h);
-      }
-
-  -- a line that decides
-  here : (ahead : List (List ℕ)) (l : List ℕ) (s : List Step) (n : ℕ) (ls : List (List ℕ)) (v : Verdict) → Stops inside ahead l n v
-      → ((t : Tally) → v ≡ accepted t → stated s ≡ []) → Found ahead s n (l ∷ ls) n v
-  unfolding all-states
-  here ahead l s n ls v w e =
-      record { mid = []; line = l; later = ls; whole = refl; number = omega arith; pass = tt; stops = rw append-nil w; states = e }
-
   module _ (n : ℕ) (ahead : List (List ℕ)) (tally : Tally) (counted : Counted tally ahead) (l : List ℕ) (some-byte : l ≢ []) (ls : List (List ℕ)) where
     -- the steps of the lines after this one, from a base on
     abbrev rest : Base → List Step
     rest base = steps intel base (suc n) ls
 
     abbrev Behind : Base → Tally → Type 0
-    Behind base t = Walked (ahead ++ (l ∷ [])) (rest base) (suc n) ls (decision inside t (rest base))
+    Behind base t = Walked (account inside) (ahead ++ (l ∷ [])) (rest base) (suc n) ls (decision inside t (rest base))
 
     -- the steps of a record on line n, and those of the lines after it
     abbrev from-record : Base → Meaning → List Step
@@ -136,31 +68,31 @@ module _ (inside : ℕ → Bool) where
 
     at-data : (offset : ℕ) (bytes : List ℕ) → record-on l ≡ some (data-at offset bytes)
         → Behind (in-force ahead) (one-more tally)
-        → (o : Option ℕ) → Seen (placed (in-force ahead) offset 0 bytes) o
-        → Walked ahead (from-record (in-force ahead) (data-at offset bytes)) n (l ∷ ls) (onward n (met n o tally) (λ t′. decision inside t′ (rest (in-force ahead))))
+        → (o : Option ℕ) → Seen inside (placed (in-force ahead) offset 0 bytes) o
+        → Walked (account inside) ahead (from-record (in-force ahead) (data-at offset bytes)) n (l ∷ ls) (onward n (met n o tally) (λ t′. decision inside t′ (rest (in-force ahead))))
     unfolding does base-behind stated states stated-by
     at-data offset bytes e ih none s =
-        past ahead l _ (rest (in-force ahead)) n ls (goes-on (data-at offset bytes) some-byte e (λ q. let z : _≡_ {A = ℕ} 0 1 = cc in omega arith) s)
+        past (account inside) ahead l _ (rest (in-force ahead)) n ls (goes-on (data-at offset bytes) some-byte e (λ q. let z : _≡_ {A = ℕ} 0 1 = cc in omega arith) s)
         (rw e) (decision inside (one-more tally) (rest (in-force ahead))) ih
     at-data offset bytes e ih (some a) s =
-        here ahead l _ n ls _
+        here (account inside) ahead l _ n ls _
         (rw (← (s .there)) (first-outside (s .before) (s .after) (s .p) (rw e (s .whole)) (s .insides) (s .out)))
         (λ t h. cc)
 
     -- a record that does nothing, and the base after it
     silent : (a : Meaning) (base : Base) → record-on l ≡ some a → a ≢ end-of-file → states ahead (some a) ≡ [] → counts (some a) ≡ 0
         → ((t : Tally) → Counted t (ahead ++ (l ∷ [])) → Behind base t)
-        → Walked ahead (rest base) n (l ∷ ls) (decision inside tally (rest base))
+        → Walked (account inside) ahead (rest base) n (l ∷ ls) (decision inside tally (rest base))
     silent a base e ne st ct ih =
-        past ahead l (rest base) (rest base) n ls (goes-on a some-byte e ne (rw st tt)) (rw (e, st)) (decision inside tally (rest base))
+        past (account inside) ahead l (rest base) (rest base) n ls (goes-on a some-byte e ne (rw st tt)) (rw (e, st)) (decision inside tally (rest base))
         (ih tally (record { records = omega (arith, counted .records, records-snoc ahead l (some a) e) }))
 
     at-record : (a : Meaning) → record-on l ≡ some a → Later a
-        → Walked ahead (from-record (in-force ahead) a) n (l ∷ ls) (decision inside tally (from-record (in-force ahead) a))
+        → Walked (account inside) ahead (from-record (in-force ahead) a) n (l ∷ ls) (decision inside tally (from-record (in-force ahead) a))
     unfolding decision turn does base-behind stated states stated-by counts
     at-record (data-at offset bytes) e ih =
-        at-data offset bytes e (ih (one-more tally) (record { records = omega (arith, counted .records, records-snoc ahead l _ e) })) (outside inside (placed (in-force ahead) offset 0 bytes)) (seen (placed (in-force ahead) offset 0 bytes))
-    at-record end-of-file e ih = here ahead l _ n ls _ (the-end tally e counted) (λ t h. refl)
+        at-data offset bytes e (ih (one-more tally) (record { records = omega (arith, counted .records, records-snoc ahead l _ e) })) (outside inside (placed (in-force ahead) offset 0 bytes)) (seen inside (placed (in-force ahead) offset 0 bytes))
+    at-record end-of-file e ih = here (account inside) ahead l _ n ls _ (the-end tally e counted) (λ t h. refl)
     at-record (extended-segment x) e ih = silent (extended-segment x) (segment x) e (λ q. let z : _≡_ {A = ℕ} 0 1 = cc in omega arith) refl refl ih
     at-record (start-segment cs ip) e ih = silent (start-segment cs ip) (in-force ahead) e (λ q. let z : _≡_ {A = ℕ} 0 1 = cc in omega arith) refl refl ih
     at-record (extended-linear x) e ih = silent (extended-linear x) (linear x) e (λ q. let z : _≡_ {A = ℕ} 0 1 = cc in omega arith) refl refl ih
@@ -169,19 +101,19 @@ module _ (inside : ℕ → Bool) where
     -- what is said on the line
     at-said : (s : Said) → judge l ≡ s
         → ((t : Tally) → Counted t (ahead ++ (l ∷ [])) → Behind (in-force (ahead ++ (l ∷ []))) t)
-        → let all = map (step n) (act (in-force ahead) s) ++ rest (base-after (in-force ahead) s) in Walked ahead all n (l ∷ ls) (decision inside tally all)
+        → let all = map (step n) (act (in-force ahead) s) ++ rest (base-after (in-force ahead) s) in Walked (account inside) ahead all n (l ∷ ls) (decision inside tally all)
     unfolding act base-after decision turn said-record
     at-said (says kind address payload) q ih =
         let h : record-on l ≡ some (meaning kind address payload) = ap said-record q in
         at-record (meaning kind address payload) h (rw (in-force-behind ahead l (meaning kind address payload) h) at ih)
-    at-said (wrong r) q ih = here ahead l _ n ls (refused r n) (no-record r some-byte q) (λ t h. cc)
+    at-said (wrong r) q ih = here (account inside) ahead l _ n ls (refused r n) (no-record r some-byte q) (λ t h. cc)
 
   pub walked : (ls : List (List ℕ)) (n : ℕ) (ahead : List (List ℕ)) (tally : Tally) → Counted tally ahead
-      → Walked ahead (steps intel (in-force ahead) n ls) n ls (decision inside tally (steps intel (in-force ahead) n ls))
+      → Walked (account inside) ahead (steps intel (in-force ahead) n ls) n ls (decision inside tally (steps intel (in-force ahead) n ls))
   unfolding steps intel-by decision said-record states counts sets
   walked [] n ahead tally e = tt
   walked ([] ∷ ls) n ahead tally e =
       let s = steps intel (in-force ahead) (suc n) ls in
-      past ahead [] s s n ls (is-empty refl) refl (decision inside tally s)
+      past (account inside) ahead [] s s n ls (is-empty refl) refl (decision inside tally s)
       (rw (in-force-snoc ahead [] none refl) at (walked ls (suc n) (ahead ++ ([] ∷ [])) tally (record { records = omega (arith, e .records, records-snoc ahead [] none refl) })))
   walked ((c ∷ l) ∷ ls) n ahead tally e = at-said n ahead tally e (c ∷ l) (λ z. nil≢cons (sym z)) ls (judge (c ∷ l)) refl (walked ls (suc n) (ahead ++ ((c ∷ l) ∷ [])))

@@ -3,8 +3,8 @@
 -- Assumes nothing.
 use mathlib.Core.Path.{_≡_, refl, sym, ap, _∙_, subst}
 use mathlib.Core.Logic.{_↔_, _⊎_, inl, inr}
-use Prim.Native.Nat.{ℕ, zero, suc, _+_, _*_, _-_, _%_, _^_, _≤_, _<_}
-use native.Mathlib.Nat.{zero-add, add-zero}
+use Prim.Native.Nat.{ℕ, suc, _+_, _*_, _-_, _%_, _^_, _≤_, _<_}
+use native.Mathlib.Nat.{zero-add}
 use native.Mathlib.Omega.{arith}
 use mathlib.Core.Bool.{Bool, true, false, _&&_}
 use mathlib.Core.Option.{Option, none, some}
@@ -20,30 +20,18 @@ use Rattle.record.proofs.Writing.{said-is-sayable}
 use Rattle.reader.specs.Lines.{lines}
 use Rattle.reader.specs.Row.{Numbered, on, sayings, is-end, through-stop, row}
 use Rattle.reader.specs.Text.{default-options}
+use Rattle.steps.specs.Runs.{spread}
 use Rattle.steps.specs.Steps.{Placement, Step, stated}
 use Rattle.steps.specs.Sites.{load-steps}
+use Rattle.steps.proofs.Puts.{length-spread, spread-at}
 use Rattle.marks.specs.Marks.{flags}
 use Rattle.steps.specs.Packed.{repacked, load-packed}
 use Rattle.loader.specs.Placing.{Base, from-segment, from-linear, segment, linear, from-start, byte-address, placed, stated-by, base-behind, does, act, base-after, along}
-use Rattle.loader.specs.Load.{room-of, load}
+use Rattle.window.specs.Load.{room-of, load-window}
 use Rattle.loader.specs.Helpers.{left, does-on}
 use Rattle.loader.specs.Claims.{record-on, sets, latest, in-force, states}
 use Rattle.loader.specs.Segments.{No-extension, Latest, At, in-segment, linearly, from-zero, Intel-rule, One-address, flat, flat-load, In-segment, In-segments, Record-unchanged, Text-unchanged, Load-by-row, Load-unchanged, Examples}
 use Rattle.loader.proofs.Rows.{by-row}
-
--- ---- each byte by its index
-
-pub length-placed : (base : Base) (offset i : ℕ) (bytes : List ℕ) → length (placed base offset i bytes) ≡ length bytes
-unfolding placed
-length-placed base offset i [] = refl
-length-placed base offset i (b ∷ bytes) = ap suc (length-placed base offset (suc i) bytes)
-
-pub placed-at : (base : Base) (offset i : ℕ) (bytes : List ℕ) (j : ℕ) → j < length bytes
-    → getD (placed base offset i bytes) j (record { address = 0; byte = 0 }) ≡ record { address = byte-address base offset (i + j); byte = getD bytes j 0 }
-unfolding placed
-placed-at base offset i [] j h = absurd (omega arith)
-placed-at base offset i (b ∷ bytes) zero h = rw (add-zero i)
-placed-at base offset i (b ∷ bytes) (suc j) h = let e : i + suc j ≡ suc i + j = omega arith in rw e (placed-at base offset (suc i) bytes j (omega arith))
 
 -- ---- the latest base
 
@@ -130,7 +118,7 @@ at-there ahead drlo dri = go (one-holds ahead)
 
 pub intel-rule : Intel-rule
 unfolding states stated-by
-intel-rule ahead drlo bytes = (length-placed (in-force ahead) drlo 0 bytes, λ dri h. rw (placed-at (in-force ahead) drlo 0 bytes dri h, zero-add dri) (at-there ahead drlo dri, refl))
+intel-rule ahead drlo bytes = (length-spread (byte-address (in-force ahead) drlo) 0 bytes, λ dri h. rw (spread-at (byte-address (in-force ahead) drlo) 0 bytes dri h, zero-add dri) (at-there ahead drlo dri, refl))
 
 pub one-address : One-address
 one-address ahead drlo dri a a′ x y = at-only ahead drlo dri a x ∙ sym (at-only ahead drlo dri a′ y)
@@ -140,7 +128,7 @@ one-address ahead drlo dri a a′ x y = at-only ahead drlo dri a x ∙ sym (at-o
 -- an offset that stays under 65,536 is added with nothing lost
 pub unwrapped : (base offset i : ℕ) (bytes : List ℕ) → base + 65536 ≤ 2 ^ 32 → offset + i + length bytes ≤ 65536
     → placed (from-linear base) offset i bytes ≡ placed (from-segment base) offset i bytes
-unfolding placed byte-address
+unfolding spread byte-address
 unwrapped base offset i [] b h = refl
 unwrapped base offset i (x ∷ bytes) b h =
     let e : (base + offset + i) % 2 ^ 32 ≡ base + (offset + i) % 65536 = omega arith in
@@ -153,8 +141,8 @@ unfolding byte-address
 wrapped base offset bytes o e =
     let k = 65536 - offset in
     let inside : ¬ (k < length bytes) =
-    λ h. let linear = placed-at (from-linear base) offset 0 bytes k h in
-    let segment = placed-at (from-segment base) offset 0 bytes k h in
+    λ h. let linear = spread-at (byte-address (from-linear base) offset) 0 bytes k h in
+    let segment = spread-at (byte-address (from-segment base) offset) 0 bytes k h in
     let same : (base + offset + (0 + k)) % 2 ^ 32 ≡ base + (offset + (0 + k)) % 65536 =
     ap (λ (p : Placement). p .address) (sym linear ∙ ap (λ (ps : List Placement). getD ps k (record { address = 0; byte = 0 })) e ∙ segment) in
     omega arith in
@@ -256,7 +244,7 @@ unfolding load-packed
 load-by-row f room text page marks = ap (repacked marks) (by-row f room text page (flags (length page) marks))
 
 pub load-unchanged : Load-unchanged
-unfolding flat-load load load-packed
+unfolding flat-load load-window load-packed
 load-unchanged text first page marks h =
     let places = flags (length page) marks in
     ap (repacked marks)

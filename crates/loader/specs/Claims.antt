@@ -1,7 +1,8 @@
 -- What is claimed of a load. Demand 3: what stands behind the line at which a load stops, and what the buffers held before, can change no
 -- answer and no mark; a place is marked exactly when a data record ahead of the end record states it, and holds what the last such record
 -- states; every other place keeps its byte. Then why a load answers as it does, and that nothing else meets the contract.
--- Each is proved in `proofs/Demand3.antt`, `proofs/Claims.antt` or `proofs/OneReason.antt`.
+-- Those of demand 3 are what `window` claims of every source, said of Intel HEX. Each is proved in `proofs/Demand3.antt`, `proofs/Claims.antt` or
+-- `proofs/OneReason.antt`.
 -- Assumes nothing.
 use mathlib.Core.Path.{_≡_}
 use mathlib.Core.Logic.{_≢_}
@@ -18,23 +19,18 @@ use Rattle.digits.specs.Reading.{named}
 use Rattle.record.specs.Meaning.{Meaning, data-at, end-of-file, extended-segment, start-segment, extended-linear, start-linear, meaning}
 use Rattle.reader.specs.Lines.{LF, lines, through}
 use Rattle.reader.specs.Claims.{Offends}
-use Rattle.marks.specs.Marks.{mark-at, Marked}
-use Rattle.loader.specs.declared.Loading.{Loading}
+use Rattle.marks.specs.Marks.{mark-at}
+use Rattle.steps.specs.declared.Loading.{Loading}
 use Rattle.steps.specs.Steps.{Placement, Tally, Verdict, accepted, refused, by}
 use Rattle.steps.specs.Sites.{Loaded, Owed-at}
 use Rattle.window.specs.Window.{within}
 use Rattle.window.specs.Claims.{Window}
+pub use Rattle.window.specs.Loads.{Alike}
 use Rattle.loader.specs.Placing.{Base, from-start, segment, linear, stated-by}
-use Rattle.loader.specs.Load.{stopping, placements, load}
-use Rattle.loader.specs.Told.{told-loading, Load}
+use Rattle.loader.specs.Load.{stopping, placements, load, Load}
+use Rattle.steps.specs.Told.{told-loading}
 
 -- ---- two loads
-
--- two loads agree: in their answers and, if those accept, in their marks and in the bytes at marked places
-pub record Alike (l₁ l₂ : Loaded) : Type 0 where
-  pub answers : l₁ .answer ≡ l₂ .answer
-  pub marks : (tally : Tally) → l₁ .answer ≡ accepted tally → l₁ .marks ≡ l₂ .marks
-  pub bytes : (tally : Tally) → l₁ .answer ≡ accepted tally → (i : ℕ) → Marked (l₁ .marks) i → getD (l₁ .page) i 0 ≡ getD (l₂ .page) i 0
 
 -- demand 3, first half: two texts that are the same through the LF of the line at which the first load stops;
 -- text behind it and old contents of page and marks may differ
@@ -201,10 +197,6 @@ abbrev pub Total : Type 0
 Total = (text : List ℕ) (first : ℕ) (page marks : List ℕ) → Among ((load text first page marks) .answer)
 
 -- ---- the contract
-
--- what is told says which answer it was
-abbrev pub Told-apart : Type 0
-Told-apart = (a b : Loading) → told-loading a ≡ told-loading b → a ≡ b
 
 -- no second answer, and no second page or marks, meets the contract
 abbrev pub Load-unique : Type 0

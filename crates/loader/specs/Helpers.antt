@@ -23,9 +23,9 @@ use Rattle.window.specs.Window.{within, window}
 use Rattle.window.specs.Contracts.{first-byte, Row-kept}
 use Rattle.loader.specs.declared.Base.{Base as CodeBase}
 use Rattle.loader.specs.declared.Base.the-variants.{Segment, Linear}
-use Rattle.loader.specs.declared.Loading.{Loading}
-use Rattle.loader.specs.declared.Loading.the-variants.{Accepted, Refused}
-use Rattle.loader.specs.declared.Tally.{Tally as CodeTally}
+use Rattle.steps.specs.declared.Loading.{Loading}
+use Rattle.steps.specs.declared.Loading.the-variants.{Accepted, Refused}
+use Rattle.steps.specs.declared.Tally.{Tally as CodeTally}
 use Rattle.loader.specs.declared.Walk.{Walk}
 use Rattle.loader.specs.declared.Turn.{Turn}
 use Rattle.loader.specs.declared.Turn.the-variants.{On, Stop}
@@ -33,19 +33,14 @@ use Rattle.loader.specs.declared.Further.{Further}
 use Rattle.loader.specs.declared.Further.the-variants as further
 use Rattle.loader.specs.Placing.{Base, segment, linear, byte-address, placed, base-behind, does, along}
 unfoldable pub use Rattle.loader.specs.Placing.{stated-by}
-use Rattle.loader.specs.Told.{tallied, told-loading}
+use Rattle.steps.specs.Told.{tallied, told-loading}
+use Rattle.window.specs.Load.{Same-painting}
 
 -- ---- one record
 
 abbrev pub based : CodeBase → Base
 based (Segment number) = segment number
 based (Linear number) = linear number
-
--- of `len` bytes of a data record, the one that is named is the first outside the window
-pub record Surveyed (base : Base) (offset len first size : ℕ) (r : Reach) : Type 0 where
-  pub answer : (bytes : List ℕ) → length bytes ≡ len
-      → outside (within first size) (placed base offset 0 bytes) ≡ Option·map (byte-address base offset) (first-byte r)
-  pub among : (i : ℕ) → first-byte r ≡ some i → i < len
 
 -- a record's payload is no longer than a line can say
 abbrev pub Short : Record → Type 0
@@ -115,18 +110,6 @@ Judged inside text w tally (On tally′ w′) = Onward inside text w tally w′ 
 Judged inside text w tally (Stop l) = told-loading l ≡ verdict (decision inside (tallied tally) (ahead-of w text))
 
 -- ---- the second pass
-
--- is anything written?
-abbrev pub is-accepted : Loading → Bool
-is-accepted (Accepted tally) = true
-is-accepted (Refused e line) = false
-
--- what is stated from here on, painted on page and marks as they are, is what was stated from there on painted on them as they were
-pub record Same-painting (first : ℕ) (s₀ : List Step) (page₀ marks₀ : List ℕ) (s : List Step) (page′ marks′ : List ℕ) : Type 0 where
-  pub size : length page′ ≡ length page₀
-  pub page : painted (window first (length page₀)) 0 (stated s) page′ ≡ painted (window first (length page₀)) 0 (stated s₀) page₀
-  pub marks : painted (window first (length page₀)) 0 (map as-mark (stated s)) (bits marks′) ≡ painted (window first (length page₀)) 0 (map as-mark (stated s₀)) (bits marks₀)
-  pub row : Row-kept marks₀ marks′
 
 -- a line was written: the walk goes on, or nothing more is stated
 pub record Written-on (first : ℕ) (text : List ℕ) (w : Walk) (page₀ marks₀ : List ℕ) (w′ : Walk) (page′ marks′ : List ℕ) : Type 0 where

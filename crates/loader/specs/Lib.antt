@@ -1,6 +1,5 @@
 pub mod Placing
 pub mod Load
-pub mod Told
 pub mod Claims
 pub mod Helpers
 pub mod Segments

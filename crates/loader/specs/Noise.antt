@@ -10,11 +10,11 @@ use Rattle.digits.specs.Common.{Every}
 use Rattle.record.specs.Refusals.{Refusal, contains-invalid-characters, record-too-short, checksum-mismatch}
 use Rattle.record.specs.Noise.{Slip}
 use Rattle.reader.specs.Lines.{LF, CR}
-use Rattle.loader.specs.declared.Loading.{Loading}
+use Rattle.steps.specs.declared.Loading.{Loading}
 use Rattle.steps.specs.Steps.{Tally, Verdict, accepted, refused}
 use Rattle.steps.specs.Sites.{Loaded}
-use Rattle.loader.specs.Load.{load}
-use Rattle.loader.specs.Told.{told-loading, Load}
+use Rattle.loader.specs.Load.{load, Load}
+use Rattle.steps.specs.Told.{told-loading}
 use Rattle.loader.specs.Claims.{example}
 
 -- ---- damage

@@ -1,13 +1,14 @@
 -- Intel's records as a source of steps: where the bytes of a data record lie, and what each line does. Document 01, "Loader", with the bases
 -- and sums of document 02's second request.
 -- Assumes nothing.
-use Prim.Native.Nat.{ℕ, suc, _+_, _*_, _%_, _^_}
+use Prim.Native.Nat.{ℕ, _+_, _*_, _%_, _^_}
 use mathlib.Core.List.{List, [], _∷_, _++_, map}
 use Rattle.record.specs.Line.{Said, says, wrong, judge}
 use Rattle.record.specs.Meaning.{Meaning, data-at, end-of-file, extended-segment, start-segment, extended-linear, start-linear, meaning}
 use Rattle.reader.specs.Row.{Numbered, on}
 use Rattle.steps.specs.Steps.{Placement, Action, places, finishes, fails, Step, step}
 use Rattle.steps.specs.Source.{Source}
+use Rattle.steps.specs.Runs.{spread}
 
 -- ---- bases
 
@@ -33,14 +34,12 @@ byte-address (from-segment base) offset i = base + (offset + i) % 65536
 byte-address (from-linear base) offset i = (base + offset + i) % 2 ^ 32
 
 -- the bytes of a data record from byte i on, each at its address
-unfoldable pub placed : Base → (offset i : ℕ) → List ℕ → List Placement
-unfolding byte-address
-placed base offset i [] = []
-placed base offset i (b ∷ bytes) = record { address = byte-address base offset i; byte = b } ∷ placed base offset (suc i) bytes
+abbrev pub placed : Base → (offset i : ℕ) → List ℕ → List Placement
+placed base offset i bytes = spread (byte-address base offset) i bytes
 
 -- what a record states at a base: a data record its bytes, any other nothing
 unfoldable pub stated-by : Base → Meaning → List Placement
-unfolding placed
+unfolding spread byte-address
 stated-by base (data-at offset bytes) = placed base offset 0 bytes
 stated-by base end-of-file = []
 stated-by base (extended-segment number) = []
@@ -61,7 +60,7 @@ base-behind base (start-linear number) = base
 
 -- what a record does at a base: extension and start records do nothing
 unfoldable pub does : Base → Meaning → List Action
-unfolding placed
+unfolding spread byte-address
 does base (data-at offset bytes) = places (placed base offset 0 bytes) ∷ []
 does base end-of-file = finishes ∷ []
 does base (extended-segment number) = []

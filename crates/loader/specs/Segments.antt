@@ -22,7 +22,8 @@ use Rattle.steps.specs.Packed.{repacked, load-packed}
 use Rattle.marks.specs.Marks.{mark-at, flags}
 use Rattle.window.specs.Window.{within, one-window}
 use Rattle.loader.specs.Placing.{Base, from-segment, from-linear, segment, from-start, stated-by, base-behind, intel-by, along}
-use Rattle.loader.specs.Load.{room-of, load}
+use Rattle.window.specs.Load.{room-of}
+use Rattle.loader.specs.Load.{load}
 use Rattle.loader.specs.Claims.{record-on, states, beyond}
 
 -- ---- Intel's sums

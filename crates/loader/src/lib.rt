@@ -4,6 +4,9 @@ use reader::Reply;
 use reader::State;
 use record::Record;
 use record::payload_sizes;
+use steps::LoaderError;
+use steps::Loading;
+use steps::Tally;
 use window::Reach;
 ghost use mathlib.Core.Path.{_≡_};
 ghost use Prim.Native.Nat.{_+_, _^_, _≤_, _<_, min, _-_};
@@ -11,37 +14,15 @@ ghost use lib.ListN.{length};
 ghost use Rattle.record.specs.Record.{meant};
 ghost use Rattle.reader.specs.Text.{new-state, default-options};
 ghost use Rattle.steps.specs.Steps.{nothing-yet, decision, verdict};
+ghost use Rattle.steps.specs.Told.{told-loading};
 ghost use Rattle.window.specs.Window.{within};
-ghost use Rattle.window.specs.Contracts.{Painted};
+ghost use Rattle.window.specs.Contracts.{Surveyed, Painted};
 ghost use Rattle.loader.specs.Placing.{byte-address, placed};
-ghost use Rattle.loader.specs.Load.{placements, steps-of};
-ghost use Rattle.loader.specs.Told.{told-loading, Load};
-ghost use Rattle.loader.specs.Helpers.{based, Surveyed, stated-by, Short, Lies-in, Behind, Under-way, Few, Meets, Judged, is-accepted, Wrote};
+ghost use Rattle.loader.specs.Load.{placements, steps-of, Load};
+ghost use Rattle.loader.specs.Helpers.{based, stated-by, Short, Lies-in, Behind, Under-way, Few, Meets, Judged, Wrote};
 
 // How many bytes a segment has.
 const SEGMENT: usize = 65536;
-
-// Why a text is not loaded.
-pub enum LoaderError {
-    // A line gives no record.
-    Line(ReaderError),
-    MissingEndOfFileRecord,
-    BadWindow,
-    // The address of a data record's first byte outside.
-    OutsideWindow(u32),
-}
-
-// What an accepted load reports.
-pub struct Tally {
-    // How many data records it met.
-    pub records: usize,
-}
-
-// What a load returns: its tally, or a refusal and the number of its line.
-pub enum Loading {
-    Accepted(Tally),
-    Refused(LoaderError, usize),
-}
 
 // The number of the latest type 02 or 04 record; before any, segment 0.
 enum Base {
@@ -111,7 +92,7 @@ fn first_run(offset: u16, len: usize) -> usize
 // Where the bytes of a data record lie.
 fn survey(base: Base, offset: u16, len: usize, first: u32, size: usize) -> Reach
     requires { ⌜ len ≤ 255 ⌝ }
-    ensures { λ r. ⌜ Surveyed (based base) offset len first size r ⌝ }
+    ensures { λ r. ⌜ Surveyed (byte-address (based base) offset) len first size r ⌝ }
 {
     let run = first_run(offset, len);
     if run == len {
@@ -306,16 +287,6 @@ fn write_text(text: &[u8], first: u32, page: &mut [u8], marks: &mut [u8])
     }
 }
 
-// Whether the first pass has accepted the text. Only then is anything written.
-fn is_accepted(answer: Loading) -> bool
-    ensures { λ r. ⌜ r ≡ is-accepted answer ⌝ }
-{
-    match answer {
-        Loading::Accepted(_) => true,
-        Loading::Refused(_, _) => false,
-    }
-}
-
 // Loads a text into a page, whose first place has the address `first`. A mark for each place says whether the text states it.
 pub fn load(text: &[u8], first: u32, page: &mut [u8], marks: &mut [u8]) -> Loading
     ensures { λ r. ⌜ Load (now (text .entry)) first (now (page .entry)) (now (marks .entry)) r (now (page .exit)) (now (marks .exit)) ⌝ }
@@ -324,7 +295,7 @@ pub fn load(text: &[u8], first: u32, page: &mut [u8], marks: &mut [u8]) -> Loadi
         return Loading::Refused(LoaderError::BadWindow, 0);
     }
     let answer = judge_text(text, first, page.len());
-    if is_accepted(answer) {
+    if answer.is_accepted() {
         marks::clear(marks);
         write_text(text, first, page, marks);
     }

@@ -24,7 +24,7 @@ use Rattle.steps.specs.Steps.{Verdict, accepted}
 use Rattle.window.specs.Window.{unfit}
 use Rattle.steps.specs.Sites.{Loaded}
 use Rattle.loader.specs.Load.{load}
-use Rattle.loader.specs.Told.{told-loading}
+use Rattle.steps.specs.Told.{told-loading}
 use Rattle.page.specs.declared.Paged.the-variants.{Wrote}
 use Rattle.page.specs.Pieces.{Piece, pieces}
 use Rattle.page.specs.File.{page-records, file, unless-unused, page-text}

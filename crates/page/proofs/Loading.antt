@@ -27,7 +27,7 @@ use Rattle.record.proofs.Choices.{or-else-none}
 use Rattle.record.proofs.Writing.{reads-back}
 use Rattle.reader.specs.Row.{Numbered, on}
 use Rattle.steps.specs.Steps.{Placement, Tally, nothing-yet, accepted, by, outside, turn, decision, verdict, stated}
-use Rattle.loader.specs.Placing.{Base, linear, from-start, byte-address, placed, base-behind, does, act, base-after, along}
+use Rattle.loader.specs.Placing.{Base, linear, from-start, byte-address, placed, base-behind, does, act, base-after, intel, along}
 use Rattle.loader.specs.Helpers.{left, does-on}
 use Rattle.window.specs.Window.{within, window, unfit}
 use Rattle.steps.specs.Sites.{last-at, mark, byte-shown, mark-shown, painted, marked, stopping-by, Loaded}
@@ -35,7 +35,9 @@ use Rattle.loader.specs.Load.{steps-of, placements, stopping, load}
 use Rattle.window.specs.Claims.{Window}
 use Rattle.steps.proofs.Places.{painted-at, marked-at, length-painted, length-marked}
 use Rattle.loader.proofs.Rows.{cut-text}
-use Rattle.loader.proofs.Demand3.{fit-stopping, accepted-load}
+use Rattle.window.proofs.Loads.{fit-stopping, accepted-load}
+use Rattle.steps.specs.Runs.{spread}
+use Rattle.window.specs.Load.{stopping-by-window}
 use Rattle.window.proofs.Claims.{unfit-is-no-window}
 use Rattle.window.proofs.Storing.{shows}
 use Rattle.page.specs.Pieces.{Piece, is-marked, pieces}
@@ -67,7 +69,7 @@ tally n = record { records = n }
 module _ (first : ℕ) (page : List ℕ) (below : first + length page ≤ 2 ^ 32) where
   placed-run : (u offset i at n : ℕ) → 65536 * u + offset + i ≡ first + at → at + n ≤ length page
       → placed (linear u) offset i (take n (drop at page)) ≡ map (placement first page) (places at n)
-  unfolding placed places byte-address
+  unfolding spread places byte-address
   placed-run u offset i at zero e h = refl
   placed-run u offset i at (suc n) e h =
       let z : (65536 * u + offset + i) % 2 ^ 32 ≡ first + at = omega arith in
@@ -247,7 +249,7 @@ module _ (first : ℕ) (page marks old-page old-marks : List ℕ) (P : Page firs
       → let l = load text first old-page old-marks in (l .answer ≡ accepted (tally k)) × Restores page marks old-page l
   unfolding list old-list
   restores text k v s =
-      rw (accepted-load text first old-page old-marks (tally k) v, s) (
+      rw (accepted-load intel text first old-page old-marks (tally k) v, s) (
         refl,
         record {
           same-marks = ap packed (marks-again first page list old-page old-list (sym list-length) lp old-length (flags-are-flags (length page) marks))
@@ -260,7 +262,7 @@ module _ (first : ℕ) (page marks old-page old-marks : List ℕ) (P : Page firs
 -- ---- the claims
 
 pub loads-back : Loads-back
-unfolding placements stopping steps-of stopping-by verdict page-records
+unfolding stopping-by-window stopping-by verdict page-records
 loads-back first page marks old-page old-marks P b bm lp lm =
     let w = P .window in
     let shown : List ℕ = flags (length page) marks in

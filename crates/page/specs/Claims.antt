@@ -18,11 +18,11 @@ use Rattle.writer.specs.Told.{Told-written, wrote, refuses}
 use Rattle.writer.specs.Text.{chars, refused}
 use Rattle.writer.specs.Line.{line}
 use Rattle.writer.specs.Object.{object}
-use Rattle.loader.specs.declared.Loading.{Loading}
+use Rattle.steps.specs.declared.Loading.{Loading}
 use Rattle.steps.specs.Steps.{accepted}
 use Rattle.steps.specs.Sites.{Loaded}
-use Rattle.loader.specs.Load.{load}
-use Rattle.loader.specs.Told.{Load, told-loading}
+use Rattle.loader.specs.Load.{load, Load}
+use Rattle.steps.specs.Told.{told-loading}
 use Rattle.window.specs.Claims.{Window}
 use Rattle.page.specs.declared.PageError.{PageError}
 use Rattle.page.specs.declared.PageError.the-variants.{OutputFull}

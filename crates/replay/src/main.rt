@@ -36,8 +36,6 @@
 // The number of a refusal is in decimal, and every other number in hexadecimal with capitals. A
 // case that is none of these is answered by `?`. Each case ends in LF, and what a case has beyond
 // 4,096 bytes is dropped.
-use loader::LoaderError;
-use loader::Loading;
 use reader::Answer;
 use reader::ReaderError;
 use reader::ReaderOptions;
@@ -48,6 +46,8 @@ use record::Record;
 use record::chars;
 use record::refusals;
 use record::types;
+use steps::LoaderError;
+use steps::Loading;
 use writer::WriterError;
 use writer::Written;
 ghost use mathlib.Core.Path.{_≡_};
@@ -481,6 +481,10 @@ fn say_loading(l: Loading) {
                 }
                 LoaderError::BadWindow => say_refused(refusals::BAD_WINDOW, 0, 0),
                 LoaderError::OutsideWindow(a) => say_refused(refusals::OUTSIDE_WINDOW, a as u64, 8),
+                LoaderError::CountMismatch(stated, seen) => {
+                    say_refused(refusals::COUNT_MISMATCH, stated as u64, 1);
+                    say_field(b' ', seen as u64, 1);
+                }
             }
             say_line(line);
         }

@@ -9,11 +9,12 @@ use native.Mathlib.Omega.{arith}
 use mathlib.Core.Bool.{Bool}
 use mathlib.Core.Option.{Option, none, some}
 use mathlib.Core.List.{List, [], _∷_, _++_, map, append-assoc, List·Memᴰ, List·Memᴰ·head, List·Memᴰ·tail}
+use lib.Dec.{eqb}
 use lib.ListN.{length}
-use Rattle.steps.specs.Steps.{Placement, Action, places, finishes, fails, Step, step, Tally, one-more, Verdict, accepted, refused, by, outside, Turn, on, stop, at-data, turn, onward, decision, verdict, stated}
+use Rattle.steps.specs.Steps.{Placement, Action, places, counts, finishes, fails, Step, step, Tally, one-more, Verdict, accepted, refused, by, outside, Turn, on, stop, at-data, turn, onward, decision, verdict, stated}
 use Rattle.steps.specs.Source.{Source, steps}
 use Rattle.steps.specs.Join.{state-after, None-ends, together, after-lines}
-use Rattle.steps.proofs.Source.{stated-cons}
+use Rattle.steps.proofs.Source.{stated-cons, count-refuses}
 
 -- ---- steps without an end
 
@@ -41,6 +42,7 @@ module _ (inside : ℕ → Bool) where
       go : (o : Option ℕ) → at-data n o t ≡ stop (accepted k) → ⊥
       go none q = let z : _≡_ {A = ℕ} 0 1 = cc in omega arith
       go (some b) q = let z : _≡_ {A = ℕ} 0 1 = cc in omega arith
+  not-accepting (counts c) n t k x = λ q. count-refuses n c t k (eqb c (t .records)) q
   not-accepting finishes n t k x = λ q. x refl
   not-accepting (fails r) n t k x = λ q. let z : _≡_ {A = ℕ} 0 1 = cc in omega arith
 
@@ -54,6 +56,7 @@ module _ (inside : ℕ → Bool) where
       → stated (step n a ∷ (s ++ rest)) ≡ stated (step n a ∷ s) ++ stated rest
   unfolding stated turn
   goes-on-states (places what) n s rest t t′ q e = ap (λ (ps : List Placement). what ++ ps) e ∙ sym (append-assoc what (stated s) (stated rest))
+  goes-on-states (counts c) n s rest t t′ q e = e
   goes-on-states finishes n s rest t t′ q e = let z : _≡_ {A = ℕ} 0 1 = cc in absurd (omega arith)
   goes-on-states (fails r) n s rest t t′ q e = let z : _≡_ {A = ℕ} 0 1 = cc in absurd (omega arith)
 
@@ -95,9 +98,13 @@ module _ (inside : ℕ → Bool) (k : ℕ) (a : Tally) where
   abbrev After : (s₁ s₂ : List Step) → Type 0
   After s₁ s₂ = (t : Tally) → verdict (decision inside (together a t) s₁) ≡ after-verdict k a (verdict (decision inside t s₂))
 
-  after-step : (n : ℕ) (x : Action) (s₁ s₂ : List Step) → After s₁ s₂ → After (step (k + suc n) x ∷ s₁) (step (suc n) x ∷ s₂)
+  -- none of these actions states a count
+  abbrev No-count : List Action → Type 0
+  No-count acts = (stated : ℕ) → ¬ List·Memᴰ (counts stated) acts
+
+  after-step : (n : ℕ) (x : Action) (s₁ s₂ : List Step) → ((stated : ℕ) → counts stated ≢ x) → After s₁ s₂ → After (step (k + suc n) x ∷ s₁) (step (suc n) x ∷ s₂)
   unfolding decision turn verdict
-  after-step n (places what) s₁ s₂ h t = go (outside inside what)
+  after-step n (places what) s₁ s₂ never h t = go (outside inside what)
     where
       more : one-more (together a t) ≡ together a (one-more t)
       more = λ i. record { records = sym (add-suc (a .records) (t .records)) i }
@@ -106,21 +113,25 @@ module _ (inside : ℕ → Bool) (k : ℕ) (a : Tally) where
           ≡ after-verdict k a (verdict (onward (suc n) (at-data (suc n) o t) (λ t′. decision inside t′ s₂)))
       go none = ap (λ (u : Tally). verdict (decision inside u s₁)) more ∙ h (one-more t)
       go (some b) = refl
-  after-step n finishes s₁ s₂ h t = refl
-  after-step n (fails r) s₁ s₂ h t = refl
+  after-step n (counts c) s₁ s₂ never h t = absurd (never c refl)
+  after-step n finishes s₁ s₂ never h t = refl
+  after-step n (fails r) s₁ s₂ never h t = refl
 
-  after-acts : (n : ℕ) (acts : List Action) (s₁ s₂ : List Step) → After s₁ s₂ → After (map (step (k + suc n)) acts ++ s₁) (map (step (suc n)) acts ++ s₂)
-  after-acts n [] s₁ s₂ h = h
-  after-acts n (x ∷ acts) s₁ s₂ h = after-step n x (map (step (k + suc n)) acts ++ s₁) (map (step (suc n)) acts ++ s₂) (after-acts n acts s₁ s₂ h)
+  after-acts : (n : ℕ) (acts : List Action) (s₁ s₂ : List Step) → No-count acts → After s₁ s₂ → After (map (step (k + suc n)) acts ++ s₁) (map (step (suc n)) acts ++ s₂)
+  after-acts n [] s₁ s₂ never h = h
+  after-acts n (x ∷ acts) s₁ s₂ never h =
+      after-step n x (map (step (k + suc n)) acts ++ s₁) (map (step (suc n)) acts ++ s₂) (λ c e. never c (List·Memᴰ·head e))
+      (after-acts n acts s₁ s₂ (λ c m. never c (List·Memᴰ·tail m)) h)
 
-  pub after-tally : {S : Type 0} (src : Source S) (s : S) (n : ℕ) (ls : List (List ℕ)) → After (steps src s (k + suc n) ls) (steps src s (suc n) ls)
+  pub after-tally : {S : Type 0} (src : Source S) → ((s : S) (line : List ℕ) → No-count (src .act s line))
+      → (s : S) (n : ℕ) (ls : List (List ℕ)) → After (steps src s (k + suc n) ls) (steps src s (suc n) ls)
   unfolding steps decision verdict
-  after-tally src s n [] = λ t. refl
-  after-tally src s n ([] ∷ ls) = rw (← add-suc k (suc n)) (after-tally src s (suc n) ls)
-  after-tally src s n ((c ∷ l) ∷ ls) =
+  after-tally src never s n [] = λ t. refl
+  after-tally src never s n ([] ∷ ls) = rw (← add-suc k (suc n)) (after-tally src never s (suc n) ls)
+  after-tally src never s n ((c ∷ l) ∷ ls) =
       let s′ = src .next s (c ∷ l) in
-      after-acts n (src .act s (c ∷ l)) (steps src s′ (suc (k + suc n)) ls) (steps src s′ (suc (suc n)) ls)
-      (rw (← add-suc k (suc n)) (after-tally src s′ (suc n) ls))
+      after-acts n (src .act s (c ∷ l)) (steps src s′ (suc (k + suc n)) ls) (steps src s′ (suc (suc n)) ls) (never s (c ∷ l))
+      (rw (← add-suc k (suc n)) (after-tally src never s′ (suc n) ls))
 
 -- what is stated does not go by the numbers of lines
 stated-acts : (n m : ℕ) (acts : List Action) (s₁ s₂ : List Step) → stated s₁ ≡ stated s₂ → stated (map (step n) acts ++ s₁) ≡ stated (map (step m) acts ++ s₂)

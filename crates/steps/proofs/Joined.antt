@@ -144,7 +144,7 @@ module _ {S : Type 0} (src : Source S) (reset : List ℕ) (j : Joinable src rese
         ap (λ (s : List Step). verdict (decision inside nothing-yet s)) (joined-steps a b end-of)
         ∙ ap verdict (handed-on .decides later)
         ∙ ap (λ (t : Tally). verdict (decision inside t later)) same
-        ∙ after-tally inside (suc (lines-ahead src a)) ta src (src .beginning) 0 (lines b) nothing-yet
+        ∙ after-tally inside (suc (lines-ahead src a)) ta src (j .no-count) (src .beginning) 0 (lines b) nothing-yet
 
     pub stated-after : (b : List ℕ) → stated (steps-of src (joined src reset a b)) ≡ stated (steps-of src a) ++ stated (steps-of src b)
     unfolding steps-of stated

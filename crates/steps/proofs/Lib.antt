@@ -1,3 +1,4 @@
+pub mod Told
 pub mod Source
 pub mod Places
 pub mod Sites
@@ -6,3 +7,5 @@ pub mod Runs
 pub mod Cut
 pub mod Join
 pub mod Joined
+pub mod Firsts
+pub mod Puts

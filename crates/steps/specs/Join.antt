@@ -11,7 +11,7 @@ use lib.ListN.{length, getD}
 use Rattle.digits.specs.Common.{if_then_else_}
 use Rattle.record.specs.Refusals.{Refusal}
 use Rattle.reader.specs.Lines.{LF, lines, through}
-use Rattle.steps.specs.Steps.{Action, places, finishes, fails, Tally, accepted, refused, stated}
+use Rattle.steps.specs.Steps.{Action, places, counts, finishes, fails, Tally, accepted, refused, stated}
 use Rattle.steps.specs.Source.{Source, steps-of}
 use Rattle.steps.specs.Sites.{Shown, Loaded, Room, load}
 
@@ -21,6 +21,7 @@ use Rattle.steps.specs.Sites.{Shown, Loaded, Room, load}
 unfoldable pub ends : List Action → Bool
 ends [] = false
 ends (places what ∷ acts) = ends acts
+ends (counts stated ∷ acts) = ends acts
 ends (finishes ∷ acts) = true
 ends (fails r ∷ acts) = ends acts
 
@@ -102,13 +103,14 @@ Lines-ahead-counts = (S : Type 0) (src : Source S) (text : List ℕ) → Has-end
 -- ---- what is claimed of the joined text
 
 -- what joining asks of a source and of the line that resets it: the line is one line, it does nothing, and it brings the beginning back;
--- and a line that ends a text does nothing else
+-- a line that ends a text does nothing else; and no line states a count, which would be of both texts
 pub record Joinable {S : Type 0} (src : Source S) (reset : List ℕ) : Type 0 where
   pub has-a-byte : reset ≢ []
   pub one-line : (text : List ℕ) → lines (reset ++ (LF ∷ text)) ≡ reset ∷ lines text
   pub silent : (s : S) → src .act s reset ≡ []
   pub back : (s : S) → src .next s reset ≡ src .beginning
   pub plain-end : (s : S) (line : List ℕ) → List·Memᴰ finishes (src .act s line) → src .act s line ≡ finishes ∷ []
+  pub no-count : (s : S) (line : List ℕ) (stated : ℕ) → ¬ List·Memᴰ (counts stated) (src .act s line)
 
 -- two tallies together: the counts add
 abbrev pub together : Tally → Tally → Tally

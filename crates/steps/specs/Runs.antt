@@ -1,4 +1,5 @@
--- A run: bytes at addresses one after the other. What lies outside of one, and the marks of placements. Each claim is proved in `proofs/Runs.antt`.
+-- Bytes at addresses: a run has them one after the other. What lies outside of one, and the marks of placements. Each claim is proved in
+-- `proofs/Runs.antt`.
 -- Assumes nothing.
 use mathlib.Core.Path.{_≡_}
 use Prim.Native.Nat.{ℕ, suc}
@@ -6,6 +7,11 @@ use mathlib.Core.Option.{Option, none, some}
 use mathlib.Core.List.{List, [], _∷_, map}
 use Rattle.steps.specs.Steps.{Placement}
 use Rattle.steps.specs.Sites.{painted, marked}
+
+-- the bytes of a record from byte i on, each where a function of its number says
+unfoldable pub spread : (at : ℕ → ℕ) → (i : ℕ) → List ℕ → List Placement
+spread at i [] = []
+spread at i (b ∷ bytes) = record { address = at i; byte = b } ∷ spread at (suc i) bytes
 
 -- the first byte at the address, each further one at the next
 unfoldable pub run : (address : ℕ) → List ℕ → List Placement

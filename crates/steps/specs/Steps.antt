@@ -1,12 +1,13 @@
--- Steps and what they come to: bytes put at addresses, the end, refusals, and the first step that decides. Document 01, "Loader", with row 17
--- of its table. Nothing here knows the form of a line: that is a source's matter (`Source`).
+-- Steps and what they come to: bytes put at addresses, counts, the end, refusals, and the first step that decides. Document 01, "Loader", with
+-- row 17 of its table, and refusal 20 of document 02. Nothing here knows the form of a line: that is a source's matter (`Source`).
 -- Assumes nothing.
 use Prim.Native.Nat.{ℕ, suc}
 use mathlib.Core.Bool.{Bool}
 use mathlib.Core.Option.{Option, none, some}
 use mathlib.Core.List.{List, [], _∷_, _++_}
+use lib.Dec.{eqb}
 use Rattle.digits.specs.Common.{if_then_else_}
-use Rattle.record.specs.Refusals.{Refusal, missing-end-of-file-record, outside-window}
+use Rattle.record.specs.Refusals.{Refusal, missing-end-of-file-record, outside-window, count-mismatch}
 
 -- ---- steps
 
@@ -15,9 +16,10 @@ pub record Placement : Type 0 where
   pub address : ℕ
   pub byte : ℕ
 
--- what a line does: it places bytes, it ends the text, or it is refused
+-- what a line does: it places bytes, it states how many data records stand before it, it ends the text, or it is refused
 pub data Action : Type 0 where
   places : (what : List Placement) → Action
+  counts : (stated : ℕ) → Action
   finishes : Action
   fails : (r : Refusal) → Action
 
@@ -62,10 +64,15 @@ abbrev pub at-data : (n : ℕ) → Option ℕ → Tally → Turn
 at-data n none t = on (one-more t)
 at-data n (some address) t = stop (refused (outside-window address) n)
 
+-- a count that is not the number of data records so far is refused with 20
+abbrev pub at-count : (n : ℕ) → (stated : ℕ) → Tally → Turn
+at-count n stated t = if eqb stated (t .records) then on t else stop (refused (count-mismatch stated (t .records)) n)
+
 -- what an action of line n comes to, with this tally so far
 unfoldable pub turn : (inside : ℕ → Bool) → Tally → (n : ℕ) → Action → Turn
 unfolding outside
 turn inside t n (places what) = at-data n (outside inside what) t
+turn inside t n (counts stated) = at-count n stated t
 turn inside t n finishes = stop (accepted t)
 turn inside t n (fails r) = stop (refused r n)
 
@@ -91,5 +98,6 @@ verdict (some (by line v)) = v
 unfoldable pub stated : List Step → List Placement
 stated [] = []
 stated (step n (places what) ∷ steps) = what ++ stated steps
+stated (step n (counts c) ∷ steps) = stated steps
 stated (step n finishes ∷ steps) = []
 stated (step n (fails r) ∷ steps) = []

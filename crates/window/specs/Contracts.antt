@@ -11,7 +11,7 @@ use Rattle.marks.specs.Marks.{bits}
 use Rattle.marks.specs.Claims.{Bytes}
 use Rattle.steps.specs.Steps.{Placement, outside}
 use Rattle.steps.specs.Sites.{painted}
-use Rattle.steps.specs.Runs.{run, as-mark}
+use Rattle.steps.specs.Runs.{spread, run, as-mark}
 use Rattle.window.specs.declared.Reach.{Reach}
 use Rattle.window.specs.declared.Reach.the-variants.{Inside, Outside}
 use Rattle.window.specs.declared.Part.{Part}
@@ -29,6 +29,11 @@ first-byte (Outside i) = some i
 -- the contract of `first_outside`: whatever the bytes of the run are, the first of them outside is the one that is named
 pub record FirstOutside (first size address len : ℕ) (r : Reach) : Type 0 where
   pub answer : (bytes : List ℕ) → length bytes ≡ len → outside (within first size) (run address bytes) ≡ Option·map (λ i. address + i) (first-byte r)
+  pub among : (i : ℕ) → first-byte r ≡ some i → i < len
+
+-- of `len` bytes that lie where `at` says, the one that is named is the first outside the window
+pub record Surveyed (at : ℕ → ℕ) (len first size : ℕ) (r : Reach) : Type 0 where
+  pub answer : (bytes : List ℕ) → length bytes ≡ len → outside (within first size) (spread at 0 bytes) ≡ Option·map at (first-byte r)
   pub among : (i : ℕ) → first-byte r ≡ some i → i < len
 
 -- the part of a run of `len` bytes that lies in a window of `size` places

@@ -1,3 +1,5 @@
 pub mod Window
 pub mod Contracts
 pub mod Claims
+pub mod Load
+pub mod Loads

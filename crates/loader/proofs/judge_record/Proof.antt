@@ -4,9 +4,9 @@ use mathlib.Core.Path.{ap, subst}
 use native.Mathlib.Omega.{arith}
 use Rattle.reader.specs.Row.{is-end}
 use Rattle.window.specs.declared.Reach.{Reach}
-use Rattle.window.specs.Contracts.{first-byte}
-use Rattle.loader.specs.Placing.{does}
-use Rattle.loader.specs.Helpers.{based, Surveyed, Short}
+use Rattle.window.specs.Contracts.{first-byte, Surveyed}
+use Rattle.loader.specs.Placing.{byte-address, does}
+use Rattle.loader.specs.Helpers.{based, Short}
 use Rattle.loader.proofs.Meeting.{met-inside, met-outside, met-end, met-quiet}
 use borrow.Author.Needs.{needs}
 use Rattle.loader.proofs.judge_record.Statement.{statement}
@@ -25,7 +25,7 @@ returns c = λ pool lies.
     let a = c .before .before .before .before .before .before .before .before .before .args in
     let g = c .before .before .before .before .before .given .given in
     met-inside (a .first) (a .size) (a .w) (a .tally) (a .given) pool lies (g .0 .0) (g .0 .1 .0) (g .0 .1 .1 .0) (g .1)
-    (subst (λ (r : Reach). Surveyed (based (a .w .base)) (g .0 .0) (g .0 .1 .1 .0) (a .first) (a .size) r) (c .before .enum-told .given .1) (c .before .before .before .survey .ensures)) (c .before .before .before .before .before .before .before .base-behind .result) (c .before .before .before .before .before .before .before .base-behind .ensures)
+    (subst (λ (r : Reach). Surveyed (byte-address (based (a .w .base)) (g .0 .0)) (g .0 .1 .1 .0) (a .first) (a .size) r) (c .before .enum-told .given .1) (c .before .before .before .survey .ensures)) (c .before .before .before .before .before .before .before .base-behind .result) (c .before .before .before .before .before .before .before .base-behind .ensures)
 
 returns-2 : tie.Need-returns-2
 returns-2 c = λ pool lies rest.
@@ -33,7 +33,7 @@ returns-2 c = λ pool lies rest.
     let g = c .before .before .before .before .before .before .given .given in
     let i = c .before .before .i .given in
     rw (c .byte-address .ensures) (met-outside (a .first) (a .size) (a .w) (a .tally) (a .given) pool lies (g .0 .0) (g .0 .1 .0) (g .0 .1 .1 .0) (i .0 .0) (g .1)
-    (subst (λ (r : Reach). Surveyed (based (a .w .base)) (g .0 .0) (g .0 .1 .1 .0) (a .first) (a .size) r) (i .1) (c .before .before .before .before .survey .ensures)) rest)
+    (subst (λ (r : Reach). Surveyed (byte-address (based (a .w .base)) (g .0 .0)) (g .0 .1 .1 .0) (a .first) (a .size) r) (i .1) (c .before .before .before .before .survey .ensures)) rest)
 
 returns-3 : tie.Need-returns-3
 returns-3 c = λ pool lies. let a = c .before .before .before .before .args in met-end (a .first) (a .size) (a .w) (a .tally) (a .given) pool lies (c .enum-told2 .given .1)

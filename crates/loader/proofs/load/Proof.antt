@@ -5,7 +5,8 @@ use mathlib.Core.Bool.{false}
 use denote.Ref.{now}
 use lib.ListN.{length}
 use Rattle.window.specs.Window.{unfit}
-use Rattle.loader.proofs.Loads.{load-unfit, load-refused, load-accepted}
+use Rattle.window.proofs.Loads.{load-unfit, load-refused, load-accepted}
+use Rattle.loader.specs.Placing.{intel}
 use borrow.Author.Needs.{needs}
 use Rattle.loader.proofs.load.Statement.{statement}
 use Rattle.loader.proofs.load.Tie as tie
@@ -17,21 +18,21 @@ fit c = sym (c .before .is-unfit .ensures .answer) ∙ c .if1 .left
 returns : tie.Need-returns
 returns c =
     let s = c .before .before .before .before .before .args in
-    load-unfit (now (s .text)) (s .first) (now (s .page)) (now (s .marks)) (sym (c .before .is-unfit .ensures .answer) ∙ c .if1 .taken)
+    load-unfit intel (now (s .text)) (s .first) (now (s .page)) (now (s .marks)) (sym (c .before .is-unfit .ensures .answer) ∙ c .if1 .taken)
 
 returns-2 : tie.Need-returns-2
 returns-2 c =
     let s = c .before .before .before .before .before .before .before .before .before .before .before .before .before .before .before .before .before .before .before .args in
     let t = c .before .before .before .before .before .before .before .before .before .before .before .before .before .judge-text in
     let w = c .before .before .before .before .write-text in
-    load-accepted (now (s .text)) (s .first) (now (s .page)) (now (s .marks)) (fit (c .before .before .before .before .before .before .before .before .before .before .before .before .before .before)) (t .result) (t .ensures) (sym (c .before .before .before .before .before .before .before .before .before .before .before .before .is-accepted .ensures) ∙ c .before .before .before .before .before .before .before .before .before .before .before .if2 .taken)
+    load-accepted intel (now (s .text)) (s .first) (now (s .page)) (now (s .marks)) (fit (c .before .before .before .before .before .before .before .before .before .before .before .before .before .before)) (t .result) (t .ensures) (sym (c .before .before .before .before .before .before .before .before .before .before .before .before .is-accepted .ensures .answer) ∙ c .before .before .before .before .before .before .before .before .before .before .before .if2 .taken)
     (c .before .before .before .before .before .before .before .before .before .clear .last .0) (w .last .1 .1 .0) (w .last .1 .1 .1 .0) (c .before .before .before .before .before .before .before .before .before .clear .ensures .left) (w .ensures)
 
 returns-3 : tie.Need-returns-3
 returns-3 c =
     let s = c .before .before .before .before .before .before .before .before .args in
     let t = c .before .before .judge-text in
-    load-refused (now (s .text)) (s .first) (now (s .page)) (now (s .marks)) (fit (c .before .before .before)) (t .result) (t .ensures) (sym (c .before .is-accepted .ensures) ∙ c .if2 .left)
+    load-refused intel (now (s .text)) (s .first) (now (s .page)) (now (s .marks)) (fit (c .before .before .before)) (t .result) (t .ensures) (sym (c .before .is-accepted .ensures .answer) ∙ c .if2 .left)
 
 pub load-spec : {M : Type 1} → statement M
 load-spec =

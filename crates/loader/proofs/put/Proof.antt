@@ -5,7 +5,11 @@ use mathlib.Core.Path.{sym}
 use lib.Seq.{length-take-le}
 use native.Mathlib.Omega.{arith}
 use borrow.Author.Needs.{needs}
-use Rattle.loader.proofs.Runs.{stored-once, stored-twice}
+use lib.ListN.{length}
+use Rattle.window.proofs.Spread.{stored-once, stored-twice}
+use Rattle.loader.specs.Placing.{byte-address}
+use Rattle.loader.specs.Helpers.{based}
+use Rattle.loader.proofs.Runs.{few, runs}
 use Rattle.loader.proofs.put.Statement.{statement}
 use Rattle.loader.proofs.put.Tie as tie
 
@@ -21,14 +25,14 @@ returns : tie.Need-returns
 returns c =
     let s = c .before .before .before .before .before .before .before .before .before .before .before .before .before .before .before .before .before .before .before .before .before .before .before in
     let a = s .args in
-    stored-twice (a .base) (a .offset) (a .first) (now (a .bytes)) (now (a .page)) (now (a .marks)) (search needs) (s .pre) (c .before .before .before .before .before .before .before .before .before .before .before .before .before .before .before .before .before .before .before .first-run .result) (c .before .before .before .before .before .before .before .before .before .before .before .before .before .before .before .before .before .before .before .first-run .ensures)
+    stored-twice (byte-address (based (a .base)) (a .offset)) (a .first) (now (a .bytes)) (now (a .page)) (now (a .marks)) (c .before .before .before .before .before .before .before .before .before .before .before .before .before .before .before .before .before .before .before .first-run .result) (few (a .base) (a .offset) (length (now (a .bytes))) (search needs) (s .pre) (c .before .before .before .before .before .before .before .before .before .before .before .before .before .before .before .before .before .before .before .first-run .result) (c .before .before .before .before .before .before .before .before .before .before .before .before .before .before .before .before .before .before .before .first-run .ensures)) (runs (a .base) (a .offset) (length (now (a .bytes))) (search needs) (s .pre) (c .before .before .before .before .before .before .before .before .before .before .before .before .before .before .before .before .before .before .before .first-run .result) (c .before .before .before .before .before .before .before .before .before .before .before .before .before .before .before .before .before .before .before .first-run .ensures))
     (c .before .before .before .before .before .before .before .before .before .before .before .before .before .before .before .before .before .before .byte-address .result) (c .before .before .before .before .before .before .before .before .before .before .before .before .before .before .before .before .before .before .byte-address .ensures) _ _ (c .before .before .before .before .before .before .before .before .before .before .before .before .before .before .put-run .ensures) (c .before .before .before .before .before .before .before .before .byte-address2 .result) (c .before .before .before .before .before .before .before .before .byte-address2 .ensures) _ _ (c .before .before .before .before .put-run2 .ensures)
 
 returns-2 : tie.Need-returns-2
 returns-2 c =
     let s = c .before .before .before .before .before .before .before .before .before .before .before .before .before .before in
     let a = s .args in
-    stored-once (a .base) (a .offset) (a .first) (now (a .bytes)) (now (a .page)) (now (a .marks)) (search needs) (s .pre) (c .before .before .before .before .before .before .before .before .before .before .first-run .result) (c .before .before .before .before .before .before .before .before .before .before .first-run .ensures)
+    stored-once (byte-address (based (a .base)) (a .offset)) (a .first) (now (a .bytes)) (now (a .page)) (now (a .marks)) (c .before .before .before .before .before .before .before .before .before .before .first-run .result) (few (a .base) (a .offset) (length (now (a .bytes))) (search needs) (s .pre) (c .before .before .before .before .before .before .before .before .before .before .first-run .result) (c .before .before .before .before .before .before .before .before .before .before .first-run .ensures)) (runs (a .base) (a .offset) (length (now (a .bytes))) (search needs) (s .pre) (c .before .before .before .before .before .before .before .before .before .before .first-run .result) (c .before .before .before .before .before .before .before .before .before .before .first-run .ensures))
     (c .before .before .before .before .before .before .before .before .before .byte-address .result) (c .before .before .before .before .before .before .before .before .before .byte-address .ensures) _ _ (c .before .before .before .before .before .put-run .ensures) (omega arith)
 
 pub put-spec : {M : Type 1} → statement M

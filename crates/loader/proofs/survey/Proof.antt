@@ -4,7 +4,10 @@ use mathlib.Core.Path.{ap}
 use native.Mathlib.Omega.{arith}
 use Rattle.window.specs.Contracts.{first-byte}
 use borrow.Author.Needs.{needs}
-use Rattle.loader.proofs.Runs.{code-whole, code-low, code-high, code-inside}
+use Rattle.window.proofs.Spread.{code-whole, code-low, code-high, code-inside}
+use Rattle.loader.specs.Placing.{byte-address}
+use Rattle.loader.specs.Helpers.{based}
+use Rattle.loader.proofs.Runs.{few, runs}
 use Rattle.loader.proofs.survey.Statement.{statement}
 use Rattle.loader.proofs.survey.Tie as tie
 
@@ -12,7 +15,7 @@ returns : tie.Need-returns
 returns c =
     let s = c .before .before .before .before in
     let a = s .args in
-    code-whole (a .base) (a .offset) (a .len) (a .first) (a .size) (search needs) (s .pre) (c .before .before .before .first-run .result) (c .before .before .before .first-run .ensures)
+    code-whole (byte-address (based (a .base)) (a .offset)) (a .len) (a .first) (a .size) (c .before .before .before .first-run .result) (few (a .base) (a .offset) (a .len) (search needs) (s .pre) (c .before .before .before .first-run .result) (c .before .before .before .first-run .ensures)) (runs (a .base) (a .offset) (a .len) (search needs) (s .pre) (c .before .before .before .first-run .result) (c .before .before .before .first-run .ensures))
     (c .before .byte-address .result) (c .before .byte-address .ensures) (c .before .before .if1 .taken) (c .first-outside .result) (c .first-outside .ensures)
 
 byte-address-requires-3 : tie.Need-byte-address-requires-3
@@ -28,14 +31,14 @@ returns-2 : tie.Need-returns-2
 returns-2 c =
     let s = c .before .before .before .before .before .before .before in
     let a = s .args in
-    code-low (a .base) (a .offset) (a .len) (a .first) (a .size) (search needs) (s .pre) (c .before .before .before .before .before .before .first-run .result) (c .before .before .before .before .before .before .first-run .ensures)
+    code-low (byte-address (based (a .base)) (a .offset)) (a .len) (a .first) (a .size) (c .before .before .before .before .before .before .first-run .result) (few (a .base) (a .offset) (a .len) (search needs) (s .pre) (c .before .before .before .before .before .before .first-run .result) (c .before .before .before .before .before .before .first-run .ensures)) (runs (a .base) (a .offset) (a .len) (search needs) (s .pre) (c .before .before .before .before .before .before .first-run .result) (c .before .before .before .before .before .before .first-run .ensures))
     (c .before .before .before .before .byte-address2 .result) (c .before .before .before .before .byte-address2 .ensures) (c .before .before .before .first-outside2 .result) (c .before .before .before .first-outside2 .ensures) (c .before .i .given .0 .0) (c .before .i .given .1)
 
 returns-3 : tie.Need-returns-3
 returns-3 c =
     let s = c .before .before .before .before .before .before .before .before .before .before .before in
     let a = s .args in
-    code-high (a .base) (a .offset) (a .len) (a .first) (a .size) (search needs) (s .pre) (c .before .before .before .before .before .before .before .before .before .before .first-run .result) (c .before .before .before .before .before .before .before .before .before .before .first-run .ensures)
+    code-high (byte-address (based (a .base)) (a .offset)) (a .len) (a .first) (a .size) (c .before .before .before .before .before .before .before .before .before .before .first-run .result) (few (a .base) (a .offset) (a .len) (search needs) (s .pre) (c .before .before .before .before .before .before .before .before .before .before .first-run .result) (c .before .before .before .before .before .before .before .before .before .before .first-run .ensures)) (runs (a .base) (a .offset) (a .len) (search needs) (s .pre) (c .before .before .before .before .before .before .before .before .before .before .first-run .result) (c .before .before .before .before .before .before .before .before .before .before .first-run .ensures))
     (c .before .before .before .before .before .before .before .before .byte-address2 .result) (c .before .before .before .before .before .before .before .before .byte-address2 .ensures) (c .before .before .before .before .before .before .before .first-outside2 .result) (c .before .before .before .before .before .before .before .first-outside2 .ensures) (c .before .before .before .before .before .enum-told .given .1)
     (c .before .before .before .before .byte-address3 .result) (c .before .before .before .before .byte-address3 .ensures) (c .before .before .before .first-outside3 .result) (c .before .before .before .first-outside3 .ensures) (c .before .i2 .given .0 .0) (c .before .i2 .given .1)
 
@@ -43,7 +46,7 @@ returns-4 : tie.Need-returns-4
 returns-4 c =
     let s = c .before .before .before .before .before .before .before .before .before .before in
     let a = s .args in
-    code-inside (a .base) (a .offset) (a .len) (a .first) (a .size) (search needs) (s .pre) (c .before .before .before .before .before .before .before .before .before .first-run .result) (c .before .before .before .before .before .before .before .before .before .first-run .ensures)
+    code-inside (byte-address (based (a .base)) (a .offset)) (a .len) (a .first) (a .size) (c .before .before .before .before .before .before .before .before .before .first-run .result) (few (a .base) (a .offset) (a .len) (search needs) (s .pre) (c .before .before .before .before .before .before .before .before .before .first-run .result) (c .before .before .before .before .before .before .before .before .before .first-run .ensures)) (runs (a .base) (a .offset) (a .len) (search needs) (s .pre) (c .before .before .before .before .before .before .before .before .before .first-run .result) (c .before .before .before .before .before .before .before .before .before .first-run .ensures))
     (c .before .before .before .before .before .before .before .byte-address2 .result) (c .before .before .before .before .before .before .before .byte-address2 .ensures) (c .before .before .before .before .before .before .first-outside2 .result) (c .before .before .before .before .before .before .first-outside2 .ensures) (c .before .before .before .before .enum-told .given .1)
     (c .before .before .before .byte-address3 .result) (c .before .before .before .byte-address3 .ensures) (c .before .before .first-outside3 .result) (c .before .before .first-outside3 .ensures) (c .enum-told2 .given .1)
 
