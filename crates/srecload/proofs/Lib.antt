@@ -1,0 +1,9 @@
+pub mod Runs
+pub mod Reading
+pub mod Meeting
+pub mod Writing
+pub mod Demand3
+pub mod OneReason
+pub mod Reasons
+pub mod Claims
+pub mod Stored

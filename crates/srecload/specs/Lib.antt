@@ -1,0 +1,5 @@
+pub mod Placing
+pub mod Load
+pub mod Helpers
+pub mod Claims
+pub mod Stored

@@ -1,0 +1,296 @@
+// A text of S-records loaded into a page with marks: the whole text is judged first, then it is written.
+use srec::SAnswer;
+use srec::SRecord;
+use srec::types;
+use steps::LoaderError;
+use steps::Loading;
+use steps::Tally;
+use window::Reach;
+ghost use mathlib.Core.Path.{_≡_};
+ghost use Prim.Native.Nat.{_+_, _-_, _^_, _≤_, _<_, min};
+ghost use lib.ListN.{length};
+ghost use Rattle.steps.specs.Steps.{nothing-yet, decision, verdict};
+ghost use Rattle.steps.specs.Told.{told-loading};
+ghost use Rattle.window.specs.Window.{within};
+ghost use Rattle.window.specs.Contracts.{Surveyed, Painted};
+ghost use Rattle.srecload.specs.Placing.{s-address, s-placed, line-steps};
+ghost use Rattle.srecload.specs.Load.{placements, steps-of, LoadSRecords};
+ghost use Rattle.srecload.specs.Helpers.{Lies-in, MeetsData, MeetsCount, Meets, Met, Under-way, Judged, Wrote-record, Wrote-line, Wrote};
+
+// How many addresses there are.
+const ADDRESSES: u64 = 4294967296;
+
+// The most bytes of data that a record has.
+const MOST_DATA: usize = 252;
+
+// Where a pass stands in a text: after so many lines, at a position.
+struct Walk {
+    position: usize,
+    line: usize,
+}
+
+// What a line comes to in the first pass: the tally so far with the walk after it, or the answer.
+enum Turn {
+    On(Tally, Walk),
+    Stop(Loading),
+}
+
+// What a line comes to in the second pass: the walk after it, or the end.
+enum Further {
+    On(Walk),
+    End,
+}
+
+// The address of byte i of a data record.
+fn byte_address(address: u32, i: usize) -> u32
+    requires { ⌜ i < 65536 ⌝ }
+    ensures { λ r. ⌜ r ≡ s-address address i ⌝ }
+{
+    std::num::wrapping_add_u32(address, i as u32)
+}
+
+// How many of the bytes of a data record stand before the last address. Those after them lie from address 0 on.
+fn first_run(address: u32, len: usize) -> usize
+    ensures { λ r. ⌜ r ≡ min len (2 ^ 32 - address) ⌝ }
+{
+    let room = (ADDRESSES - (address as u64)) as usize;
+    if len <= room {
+        return len;
+    }
+    room
+}
+
+// Where the bytes of a data record lie.
+fn survey(address: u32, len: usize, first: u32, size: usize) -> Reach
+    requires { ⌜ len ≤ 252 ⌝ }
+    ensures { λ r. ⌜ Surveyed (s-address address) len first size r ⌝ }
+{
+    let run = first_run(address, len);
+    if run == len {
+        return window::first_outside(first, size, address, len);
+    }
+    match window::first_outside(first, size, address, run) {
+        Reach::Outside(i) => Reach::Outside(i),
+        Reach::Inside => match window::first_outside(first, size, 0, len - run) {
+            Reach::Outside(i) => Reach::Outside(run + i),
+            Reach::Inside => Reach::Inside,
+        },
+    }
+}
+
+// Stores the bytes of a data record and marks their places, each at its own address.
+fn put(address: u32, bytes: &[u8], first: u32, page: &mut [u8], marks: &mut [u8])
+    requires { ⌜ length (now bytes) ≤ 252 ⌝ }
+    ensures { λ _. ⌜ Painted first (s-placed address (now (bytes .entry))) (now (page .entry)) (now (marks .entry)) (now (page .exit)) (now (marks .exit)) ⌝ }
+{
+    let run = first_run(address, bytes.len());
+    window::put_run(first, address, &bytes[..run], page, marks);
+    if run < bytes.len() {
+        window::put_run(first, 0, &bytes[run..], page, marks);
+    }
+}
+
+// What a data record comes to in the first pass.
+fn judge_data(first: u32, size: usize, there: Walk, tally: Tally, given: SRecord) -> Turn
+    requires { ⌜ (given .len ≤ 252) × (tally .records + 1 < 2 ^ 64) ⌝ }
+    ensures { λ r. ⌜ MeetsData (within first size) there tally given r ⌝ }
+{
+    let address = given.address;
+    match survey(address, given.len, first, size) {
+        Reach::Inside => Turn::On(
+            Tally {
+                records: tally.records + 1,
+            },
+            there,
+        ),
+        Reach::Outside(i) => Turn::Stop(Loading::Refused(
+            LoaderError::OutsideWindow(byte_address(address, i)),
+            there.line,
+        )),
+    }
+}
+
+// What a count comes to in the first pass.
+fn judge_count(there: Walk, tally: Tally, stated: u32) -> Turn
+    ensures { λ r. ⌜ MeetsCount there tally stated r ⌝ }
+{
+    let count = stated as usize;
+    let seen = tally.records;
+    if count == seen {
+        return Turn::On(tally, there);
+    }
+    Turn::Stop(Loading::Refused(LoaderError::CountMismatch(count, seen), there.line))
+}
+
+// What a record comes to in the first pass. The walk stands after the record's line.
+fn judge_record(first: u32, size: usize, there: Walk, tally: Tally, given: SRecord) -> Turn
+    requires { ⌜ (given .len ≤ 252) × (tally .records + 1 < 2 ^ 64) ⌝ }
+    ensures { λ r. ⌜ Meets (within first size) there tally given r ⌝ }
+{
+    let kind = given.kind;
+    let digit = kind.digit();
+    if digit == types::S0 {
+        return Turn::On(tally, there);
+    }
+    if digit <= types::S3 {
+        return judge_data(first, size, there, tally, given);
+    }
+    if digit == types::S5 {
+        return judge_count(there, tally, given.address);
+    }
+    Turn::Stop(Loading::Accepted(tally))
+}
+
+// What a line comes to in the first pass. The walk stands after it.
+fn judge_line(
+    line: &[u8],
+    pool: &mut [u8],
+    first: u32,
+    size: usize,
+    there: Walk,
+    tally: Tally,
+) -> Turn
+    requires { ⌜ (length (now pool) ≡ 252) × (tally .records + 1 < 2 ^ 64) ⌝ }
+    ensures { λ r. ⌜ Met (within first size) there tally (line-steps (there .line) (now (line .entry))) r ⌝ }
+{
+    if line.len() == 0 {
+        return Turn::On(tally, there);
+    }
+    match srec::read_srecord(line, pool, 0) {
+        SAnswer::Read(given) => judge_record(first, size, there, tally, given),
+        SAnswer::Refused(e) => Turn::Stop(Loading::Refused(LoaderError::Line(e), there.line)),
+    }
+}
+
+// What the next line comes to in the first pass.
+fn judge_next(text: &[u8], pool: &mut [u8], first: u32, size: usize, w: Walk, tally: Tally) -> Turn
+    requires { ⌜ Under-way (now text) w × (tally .records ≤ w .line) × (length (now pool) ≡ 252) ⌝ }
+    ensures { λ r. ⌜ Judged (within first size) (now (text .entry)) w tally r ⌝ }
+{
+    let from = w.position;
+    if from == text.len() {
+        return Turn::Stop(Loading::Refused(LoaderError::MissingEndOfFileRecord, 0));
+    }
+    let mut n = 0;
+    let line = reader::first_line(&text[from..], &mut n);
+    let there = Walk {
+        position: from + n,
+        line: w.line + 1,
+    };
+    judge_line(line, pool, first, size, there, tally)
+}
+
+// The first pass: the answer to a text for a window that is not refused. Nothing is written.
+fn judge_text(text: &[u8], first: u32, size: usize) -> Loading
+    ensures { λ r. ⌜ told-loading r ≡ verdict (decision (within first size) nothing-yet (steps-of (now (text .entry)))) ⌝ }
+{
+    let mut pool = [0u8; MOST_DATA];
+    let mut w = Walk {
+        position: 0,
+        line: 0,
+    };
+    let mut tally = Tally { records: 0 };
+    loop {
+        match judge_next(text, &mut pool, first, size, w, tally) {
+            Turn::On(t, next) => {
+                w = next;
+                tally = t;
+            }
+            Turn::Stop(answer) => return answer,
+        }
+    }
+}
+
+// Stores and marks what a record states, and returns whether the text goes on after it.
+fn write_record(pool: &[u8], first: u32, given: SRecord, page: &mut [u8], marks: &mut [u8]) -> bool
+    requires { ⌜ Lies-in given (now pool) ⌝ }
+    ensures { λ r. ⌜ Wrote-record first given (now (pool .entry)) (now (page .entry)) (now (marks .entry)) r (now (page .exit)) (now (marks .exit)) ⌝ }
+{
+    let kind = given.kind;
+    let digit = kind.digit();
+    if digit == types::S0 {
+        return true;
+    }
+    if digit <= types::S3 {
+        let from = given.at;
+        let end = from + given.len;
+        put(given.address, &pool[from..end], first, page, marks);
+        return true;
+    }
+    digit == types::S5
+}
+
+// Stores and marks what a line states, and returns whether the text goes on after it.
+fn write_line(line: &[u8], pool: &mut [u8], first: u32, page: &mut [u8], marks: &mut [u8]) -> bool
+    requires { ⌜ length (now pool) ≡ 252 ⌝ }
+    ensures { λ r. ⌜ Wrote-line first (now (line .entry)) (now (page .entry)) (now (marks .entry)) r (now (page .exit)) (now (marks .exit)) ⌝ }
+{
+    if line.len() == 0 {
+        return true;
+    }
+    match srec::read_srecord(line, pool, 0) {
+        SAnswer::Read(given) => write_record(pool, first, given, page, marks),
+        SAnswer::Refused(_) => false,
+    }
+}
+
+// The next line in the second pass.
+fn write_next(
+    text: &[u8],
+    pool: &mut [u8],
+    first: u32,
+    w: Walk,
+    page: &mut [u8],
+    marks: &mut [u8],
+) -> Further
+    requires { ⌜ Under-way (now text) w × (length (now pool) ≡ 252) ⌝ }
+    ensures { λ r. ⌜ Wrote first (now (text .entry)) w (now (page .entry)) (now (marks .entry)) r (now (page .exit)) (now (marks .exit)) ⌝ }
+{
+    let from = w.position;
+    if from == text.len() {
+        return Further::End;
+    }
+    let mut n = 0;
+    let line = reader::first_line(&text[from..], &mut n);
+    if write_line(line, pool, first, page, marks) {
+        return Further::On(Walk {
+            position: from + n,
+            line: w.line + 1,
+        });
+    }
+    Further::End
+}
+
+// The second pass: all that a text states, onto page and marks.
+fn write_text(text: &[u8], first: u32, page: &mut [u8], marks: &mut [u8])
+    ensures { λ _. ⌜ Painted first (placements (now (text .entry))) (now (page .entry)) (now (marks .entry)) (now (page .exit)) (now (marks .exit)) ⌝ }
+{
+    let mut pool = [0u8; MOST_DATA];
+    let mut w = Walk {
+        position: 0,
+        line: 0,
+    };
+    loop {
+        match write_next(text, &mut pool, first, w, page, marks) {
+            Further::On(next) => {
+                w = next;
+            }
+            Further::End => return,
+        }
+    }
+}
+
+// Loads a text of S-records into a page, whose first place has the address `first`. A mark for each place says whether the text states it.
+pub fn load_srecords(text: &[u8], first: u32, page: &mut [u8], marks: &mut [u8]) -> Loading
+    ensures { λ r. ⌜ LoadSRecords (now (text .entry)) first (now (page .entry)) (now (marks .entry)) r (now (page .exit)) (now (marks .exit)) ⌝ }
+{
+    if window::is_unfit(first, page.len(), marks.len()) {
+        return Loading::Refused(LoaderError::BadWindow, 0);
+    }
+    let answer = judge_text(text, first, page.len());
+    if answer.is_accepted() {
+        marks::clear(marks);
+        write_text(text, first, page, marks);
+    }
+    answer
+}
