@@ -5,7 +5,7 @@ use mathlib.Core.Path.{_≡_, sym, _∙_}
 use Rattle.codes.specs.declared.Coded.{Coded}
 use Rattle.codes.specs.declared.Spot.{Spot}
 use Rattle.codes.specs.Codes.{Message, Coded-as}
-use Rattle.codes.specs.Claims.{Code-answer-unique, Code-reply-unique, Code-chunk-reply-unique, Code-attempt-unique, Code-loading-unique, Code-paged-unique, Line-at-unique, State-from-unique, Flags-from-unique, Chunks-from-unique, Chunk-flags-from-unique, Spot-of-unique, Place-from-unique}
+use Rattle.codes.specs.Claims.{Code-answer-unique, Code-sanswer-unique, Code-reply-unique, Code-chunk-reply-unique, Code-attempt-unique, Code-sattempt-unique, Code-loading-unique, Code-paged-unique, Line-at-unique, State-from-unique, Flags-from-unique, Chunks-from-unique, Chunk-flags-from-unique, Spot-of-unique, Place-from-unique}
 
 one-coding : {m : Message} {r r′ : Coded} → Coded-as m r → Coded-as m r′ → r ≡ r′
 one-coding {r = r} {r′ = r′} x y =
@@ -22,6 +22,9 @@ one-coding {r = r} {r′ = r′} x y =
 pub code-answer-unique : Code-answer-unique
 code-answer-unique answer r r′ x y = one-coding x y
 
+pub code-sanswer-unique : Code-sanswer-unique
+code-sanswer-unique answer r r′ x y = one-coding x y
+
 pub code-reply-unique : Code-reply-unique
 code-reply-unique reply r r′ x y = one-coding x y
 
@@ -30,6 +33,9 @@ code-chunk-reply-unique reply r r′ x y = one-coding x y
 
 pub code-attempt-unique : Code-attempt-unique
 code-attempt-unique attempt r r′ x y = one-coding x y
+
+pub code-sattempt-unique : Code-sattempt-unique
+code-sattempt-unique attempt r r′ x y = one-coding x y
 
 pub code-loading-unique : Code-loading-unique
 code-loading-unique answer r r′ x y = one-coding x y

@@ -8,14 +8,17 @@ use Rattle.reader.specs.declared.Reply.{Reply}
 use Rattle.reader.specs.declared.State.{State}
 use Rattle.reader.specs.Told.{told}
 use Rattle.reader.specs.Text.{told-reply}
+use Rattle.srec.specs.declared.SAnswer.{SAnswer}
+use Rattle.srec.specs.Answer.{told as told-sanswer}
 use Rattle.entries.specs.declared.Attempt.{Attempt}
-use Rattle.entries.specs.Attempts.{told-attempt}
+use Rattle.entries.specs.declared.SAttempt.{SAttempt}
+use Rattle.entries.specs.Attempts.{told-attempt, told-sattempt}
 use Rattle.chunks.specs.declared.ChunkReply.{ChunkReply}
 use Rattle.chunks.specs.declared.Chunks.{Chunks}
 use Rattle.chunks.specs.declared.Place.{Place}
 use Rattle.chunks.specs.Next.{word-of}
-use Rattle.loader.specs.declared.Loading.{Loading}
-use Rattle.loader.specs.Told.{told-loading}
+use Rattle.steps.specs.declared.Loading.{Loading}
+use Rattle.steps.specs.Told.{told-loading}
 use Rattle.page.specs.declared.Paged.{Paged}
 use Rattle.page.specs.Told.{told-page}
 use Rattle.codes.specs.declared.Coded.{Coded}
@@ -32,6 +35,9 @@ One-coding A message-of = (x : A) (r r′ : Coded) → Coded-as (message-of x) r
 abbrev pub Code-answer-unique : Type 0
 Code-answer-unique = One-coding Answer (λ x. reading (told x))
 
+abbrev pub Code-sanswer-unique : Type 0
+Code-sanswer-unique = One-coding SAnswer (λ x. reading (told-sanswer x))
+
 abbrev pub Code-reply-unique : Type 0
 Code-reply-unique = One-coding Reply (λ x. reading (told-reply x))
 
@@ -40,6 +46,9 @@ Code-chunk-reply-unique = One-coding ChunkReply (λ x. reading-chunk (word-of x)
 
 abbrev pub Code-attempt-unique : Type 0
 Code-attempt-unique = One-coding Attempt (λ x. writing (told-attempt x))
+
+abbrev pub Code-sattempt-unique : Type 0
+Code-sattempt-unique = One-coding SAttempt (λ x. writing (told-sattempt x))
 
 abbrev pub Code-loading-unique : Type 0
 Code-loading-unique = One-coding Loading (λ x. loading (told-loading x))

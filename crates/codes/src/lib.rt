@@ -3,8 +3,7 @@ use chunks::ChunkReply;
 use chunks::Chunks;
 use chunks::Place;
 use entries::Attempt;
-use loader::LoaderError;
-use loader::Loading;
+use entries::SAttempt;
 use page::PageError;
 use page::Paged;
 use reader::Answer;
@@ -15,6 +14,12 @@ use reader::State;
 use reader::Values;
 use record::Record;
 use record::refusals;
+use srec::SAnswer;
+use srec::SRecord;
+use srec::SWriterError;
+use srec::SWritten;
+use steps::LoaderError;
+use steps::Loading;
 use writer::WriterError;
 use writer::Written;
 ghost use mathlib.Core.Path.{_≡_};
@@ -23,9 +28,11 @@ ghost use Prim.Native.Nat.{_+_};
 ghost use Rattle.reader.specs.Told.{told, refusal-of};
 ghost use Rattle.reader.specs.Text.{told-reply};
 ghost use Rattle.writer.specs.Told.{told-written, writer-refusal};
-ghost use Rattle.entries.specs.Attempts.{told-attempt};
+ghost use Rattle.srec.specs.Answer.{told as told-sanswer};
+ghost use Rattle.srec.specs.Writer.{told-swritten, swriter-refusal};
+ghost use Rattle.entries.specs.Attempts.{told-attempt, told-sattempt};
 ghost use Rattle.chunks.specs.Next.{word-of};
-ghost use Rattle.loader.specs.Told.{told-loading, loader-refusal};
+ghost use Rattle.steps.specs.Told.{told-loading, loader-refusal};
 ghost use Rattle.page.specs.Told.{told-page, page-refusal};
 ghost use Rattle.codes.specs.Codes.{Coded-as, refused-with, reading, reading-chunk, writing, loading, LineAt};
 ghost use Rattle.codes.specs.States.{Flag, StateFrom, FlagsFrom, ChunksFrom, ChunkFlagsFrom, Spot-as, PlaceFrom};
@@ -98,6 +105,28 @@ pub fn code_answer(answer: Answer) -> Coded
     }
 }
 
+// The digit of the type, then address, position and length.
+fn code_srecord(given: SRecord) -> Coded
+    ensures { λ r. ⌜ Coded-as (reading (told-sanswer (SAnswer.Read given))) r ⌝ }
+{
+    let kind = given.kind;
+    four(
+        kind.digit() as u32,
+        given.address as u64,
+        given.at as u64,
+        given.len as u64,
+    )
+}
+
+pub fn code_sanswer(answer: SAnswer) -> Coded
+    ensures { λ r. ⌜ Coded-as (reading (told-sanswer answer)) r ⌝ }
+{
+    match answer {
+        SAnswer::Read(r) => code_srecord(r),
+        SAnswer::Refused(e) => code_error(e),
+    }
+}
+
 pub fn code_reply(reply: Reply) -> Coded
     ensures { λ r. ⌜ Coded-as (reading (told-reply reply)) r ⌝ }
 {
@@ -159,6 +188,41 @@ pub fn code_attempt(attempt: Attempt) -> Coded
     }
 }
 
+fn code_swriter_error(e: SWriterError) -> Coded
+    ensures { λ r. ⌜ Coded-as (refused-with (swriter-refusal e)) r ⌝ }
+{
+    match e {
+        SWriterError::PayloadOutsidePool => refused(refusals::PAYLOAD_OUTSIDE_POOL, 0, 0),
+        SWriterError::InvalidLengthForType => refused(refusals::INVALID_LENGTH_FOR_TYPE, 0, 0),
+        SWriterError::DataExceedsMaximumLength(n) => refused(
+            refusals::DATA_EXCEEDS_MAXIMUM_LENGTH,
+            n as u64,
+            0,
+        ),
+        SWriterError::AddressTooWide => refused(refusals::ADDRESS_TOO_WIDE, 0, 0),
+        SWriterError::OutputFull => refused(refusals::OUTPUT_FULL, 0, 0),
+    }
+}
+
+fn code_swritten(answer: SWritten) -> Coded
+    ensures { λ r. ⌜ Coded-as (writing (some (told-swritten answer))) r ⌝ }
+{
+    match answer {
+        SWritten::Wrote(n) => four(OK, n as u64, 0, 0),
+        SWritten::Refused(e) => code_swriter_error(e),
+    }
+}
+
+// What comes of an attempt to write an S-record, in numbers.
+pub fn code_sattempt(attempt: SAttempt) -> Coded
+    ensures { λ r. ⌜ Coded-as (writing (told-sattempt attempt)) r ⌝ }
+{
+    match attempt {
+        SAttempt::Made(answer) => code_swritten(answer),
+        SAttempt::BadRecord => four(BAD_RECORD, 0, 0, 0),
+    }
+}
+
 fn code_loader_error(e: LoaderError) -> Coded
     ensures { λ r. ⌜ Coded-as (refused-with (loader-refusal e)) r ⌝ }
 {
@@ -167,6 +231,11 @@ fn code_loader_error(e: LoaderError) -> Coded
         LoaderError::MissingEndOfFileRecord => refused(refusals::MISSING_END_OF_FILE_RECORD, 0, 0),
         LoaderError::BadWindow => refused(refusals::BAD_WINDOW, 0, 0),
         LoaderError::OutsideWindow(address) => refused(refusals::OUTSIDE_WINDOW, address as u64, 0),
+        LoaderError::CountMismatch(stated, seen) => refused(
+            refusals::COUNT_MISMATCH,
+            stated as u64,
+            seen as u64,
+        ),
     }
 }
 

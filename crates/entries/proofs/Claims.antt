@@ -4,13 +4,17 @@ use mathlib.Core.Path.{_≡_, refl, sym, _∙_, ap}
 use mathlib.Core.Option.{Option}
 use mathlib.Core.List.{List}
 use Prim.Native.Nat.{ℕ}
+use Rattle.writer.specs.Told.{Told-written}
 use Rattle.writer.specs.Text.{Text}
 use Rattle.writer.proofs.Unique.{told-apart}
+use Rattle.srec.proofs.Unique.{written-apart}
 use Rattle.entries.specs.declared.Attempt.{Attempt}
 use Rattle.entries.specs.declared.Attempt.the-variants.{Made, BadRecord}
+use Rattle.entries.specs.declared.SAttempt.{SAttempt}
+use Rattle.entries.specs.declared.SAttempt.the-variants as s-attempts
 use Rattle.entries.specs.Entry.{records-of}
-use Rattle.entries.specs.Attempts.{told-attempt, Attempts}
-use Rattle.entries.specs.Claims.{Write-record-unique, Write-list-unique, List-examples}
+use Rattle.entries.specs.Attempts.{told-attempt, told-sattempt, Attempts}
+use Rattle.entries.specs.Claims.{Write-record-unique, Write-srecord-unique, Write-list-unique, List-examples}
 use Rattle.entries.proofs.Listing.{some-none, same-some}
 
 attempts-apart : (a b : Attempt) → told-attempt a ≡ told-attempt b → a ≡ b
@@ -19,14 +23,23 @@ attempts-apart (Made a) BadRecord e = some-none refl e
 attempts-apart BadRecord (Made b) e = some-none refl (sym e)
 attempts-apart BadRecord BadRecord e = refl
 
-attempts-unique : {t : Option Text} {out : List ℕ} {r r′ : Attempt} {o o′ : List ℕ} → Attempts t out r o → Attempts t out r′ o′ → (r ≡ r′) × (o ≡ o′)
-attempts-unique {r = r} {r′ = r′} x y = (attempts-apart r r′ (x .answer ∙ sym (y .answer)), x .left ∙ sym (y .left))
+sattempts-apart : (a b : SAttempt) → told-sattempt a ≡ told-sattempt b → a ≡ b
+sattempts-apart (s-attempts.Made a) (s-attempts.Made b) e = ap s-attempts.Made (written-apart a b (same-some e))
+sattempts-apart (s-attempts.Made a) s-attempts.BadRecord e = some-none refl e
+sattempts-apart s-attempts.BadRecord (s-attempts.Made b) e = some-none refl (sym e)
+sattempts-apart s-attempts.BadRecord s-attempts.BadRecord e = refl
+
+same-attempts : {t : Option Text} {out : List ℕ} {a a′ : Option Told-written} {o o′ : List ℕ} → Attempts t out a o → Attempts t out a′ o′ → (a ≡ a′) × (o ≡ o′)
+same-attempts x y = (x .answer ∙ sym (y .answer), x .left ∙ sym (y .left))
 
 pub write-record-unique : Write-record-unique
-write-record-unique kind number second at len pool out r r′ o o′ x y = attempts-unique x y
+write-record-unique kind number second at len pool out r r′ o o′ x y = let s = same-attempts x y in (attempts-apart r r′ (s .0), s .1)
+
+pub write-srecord-unique : Write-srecord-unique
+write-srecord-unique kind address at len pool out r r′ o o′ x y = let s = same-attempts x y in (sattempts-apart r r′ (s .0), s .1)
 
 pub write-list-unique : Write-list-unique
-write-list-unique list pool out r r′ o o′ x y = attempts-unique x y
+write-list-unique list pool out r r′ o o′ x y = let s = same-attempts x y in (attempts-apart r r′ (s .0), s .1)
 
 pub list-examples : List-examples
 unfolding records-of

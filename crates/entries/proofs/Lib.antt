@@ -1,4 +1,5 @@
 pub mod Listing
 pub mod Ranges
+pub mod Types
 pub mod Attempts
 pub mod Claims

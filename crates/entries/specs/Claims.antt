@@ -10,7 +10,8 @@ use Rattle.record.specs.declared.Record.the-variants.{Data, EndOfFile, StartSeg
 use Rattle.writer.specs.Claims.{In-range}
 use Rattle.entries.specs.declared.Attempt.{Attempt}
 use Rattle.entries.specs.Entry.{records-of}
-use Rattle.entries.specs.Attempts.{WriteRecord, WriteList}
+use Rattle.entries.specs.declared.SAttempt.{SAttempt}
+use Rattle.entries.specs.Attempts.{WriteRecord, WriteSRecord, WriteList}
 
 -- ---- no second answer, and no second content of the output, meets a contract
 
@@ -18,6 +19,11 @@ abbrev pub Write-record-unique : Type 0
 Write-record-unique =
     (kind number second at len : ℕ) (pool out : List ℕ) (r r′ : Attempt) (o o′ : List ℕ)
     → WriteRecord kind number second at len pool out r o → WriteRecord kind number second at len pool out r′ o′ → (r ≡ r′) × (o ≡ o′)
+
+abbrev pub Write-srecord-unique : Type 0
+Write-srecord-unique =
+    (kind address at len : ℕ) (pool out : List ℕ) (r r′ : SAttempt) (o o′ : List ℕ)
+    → WriteSRecord kind address at len pool out r o → WriteSRecord kind address at len pool out r′ o′ → (r ≡ r′) × (o ≡ o′)
 
 abbrev pub Write-list-unique : Type 0
 Write-list-unique =

@@ -1,13 +1,16 @@
 -- Records in numbers and in bytes, as C has them.
 -- Assumes nothing.
 use Prim.Native.Nat.{ℕ, zero, suc, _+_, _*_, _/_, _%_}
-use mathlib.Core.Option.{Option, none, some}
+use mathlib.Core.Option.{Option, none, some, Option·map}
 use mathlib.Core.List.{List, [], _∷_, _++_}
 use lib.Dec.{eqb, leb}
 use lib.ListN.{length, getD}
 use Rattle.digits.specs.Common.{if_then_else_}
 use Rattle.record.specs.declared.Record.{Record}
 use Rattle.record.specs.declared.Record.the-variants.{Data, EndOfFile, ExtendedSegmentAddress, StartSegmentAddress, ExtendedLinearAddress, StartLinearAddress}
+use Rattle.srec.specs.declared.SType.{SType}
+use Rattle.srec.specs.declared.SType.the-variants.{S0, S1, S2, S3, S5, S7, S8, S9}
+use Rattle.srec.specs.declared.SRecord.{SRecord}
 use Rattle.entries.specs.declared.Entry.{Entry}
 use Rattle.entries.specs.declared.Entry.the-variants.{Is, Bad}
 
@@ -25,6 +28,23 @@ record-of kind number second at len =
     if eqb kind 4 then if-short number (ExtendedLinearAddress number) else
     if eqb kind 5 then some (StartLinearAddress number) else
     none
+
+-- the type of S-records that a digit names, if it names one
+unfoldable pub type-named : (digit : ℕ) → Option SType
+type-named digit =
+    if eqb digit 0 then some S0 else
+    if eqb digit 1 then some S1 else
+    if eqb digit 2 then some S2 else
+    if eqb digit 3 then some S3 else
+    if eqb digit 5 then some S5 else
+    if eqb digit 7 then some S7 else
+    if eqb digit 8 then some S8 else
+    if eqb digit 9 then some S9 else
+    none
+
+-- the S-record of a type's digit and its numbers
+abbrev pub srecord-of : (kind address at len : ℕ) → Option SRecord
+srecord-of kind address at len = Option·map (λ (t : SType). record { kind = t; address = address; at = at; len = len }) (type-named kind)
 
 -- numbers of two, four and eight bytes, low byte first
 abbrev pub two-at : List ℕ → (at : ℕ) → ℕ

@@ -1,6 +1,9 @@
 // Writes a record that is given in numbers, and a list of records that is given in bytes, as C has them.
 use record::Record;
 use record::types;
+use srec::Named;
+use srec::SRecord;
+use srec::SWritten;
 use writer::Survey;
 use writer::Written;
 ghost use mathlib.Core.Path.{_≡_};
@@ -9,11 +12,17 @@ ghost use Prim.Native.Nat.{_+_, _*_, _≤_};
 ghost use lib.ListN.{length};
 ghost use Rattle.entries.specs.Entry.{two-at, four-at, eight-at, record-of, record-at, entry-of};
 ghost use Rattle.entries.specs.Helpers.{Is-list, Good, ListSurvey-as, Stepped};
-ghost use Rattle.entries.specs.Attempts.{WriteRecord, WriteList};
+ghost use Rattle.entries.specs.Attempts.{WriteRecord, WriteSRecord, WriteList};
 
 // What comes of an attempt to write: the writer's answer, unless what is given is not a record or a list of records.
 pub enum Attempt {
     Made(Written),
+    BadRecord,
+}
+
+// The same of an S-record.
+pub enum SAttempt {
+    Made(SWritten),
     BadRecord,
 }
 
@@ -71,6 +80,32 @@ pub fn write_record(
     match entry {
         Entry::Bad => Attempt::BadRecord,
         Entry::Is(x) => Attempt::Made(writer::to_record_string(x, pool, out)),
+    }
+}
+
+// An S-record, given in numbers, to its line, if its digit names a type.
+pub fn write_srecord(
+    kind: u8,
+    address: u32,
+    at: usize,
+    len: usize,
+    pool: &[u8],
+    out: &mut [u8],
+) -> SAttempt
+    ensures { λ r. ⌜ WriteSRecord kind address at len (now (pool .entry)) (now (out .entry)) r (now (out .exit)) ⌝ }
+{
+    let named = srec::type_of(kind);
+    match named {
+        Named::Nothing => SAttempt::BadRecord,
+        Named::Kind(t) => {
+            let x = SRecord {
+                kind: t,
+                address,
+                at,
+                len,
+            };
+            SAttempt::Made(srec::to_srecord_string(x, pool, out))
+        }
     }
 }
 

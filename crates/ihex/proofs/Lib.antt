@@ -4,6 +4,7 @@ pub mod Calls
 pub mod Readings
 pub mod Loads
 pub mod Writes
+pub mod SRecords
 pub mod Rows
 pub mod ByLines
 pub mod RoundTrip

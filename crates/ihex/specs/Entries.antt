@@ -9,6 +9,7 @@ use lib.ListN.{length, take, drop}
 use Rattle.digits.specs.Common.{if_then_else_}
 use Rattle.record.specs.Line.{judge}
 use Rattle.reader.specs.declared.State.{State}
+use Rattle.reader.specs.Told.{Told}
 use Rattle.reader.specs.Answer.{answered, poured}
 use Rattle.reader.specs.Text.{outcome}
 use Rattle.writer.specs.Text.{Text, place-behind}
@@ -17,15 +18,28 @@ use Rattle.chunks.specs.declared.ChunkStep.{ChunkStep}
 use Rattle.chunks.specs.declared.Place.{Place}
 use Rattle.chunks.specs.declared.Place.the-variants.{Nowhere, InChunk, InCarry}
 use Rattle.chunks.specs.Next.{word-of, Outcome, at-place, next-outcome, finish-outcome}
-use Rattle.loader.specs.Load.{load}
+use Rattle.srec.specs.Line as s-line
+use Rattle.srec.specs.Answer as s-answer
+use Rattle.steps.specs.Source.{Source}
+use Rattle.window.specs.Load.{load-window}
+use Rattle.loader.specs.Placing.{intel}
+use Rattle.srecload.specs.Placing.{s-records}
 use Rattle.page.specs.File.{page-text}
-use Rattle.entries.specs.Attempts.{told-of, output-with, record-text, list-text}
+use Rattle.entries.specs.Attempts.{told-of, output-with, record-text, srecord-text, list-text}
 use Rattle.codes.specs.Codes.{value, Numbers, reading, reading-chunk, writing, loading, line-at}
 use Rattle.codes.specs.States.{flags-of, chunk-flags-of, Spotted, place-of}
 
-pub record IhexReadRecord (line pool : List ℕ) (at r a b c : ℕ) (pool′ : List ℕ) : Type 0 where
-  pub answer : Numbers (reading (answered (judge line) (length pool) at)) r a b c
-  pub left : pool′ ≡ poured (judge line) pool at
+-- what is returned for one line, in numbers, and the pool after it
+pub record Read-line (t : Told) (pool : List ℕ) (r a b c : ℕ) (pool′ : List ℕ) : Type 0 where
+  pub answer : Numbers (reading t) r a b c
+  pub left : pool′ ≡ pool
+
+abbrev pub IhexReadRecord : (line pool : List ℕ) (at r a b c : ℕ) (pool′ : List ℕ) → Type 0
+IhexReadRecord line pool at r a b c pool′ = Read-line (answered (judge line) (length pool) at) (poured (judge line) pool at) r a b c pool′
+
+abbrev pub IhexReadSrecord : (line pool : List ℕ) (at r a b c : ℕ) (pool′ : List ℕ) → Type 0
+IhexReadSrecord line pool at r a b c pool′ =
+    Read-line (s-answer.answered (s-line.judge line) (length pool) at) (s-answer.poured (s-line.judge line) pool at) r a b c pool′
 
 pub record IhexNext (s : State) (text pool : List ℕ) (at r position line flags a b c : ℕ) (pool′ : List ℕ) : Type 0 where
   pub answer : Numbers (reading (outcome s text pool at .told)) r a b c
@@ -94,17 +108,28 @@ abbrev pub IhexToRecordString : (kind number second at len : ℕ) (pool out : Li
 IhexToRecordString kind number second at len pool out r v out′ =
     Wrote-text (record-text kind number second at len pool) out r v out′
 
+abbrev pub IhexToSrecordString : (kind address at len : ℕ) (pool out : List ℕ) (r v : ℕ) (out′ : List ℕ) → Type 0
+IhexToSrecordString kind address at len pool out r v out′ =
+    Wrote-text (srecord-text kind address at len pool) out r v out′
+
 abbrev pub IhexCreateObjectFileRepresentation : (list pool out : List ℕ) (r v : ℕ) (out′ : List ℕ) → Type 0
 IhexCreateObjectFileRepresentation list pool out r v out′ =
     Wrote-text (list-text list pool) out r v out′
 
-pub record IhexLoad (text : List ℕ) (first : ℕ) (page marks : List ℕ) (r line a b : ℕ) (page′ marks′ : List ℕ) : Type 0 where
-  pub code-is : r ≡ loading (load text first page marks .answer) .code
-  pub line-is : line ≡ line-at (load text first page marks .answer)
-  pub a-is : a ≡ value (loading (load text first page marks .answer)) 0
-  pub b-is : b ≡ value (loading (load text first page marks .answer)) 1
-  pub page-is : page′ ≡ load text first page marks .page
-  pub marks-is : marks′ ≡ load text first page marks .marks
+-- a text of any source was loaded: an answer in four numbers, and the page and the marks after it
+pub record IhexLoadBy {S : Type 0} (src : Source S) (text : List ℕ) (first : ℕ) (page marks : List ℕ) (r line a b : ℕ) (page′ marks′ : List ℕ) : Type 0 where
+  pub code-is : r ≡ loading (load-window src text first page marks .answer) .code
+  pub line-is : line ≡ line-at (load-window src text first page marks .answer)
+  pub a-is : a ≡ value (loading (load-window src text first page marks .answer)) 0
+  pub b-is : b ≡ value (loading (load-window src text first page marks .answer)) 1
+  pub page-is : page′ ≡ load-window src text first page marks .page
+  pub marks-is : marks′ ≡ load-window src text first page marks .marks
+
+abbrev pub IhexLoad : (text : List ℕ) (first : ℕ) (page marks : List ℕ) (r line a b : ℕ) (page′ marks′ : List ℕ) → Type 0
+IhexLoad text first page marks r line a b page′ marks′ = IhexLoadBy intel text first page marks r line a b page′ marks′
+
+abbrev pub IhexLoadSrecords : (text : List ℕ) (first : ℕ) (page marks : List ℕ) (r line a b : ℕ) (page′ marks′ : List ℕ) → Type 0
+IhexLoadSrecords text first page marks r line a b page′ marks′ = IhexLoadBy s-records text first page marks r line a b page′ marks′
 
 -- how long the file of a page is: an answer in two numbers
 pub record IhexPageFileLength (first : ℕ) (page marks : List ℕ) (r v : ℕ) : Type 0 where

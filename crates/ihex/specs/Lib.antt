@@ -3,6 +3,7 @@ pub mod Calls
 pub mod Readings
 pub mod Loads
 pub mod Writes
+pub mod SRecords
 pub mod Pages
 pub mod Rows
 pub mod ByLines

@@ -1,4 +1,5 @@
--- What is claimed of `ihex_load`, in its numbers: demand 3 of document 01, why it returns what it returns, and what its packed marks say.
+-- What is claimed of `ihex_load` and `ihex_load_srecords`, in their numbers: demand 3 of document 01, why they return what they return, what their
+-- packed marks say, and that dumps of both kinds that state the same leave the same. But for the reasons each is said once for a load of any source, and then of both.
 -- Assumes nothing.
 use Prim.Native.Nat.{ℕ, _+_, _<_}
 use mathlib.Core.Path.{_≡_}
@@ -8,40 +9,64 @@ use mathlib.Core.List.{List}
 use lib.ListN.{length, getD}
 use Rattle.marks.specs.Marks.{row-length, flags, mark-at, Marked, Unused-clear}
 use Rattle.reader.specs.Lines.{through}
-use Rattle.steps.specs.Steps.{Verdict, by}
-use Rattle.loader.specs.Load.{stopping, placements}
+use Rattle.steps.specs.Steps.{Verdict, by, stated}
+use Rattle.steps.specs.Source.{Source, steps-of}
 use Rattle.steps.specs.Sites.{Loaded, Owed-at}
+use Rattle.window.specs.Load.{stopping-by-window}
+use Rattle.window.specs.Loads.{byte-load}
+use Rattle.loader.specs.Placing.{intel}
+use Rattle.loader.specs.Load.{placements}
 use Rattle.loader.specs.Claims.{Why}
-use Rattle.loader.specs.Packed.{byte-load}
+use Rattle.srecload.specs.Placing.{s-records}
+use Rattle.srecload.specs.Load as srecload
+use Rattle.srecload.specs.Claims.{Why as S-why}
 use Rattle.codes.specs.Codes.{OK, value, loading, line-at}
-use Rattle.ihex.specs.Entries.{IhexLoad}
+use Rattle.ihex.specs.Entries.{IhexLoadBy, IhexLoad, IhexLoadSrecords}
 
 -- demand 3, first half: of two texts that are the same through the LF of the line at which the first load stops, into windows of the same
 -- lengths, the same is returned, whatever follows that LF and whatever page and marks held; and if it is IHEX_OK, the marks are the same,
 -- and the bytes at marked places
-abbrev pub Ihex-non-interference : Type 0
-Ihex-non-interference =
+abbrev pub Load-non-interference : {S : Type 0} → Source S → Type 0
+Load-non-interference src =
     (text₁ text₂ : List ℕ) (first : ℕ) (page₁ marks₁ page₂ marks₂ : List ℕ)
     → length page₁ ≡ length page₂ → length marks₁ ≡ length marks₂
-    → (line : ℕ) (v : Verdict) → stopping text₁ first page₁ marks₁ ≡ some (by line v)
+    → (line : ℕ) (v : Verdict) → stopping-by-window src text₁ first page₁ marks₁ ≡ some (by line v)
     → (head : List ℕ) → through line text₁ ≡ some head → through line text₂ ≡ some head
     → (r₁ l₁ a₁ b₁ : ℕ) (p₁ m₁ : List ℕ) (r₂ l₂ a₂ b₂ : ℕ) (p₂ m₂ : List ℕ)
-    → IhexLoad text₁ first page₁ marks₁ r₁ l₁ a₁ b₁ p₁ m₁ → IhexLoad text₂ first page₂ marks₂ r₂ l₂ a₂ b₂ p₂ m₂
+    → IhexLoadBy src text₁ first page₁ marks₁ r₁ l₁ a₁ b₁ p₁ m₁ → IhexLoadBy src text₂ first page₂ marks₂ r₂ l₂ a₂ b₂ p₂ m₂
     → ((r₁ ≡ r₂) × (l₁ ≡ l₂) × (a₁ ≡ a₂) × (b₁ ≡ b₂))
     × (r₁ ≡ OK → (m₁ ≡ m₂) × ((i : ℕ) → Marked m₁ i → getD p₁ i 0 ≡ getD p₂ i 0))
 
+abbrev pub Ihex-non-interference : Type 0
+Ihex-non-interference = Load-non-interference intel
+
+abbrev pub Ihex-load-srecords-non-interference : Type 0
+Ihex-load-srecords-non-interference = Load-non-interference s-records
+
 -- demand 3, second half: of one load that returns IHEX_OK, at each place of the window. The mark is 1 exactly where a data record before the
 -- end record states a byte, and there the page holds what the last such record states; else it is 0, and the page keeps its byte
+abbrev pub Load-what-is-stored : {S : Type 0} → Source S → Type 0
+Load-what-is-stored src =
+    (text : List ℕ) (first : ℕ) (page marks : List ℕ) (l a b : ℕ) (p m : List ℕ) → IhexLoadBy src text first page marks OK l a b p m
+    → (i : ℕ) → i < length page → Owed-at (stated (steps-of src text)) (first + i) (getD page i 0) (mark-at m i) (getD p i 0)
+
 abbrev pub Ihex-what-is-stored : Type 0
-Ihex-what-is-stored =
-    (text : List ℕ) (first : ℕ) (page marks : List ℕ) (l a b : ℕ) (p m : List ℕ) → IhexLoad text first page marks OK l a b p m
-    → (i : ℕ) → i < length page → Owed-at (placements text) (first + i) (getD page i 0) (mark-at m i) (getD p i 0)
+Ihex-what-is-stored = Load-what-is-stored intel
+
+abbrev pub Ihex-load-srecords-what-is-stored : Type 0
+Ihex-load-srecords-what-is-stored = Load-what-is-stored s-records
 
 -- a refusal changes no byte of the page or of the marks
-abbrev pub Ihex-load-keeps : Type 0
-Ihex-load-keeps =
-    (text : List ℕ) (first : ℕ) (page marks : List ℕ) (r l a b : ℕ) (p m : List ℕ) → IhexLoad text first page marks r l a b p m → r ≢ OK
+abbrev pub Load-keeps : {S : Type 0} → Source S → Type 0
+Load-keeps src =
+    (text : List ℕ) (first : ℕ) (page marks : List ℕ) (r l a b : ℕ) (p m : List ℕ) → IhexLoadBy src text first page marks r l a b p m → r ≢ OK
     → (p ≡ page) × (m ≡ marks)
+
+abbrev pub Ihex-load-keeps : Type 0
+Ihex-load-keeps = Load-keeps intel
+
+abbrev pub Ihex-load-srecords-keeps : Type 0
+Ihex-load-srecords-keeps = Load-keeps s-records
 
 -- a verdict, in the numbers of a load
 pub record In-load-numbers (v : Verdict) (r line a b : ℕ) : Type 0 where
@@ -50,17 +75,24 @@ pub record In-load-numbers (v : Verdict) (r line a b : ℕ) : Type 0 where
   pub a-is : a ≡ value (loading v) 0
   pub b-is : b ≡ value (loading v) 1
 
--- what is returned has a reason in the text's lines and the window, and nothing else has one
-pub record Reasoned (text : List ℕ) (first : ℕ) (page marks : List ℕ) (r line a b : ℕ) : Type 0 where
+-- what is returned has a reason, and nothing else has one
+pub record Reasoned (Because : Verdict → Type 0) (r line a b : ℕ) : Type 0 where
   pub verdict : Verdict
-  pub why : Why text first page marks verdict
+  pub why : Because verdict
   pub told : In-load-numbers verdict r line a b
-  pub only : (v : Verdict) → Why text first page marks v → v ≡ verdict
+  pub only : (v : Verdict) → Because v → v ≡ verdict
 
+-- of `ihex_load`, in the text's lines and the window
 abbrev pub Ihex-load-reasons : Type 0
 Ihex-load-reasons =
     (text : List ℕ) (first : ℕ) (page marks : List ℕ) (r l a b : ℕ) (p m : List ℕ) → IhexLoad text first page marks r l a b p m
-    → Reasoned text first page marks r l a b
+    → Reasoned (Why text first page marks) r l a b
+
+-- and of `ihex_load_srecords`
+abbrev pub Ihex-load-srecords-reasons : Type 0
+Ihex-load-srecords-reasons =
+    (text : List ℕ) (first : ℕ) (page marks : List ℕ) (r l a b : ℕ) (p m : List ℕ) → IhexLoadSrecords text first page marks r l a b p m
+    → Reasoned (S-why text first page marks) r l a b
 
 -- packed marks say what marks of a byte each would say: the same is returned, and the page is the same; if it is IHEX_OK, the marks, unpacked, are
 -- the others, and the unused bits are 0
@@ -70,8 +102,25 @@ pub record Unpacked-numbers (page : List ℕ) (bytes : Loaded) (r l a b : ℕ) (
   pub unpacked : r ≡ OK → flags (length page) m ≡ bytes .marks
   pub unused : r ≡ OK → Unused-clear (length page) m
 
-abbrev pub Ihex-packed-as-bytes : Type 0
-Ihex-packed-as-bytes =
+abbrev pub Load-packed-as-bytes : {S : Type 0} → Source S → Type 0
+Load-packed-as-bytes src =
     (text : List ℕ) (first : ℕ) (page marks byte-marks : List ℕ) (r l a b : ℕ) (p m : List ℕ)
     → (length marks ≡ row-length (length page)) ↔ (length byte-marks ≡ length page)
-    → IhexLoad text first page marks r l a b p m → Unpacked-numbers page (byte-load text first page byte-marks) r l a b p m
+    → IhexLoadBy src text first page marks r l a b p m → Unpacked-numbers page (byte-load src text first page byte-marks) r l a b p m
+
+abbrev pub Ihex-packed-as-bytes : Type 0
+Ihex-packed-as-bytes = Load-packed-as-bytes intel
+
+abbrev pub Ihex-load-srecords-packed-as-bytes : Type 0
+Ihex-load-srecords-packed-as-bytes = Load-packed-as-bytes s-records
+
+-- ---- both kinds
+
+-- where `ihex_load` and `ihex_load_srecords` return IHEX_OK, for the same window and the same old page, and the texts state the same placements in the
+-- same order, they leave the same page and the same marks. The old marks may differ, and so may what is returned as a, the number of data records
+abbrev pub Ihex-both-kinds : Type 0
+Ihex-both-kinds =
+    (text text′ : List ℕ) (first : ℕ) (page marks marks′ : List ℕ)
+    → (l a b : ℕ) (p m : List ℕ) → IhexLoad text first page marks OK l a b p m
+    → (l′ a′ b′ : ℕ) (p′ m′ : List ℕ) → IhexLoadSrecords text′ first page marks′ OK l′ a′ b′ p′ m′
+    → placements text ≡ srecload.placements text′ → (p ≡ p′) × (m ≡ m′)

@@ -1,9 +1,9 @@
--- What is claimed of the writers `ihex_to_record_string`, `ihex_create_object_file_representation` and `ihex_write_page`: of any text that
--- they are to write, which is what their contracts have in common.
+-- What is claimed of the writers `ihex_to_record_string`, `ihex_to_srecord_string`, `ihex_create_object_file_representation` and
+-- `ihex_write_page`: of any text that they are to write, which is what their contracts have in common.
 -- Assumes nothing.
 use Prim.Native.Nat.{ℕ, _≤_}
 use mathlib.Core.Path.{_≡_}
-use mathlib.Core.Logic.{_≢_}
+use mathlib.Core.Logic.{_≢_, _↔_}
 use mathlib.Core.Option.{Option, some}
 use mathlib.Core.List.{List}
 use lib.ListN.{length, take, drop}
@@ -11,9 +11,12 @@ use Rattle.record.specs.declared.Record.{Record}
 use Rattle.writer.specs.Told.{Told-written}
 use Rattle.writer.specs.Text.{Text, chars}
 use Rattle.writer.specs.Reasons.{Why-line, Why-object}
-use Rattle.codes.specs.Codes.{OK, value, writing}
-use Rattle.entries.specs.Entry.{record-of, records-of}
-use Rattle.ihex.specs.Entries.{Wrote-text, IhexToRecordString, IhexCreateObjectFileRepresentation}
+use Rattle.srec.specs.declared.SRecord.{SRecord}
+use Rattle.srec.specs.Faults.{Unnamed}
+use Rattle.srec.specs.Reasons as srec
+use Rattle.codes.specs.Codes.{OK, BAD-RECORD, value, writing}
+use Rattle.entries.specs.Entry.{record-of, srecord-of, records-of}
+use Rattle.ihex.specs.Entries.{Wrote-text, IhexToRecordString, IhexToSrecordString, IhexCreateObjectFileRepresentation}
 
 -- the text stands at the front of the output, as long as the value says, and no byte of the output after it changes
 abbrev pub Nothing-after-the-length : Type 0
@@ -40,6 +43,18 @@ abbrev pub Ihex-to-record-string-reasons : Type 0
 Ihex-to-record-string-reasons =
     (kind number second at len : ℕ) (pool out : List ℕ) (r v : ℕ) (out′ : List ℕ) → IhexToRecordString kind number second at len pool out r v out′
     → (x : Record) → record-of kind number second at len ≡ some x → Write-reasoned (Why-line x (length pool) (length out)) r v
+
+-- an S-record, where the digit names a type: 11, 9, 12, 25, then 15
+abbrev pub Ihex-to-srecord-string-reasons : Type 0
+Ihex-to-srecord-string-reasons =
+    (kind address at len : ℕ) (pool out : List ℕ) (r v : ℕ) (out′ : List ℕ) → IhexToSrecordString kind address at len pool out r v out′
+    → (x : SRecord) → srecord-of kind address at len ≡ some x → Write-reasoned (srec.Why-line x (length pool) (length out)) r v
+
+-- IHEX_BAD_RECORD, exactly where it names none
+abbrev pub Ihex-to-srecord-string-bad : Type 0
+Ihex-to-srecord-string-bad =
+    (kind address at len : ℕ) (pool out : List ℕ) (r v : ℕ) (out′ : List ℕ) → IhexToSrecordString kind address at len pool out r v out′
+    → (r ≡ BAD-RECORD) ↔ Unnamed kind
 
 -- a list, where the bytes are one: 13, 14, the first record with 11 or 12, then 15
 abbrev pub Ihex-create-object-reasons : Type 0

@@ -4,7 +4,7 @@ use chunks::Place;
 ghost use mathlib.Core.Path.{_≡_};
 ghost use Rattle.checksum.specs.Checksum.{Checksum};
 ghost use Rattle.codes.specs.States.{state-of, chunks-of, place-of};
-ghost use Rattle.ihex.specs.Entries.{start-of, TellStep, IhexReadRecord, IhexNext, IhexNextChunk, IhexFinish, IhexShown, IhexToRecordString, IhexCreateObjectFileRepresentation, IhexLoad, IhexPageFileLength, IhexWritePage};
+ghost use Rattle.ihex.specs.Entries.{start-of, TellStep, IhexReadRecord, IhexReadSrecord, IhexNext, IhexNextChunk, IhexFinish, IhexShown, IhexToRecordString, IhexToSrecordString, IhexCreateObjectFileRepresentation, IhexLoad, IhexLoadSrecords, IhexPageFileLength, IhexWritePage};
 
 // The checksum of the bytes.
 #[no_mangle]
@@ -27,6 +27,25 @@ pub extern "C" fn ihex_read_record(
     ensures { λ r. ⌜ IhexReadRecord (now (line .entry)) (now (pool .entry)) at r (now (a .exit)) (now (b .exit)) (now (c .exit)) (now (pool .exit)) ⌝ }
 {
     let told = codes::code_answer(reader::read_record(line, pool, at));
+    *a = told.a;
+    *b = told.b;
+    *c = told.c;
+    told.code
+}
+
+// One line of S-records to a record or a refusal.
+#[no_mangle]
+pub extern "C" fn ihex_read_srecord(
+    line: &[u8],
+    pool: &mut [u8],
+    at: usize,
+    a: &mut u64,
+    b: &mut u64,
+    c: &mut u64,
+) -> u32
+    ensures { λ r. ⌜ IhexReadSrecord (now (line .entry)) (now (pool .entry)) at r (now (a .exit)) (now (b .exit)) (now (c .exit)) (now (pool .exit)) ⌝ }
+{
+    let told = codes::code_sanswer(srec::read_srecord(line, pool, at));
     *a = told.a;
     *b = told.b;
     *c = told.c;
@@ -233,6 +252,24 @@ pub extern "C" fn ihex_to_record_string(
     told.code
 }
 
+// An S-record, given by its type's digit and its numbers, to its line.
+#[no_mangle]
+pub extern "C" fn ihex_to_srecord_string(
+    kind: u8,
+    address: u32,
+    at: usize,
+    len: usize,
+    pool: &[u8],
+    out: &mut [u8],
+    value: &mut u64,
+) -> u32
+    ensures { λ r. ⌜ IhexToSrecordString kind address at len (now (pool .entry)) (now (out .entry)) r (now (value .exit)) (now (out .exit)) ⌝ }
+{
+    let told = codes::code_sattempt(entries::write_srecord(kind, address, at, len, pool, out));
+    *value = told.a;
+    told.code
+}
+
 // A list of records in bytes to an object's text: surveyed first, then written.
 #[no_mangle]
 pub extern "C" fn ihex_create_object_file_representation(
@@ -262,6 +299,27 @@ pub extern "C" fn ihex_load(
     ensures { λ r. ⌜ IhexLoad (now (text .entry)) first (now (page .entry)) (now (marks .entry)) r (now (line .exit)) (now (a .exit)) (now (b .exit)) (now (page .exit)) (now (marks .exit)) ⌝ }
 {
     let answer = loader::load(text, first, page, marks);
+    let told = codes::code_loading(answer);
+    *line = codes::line_at(answer);
+    *a = told.a;
+    *b = told.b;
+    told.code
+}
+
+// A text of S-records into a page with marks.
+#[no_mangle]
+pub extern "C" fn ihex_load_srecords(
+    text: &[u8],
+    first: u32,
+    page: &mut [u8],
+    marks: &mut [u8],
+    line: &mut usize,
+    a: &mut u64,
+    b: &mut u64,
+) -> u32
+    ensures { λ r. ⌜ IhexLoadSrecords (now (text .entry)) first (now (page .entry)) (now (marks .entry)) r (now (line .exit)) (now (a .exit)) (now (b .exit)) (now (page .exit)) (now (marks .exit)) ⌝ }
+{
+    let answer = srecload::load_srecords(text, first, page, marks);
     let told = codes::code_loading(answer);
     *line = codes::line_at(answer);
     *a = told.a;

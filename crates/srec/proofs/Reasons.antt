@@ -12,14 +12,15 @@ use lib.ListN.{length}
 use borrow.Author.Tests.{le-leb, lt-leb, le-ltb, leb-true, leb-false, ltb-false}
 use Rattle.digits.proofs.Tests.{branch}
 use Rattle.record.specs.Refusals.{Refusal}
+use Rattle.writer.specs.Text.{place-behind, if-room}
 use Rattle.writer.proofs.Reasons.{reason, one-answer}
 use Rattle.srec.specs.declared.SRecord.{SRecord}
 use Rattle.srec.specs.Types.{width, fits}
 use Rattle.srec.specs.Format.{Width, type-0, type-1, type-2, type-3, type-5, type-7, type-8, type-9}
 use Rattle.srec.specs.Written.{beyond, most-data}
 use Rattle.srec.specs.Record.{digit-of}
-use Rattle.srec.specs.Writer.{line-refusal, refusal-for, line}
-use Rattle.srec.specs.Reasons.{Record-fault, outside, holds-none, too-long, too-wide, Line-size, Reasons, One-reason}
+use Rattle.srec.specs.Writer.{line-refusal, refusal-for, line, line-text}
+use Rattle.srec.specs.Reasons.{Record-fault, outside, holds-none, too-long, too-wide, Line-size, Why-line, Reasons, One-reason}
 use Rattle.srec.proofs.Naming.{named-wide, wide-named, width-few, size-fits, fits-size, misfit, unfit}
 use Rattle.srec.proofs.Measuring.{digit-named, line-length, fine}
 
@@ -82,9 +83,11 @@ line-size x pool e =
 one-line-size : (x : SRecord) (n m : ℕ) → Line-size x n → Line-size x m → n ≡ m
 one-line-size x n m (a, v, e) (b, w, f) = let p = wide-named v .1 in let q = wide-named w .1 in omega arith
 
+pub line-reason : (x : SRecord) (pool : List ℕ) (room : ℕ) → Why-line x (length pool) room (if-room (place-behind (line-text x pool) 0) room)
+line-reason x pool room = reason _ (Line-size x) (refusal-for x (length pool)) (record-exact (length pool) x) 0 room (line x pool) (line-size x pool)
+
 pub reasons : Reasons
-reasons x pool out r out′ h =
-    rw (h .answer) (reason _ (Line-size x) (refusal-for x (length pool)) (record-exact (length pool) x) 0 (length out) (line x pool) (line-size x pool))
+reasons x pool out r out′ h = rw (h .answer) (line-reason x pool (length out))
 
 pub one-reason : One-reason
 one-reason x size room = one-answer _ (Line-size x) (refusal-for x size) (record-exact size x) 0 room (one-line-size x)

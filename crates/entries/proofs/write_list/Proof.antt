@@ -5,6 +5,7 @@ use mathlib.Core.List.{List}
 use native.Mathlib.Omega.{arith}
 use denote.Ref.{now}
 use Rattle.record.specs.declared.Record.{Record}
+use Rattle.writer.specs.Told.{told-written}
 use Rattle.writer.specs.Object.{object}
 use Rattle.writer.proofs.Stepping.{object-written}
 use Rattle.entries.specs.declared.ListSurvey.{ListSurvey}
@@ -37,7 +38,7 @@ returns-2 c =
     let rs = whole .listed .records in
     let b = c .before .before .before .before .begin in
     let w = c .before .before .write-each in
-    made (λ (qs : List Record). object qs pool) (records-of list) (now (s .args .out)) rs (w .result) (w .last .1 .1 .0) (whole .listed .read)
+    made (λ (qs : List Record). object qs pool) (records-of list) (now (s .args .out)) rs (told-written (w .result)) (w .last .1 .1 .0) (whole .listed .read)
     (object-written rs pool (now (s .args .out)) (x .0 .0) (b .result) (w .result) (w .last .1 .1 .0)
     (omega (arith, listed-length list rs (whole .listed .read), s .good .0)) (omega (arith, s .good .1 .1 .0))
     (whole .surveys) (b .ensures) (w .ensures rs (whole .listed .read)))

@@ -3,6 +3,7 @@
 use mathlib.Core.Path.{sym, _∙_, ap}
 use denote.Ref.{now}
 use Rattle.record.specs.declared.Record.{Record}
+use Rattle.writer.specs.Told.{told-written}
 use Rattle.writer.specs.Line.{line-text}
 use Rattle.entries.specs.Entry.{record-of, entry-of}
 use Rattle.entries.proofs.Attempts.{not-given, made}
@@ -22,7 +23,7 @@ returns-2 c =
     let x = c .before .before .before .before .before .entry .given in
     let w = c .before .before .to-record-string in
     made (λ (x : Record). line-text x (now (s .pool))) (record-of (s .kind) (s .number) (s .second) (s .at) (s .len)) (now (s .out))
-    (x .0 .0) (w .result) (w .last .1 .1 .0) (sym (c .before .before .before .before .before .before .before .record-from .ensures) ∙ ap entry-of (x .1)) (w .ensures)
+    (x .0 .0) (told-written (w .result)) (w .last .1 .1 .0) (sym (c .before .before .before .before .before .before .before .record-from .ensures) ∙ ap entry-of (x .1)) (w .ensures)
 
 pub write-record-spec : {M : Type 1} → statement M
 write-record-spec =
