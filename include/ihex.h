@@ -1,4 +1,7 @@
-/* Intel's hexadecimal object file format: the functions of libihex.a, on numbers and bytes.
+/* Intel's hexadecimal object file format, and Motorola's S-records: the functions of libihex.a, on numbers and bytes.
+ *
+ * A text is of one kind, and the caller says which by the function that is called. No function guesses it. The functions whose names have
+ * "srecord" in them are for S-records, and stand at the end. All others are for Intel HEX.
  *
  * Each function of the library is proved to do what is said of it here, for all inputs. The inline functions and IHEX_MARKS of this
  * header are tested, not proved. The header needs C99 or C++. What a function leaves to its caller:
@@ -19,13 +22,23 @@
 extern "C" {
 #endif
 
-/* The types of records: what a reader returns for a record, with its values in a, b and c (0 where there is none). */
+/* The types of records of Intel HEX: what a reader returns for a record, with its values in a, b and c (0 where there is none). */
 #define IHEX_DATA 0                     /* a: offset; b, c: position and length of the payload in the pool */
 #define IHEX_END_OF_FILE 1              /* no values */
 #define IHEX_EXTENDED_SEGMENT_ADDRESS 2 /* a: bits 4 to 19 of the segment base address */
 #define IHEX_START_SEGMENT_ADDRESS 3    /* a: CS; b: IP */
 #define IHEX_EXTENDED_LINEAR_ADDRESS 4  /* a: bits 16 to 31 of the linear base address */
 #define IHEX_START_LINEAR_ADDRESS 5     /* a: EIP */
+
+/* The types of S-records: what ihex_read_srecord returns for a record. a: the address; b, c: position and length of the data in the pool */
+#define IHEX_S0 0 /* a header: 2 address bytes */
+#define IHEX_S1 1 /* data: 2 address bytes */
+#define IHEX_S2 2 /* data: 3 address bytes */
+#define IHEX_S3 3 /* data: 4 address bytes */
+#define IHEX_S5 5 /* a: how many data records the text has before it, in 2 bytes; b and c are 0 */
+#define IHEX_S7 7 /* the end: 4 address bytes; b and c are 0 */
+#define IHEX_S8 8 /* the end: 3 address bytes; b and c are 0 */
+#define IHEX_S9 9 /* the end: 2 address bytes; b and c are 0 */
 
 /* The other codes that are returned. */
 #define IHEX_OK 0             /* a writer wrote all, a length is returned, or a load was accepted */
@@ -34,7 +47,8 @@ extern "C" {
 #define IHEX_USED_UP 513      /* the chunk has no more answers: the next one is wanted, or ihex_finish; no values */
 #define IHEX_BAD_RECORD 1024  /* what is to be written is not a record; no values */
 
-/* The refusals: their numbers, and their values (0 where there is none). */
+/* The refusals: their numbers, and their values (0 where there is none). 1 to 10 and 12 are said here of Intel HEX. What they mean for
+ * S-records stands at ihex_read_srecord and ihex_to_srecord_string. */
 #define IHEX_MISSING_START_CODE 1           /* the line's first byte is not a colon, or there is none */
 #define IHEX_CONTAINS_INVALID_CHARACTERS 2  /* a byte after the colon is not a digit; a: the place of the first such byte, up to IHEX_MAX_PLACE */
 #define IHEX_RECORD_TOO_SHORT 3             /* under 10 digits */
@@ -54,6 +68,8 @@ extern "C" {
 #define IHEX_OUTSIDE_WINDOW 17              /* a: the address of a data record's first byte that lies outside */
 #define IHEX_CARRY_TOO_SMALL 18             /* a carry under IHEX_CARRY bytes, or a state that counts more than that used */
 #define IHEX_BAD_MARK 19                    /* a page to be written; value: the place of the lowest unused bit of its marks that is set */
+#define IHEX_COUNT_MISMATCH 20              /* an S5; a: the count that it states; b: how many data records the text has before it */
+#define IHEX_ADDRESS_TOO_WIDE 25            /* an S-record to be written; its address needs more bytes than its type has */
 
 /* The flags of a state. The other bits are not read, and are 0 at exit; ihex_next has the first three only. */
 #define IHEX_STOP_AFTER_FIRST_ERROR 1 /* after a refused line, only "done" */
@@ -65,7 +81,11 @@ extern "C" {
 #define IHEX_MAX_PAYLOAD 255
 #define IHEX_MAX_LINE 521
 
-/* The greatest place in a line that is named; it stands for any place beyond it too. The colon's place is 0. */
+/* An S-record has at most so many bytes of data, and its line at most so many characters, without its line end. */
+#define IHEX_MAX_SRECORD_DATA 252
+#define IHEX_MAX_SRECORD_LINE 514
+
+/* The greatest place in a line that is named; it stands for any place beyond it too. The place of the colon, or of the S, is 0. */
 #define IHEX_MAX_PLACE 65535
 
 /* A carry has at least so many bytes. */
@@ -243,6 +263,76 @@ uint32_t ihex_write_page(uint32_t first,
                          const uint8_t *marks, size_t marks_len,
                          uint8_t *out, size_t out_len,
                          uint64_t *value);
+
+/* ---- S-records
+ *
+ * A line is a capital S, one digit for the type, and then hexadecimal digits in either case, two to a byte: the count, the address with its
+ * high byte first, the data, and the checksum. The count says how many bytes follow it: address, data and checksum. The checksum is 255
+ * minus the low byte of the sum of count, address and data.
+ *
+ *   type        address bytes   data bytes
+ *   S0          2               up to 252     a header
+ *   S1, S2, S3  2, 3, 4         up to 252, 251, 250
+ *   S5          2               none          the address is the count of data records (S1 to S3) before it
+ *   S7, S8, S9  4, 3, 2         none          the end of the text; the address is where a program starts
+ */
+
+/* Reads one line of S-records, without its line end: returns the type's digit, IHEX_S0 to IHEX_S9, with the address in a and the position and
+ * length of the data in b and c; or IHEX_REFUSED and the first of these that holds, with its values in a and b:
+ *
+ *   1   the first byte is not a capital S, or there is none. A line of Intel HEX is 1, and so is a small s
+ *   2   a byte after the S is not a hexadecimal digit; a: the position of the first such byte, the S being 0, up to IHEX_MAX_PLACE
+ *   3   nothing follows the S
+ *   8   the type is not in the table: 4, 6, or A to F; a: the value of its digit
+ *   3   after the type there are fewer digits than count, address and checksum take: 8, 10 or 12 with 2, 3 or 4 address bytes
+ *   4   over 512 digits after the type
+ *   5   an odd number of digits after the type
+ *   6   another checksum; a: computed; b: stated
+ *   7   the count is not the number of bytes that follow it
+ *   9   data in an S5 or an end
+ *   10  an S0 to S3, with or without data: position + length exceeds the pool
+ *
+ * The data of S0 to S3 goes into the pool from `at` on, and no other byte changes. S5 and ends never need the pool: b and c are 0, whatever `at`
+ * is.
+ * Noise: what ihex_read_record promises about one wrong character holds for Intel HEX alone. The checksum of an S-record does not cover
+ * the digit of its type. S1050000AABB95 puts AA at 0 and BB at 1. If its type is changed to 2, it puts BB at AA. As type 0 it is a header, as
+ * type 3 a data record without data, and as type 7 an end: each is accepted. */
+uint32_t ihex_read_srecord(const uint8_t *line, size_t line_len,
+                           uint8_t *pool, size_t pool_len, size_t at,
+                           uint64_t *a, uint64_t *b, uint64_t *c);
+
+/* Writes the line of an S-record in capitals, without a line end, from the output's start on: returns 0 and its length as the value; or
+ * IHEX_BAD_RECORD for a type that is not in the table; or IHEX_REFUSED and the first of these that holds:
+ *
+ *   11  position + length exceeds the pool, for a record of any type, also without data
+ *   9   data in an S5 or an end
+ *   12  over 252, 251 or 250 bytes of data, with 2, 3 or 4 address bytes; value: the length
+ *   25  the address needs more bytes than the type has. It never does for S3 and S7
+ *   15  the line is longer than the output
+ *
+ * For an S5 the address is the count. What is written reads back to the same record, with the same data: ihex_read_srecord gives the type,
+ * the address, the position that it is called with, and the length; for S5 and ends position and length 0. */
+uint32_t ihex_to_srecord_string(uint8_t type, uint32_t address, size_t at, size_t len,
+                                const uint8_t *pool, size_t pool_len,
+                                uint8_t *out, size_t out_len,
+                                uint64_t *value);
+
+/* Loads a text of S-records into a page from the address `first` on, as ihex_load does a text of Intel HEX: line ends, empty lines and line
+ * numbers, page, marks and their lengths are as there. Returns 0 and counts data records (S1 to S3) in a; or IHEX_REFUSED and 16; or
+ * the first line's 1 to 9, 17 or 20, with its number in line (else 0); or 13, if no line is an end. The refusal's values are in a and b.
+ * Byte i of a data record lies at (address + i) modulo 2^32. There are no segments: S105FFFFAABB97 puts AA at FFFF and BB at 10000.
+ * An S0 places nothing and is not counted. An S5 may stand anywhere, and more than once. It is compared with all data records before it, those
+ * without data too, and not modulo 65,536: after 65,536 data records S5030000FC is refusal 20 with a = 0 and b = 65,536.
+ * The first S7, S8 or S9 ends the text, whatever types the data has. What follows it changes nothing: no answer, page or mark.
+ * A refused load changes no byte of page or marks. What they held before changes no answer.
+ * If ihex_load and ihex_load_srecords accept two texts that state the same bytes at the same addresses in the same order, they leave the same
+ * page and marks, in one window and over the same old page.
+ * Noise: what ihex_load promises about damaged texts holds for Intel HEX alone. ihex_read_srecord says why. Only an S5 can show that a data
+ * record was lost, doubled or read as something else. */
+uint32_t ihex_load_srecords(const uint8_t *text, size_t text_len, uint32_t first,
+                            uint8_t *page, size_t page_len,
+                            uint8_t *marks, size_t marks_len,
+                            size_t *line, uint64_t *a, uint64_t *b);
 
 #ifdef __cplusplus
 }

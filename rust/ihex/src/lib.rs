@@ -1,4 +1,4 @@
-//! Intel HEX read, written and loaded, over the proved library `libihex.a`.
+//! Intel HEX and Motorola S-records read, written and loaded, over the proved library `libihex.a`.
 //!
 //! The names and shapes are those of the crate ihex 3.0.0: a program that uses it changes one line
 //! of its `Cargo.toml`. One name has another shape: [`ReaderError::ContainsInvalidCharacters`] carries
@@ -8,7 +8,8 @@
 //! Beside them stand, and the crate has none of it: reading bytes that are no UTF-8 ([`ByteReader`],
 //! [`Record::from_record_bytes`]), line numbers and columns ([`Reader::numbered`],
 //! [`ReaderError::column`]), a text that comes in chunks ([`ChunkReader`]), the loading of a text
-//! into a page with marks ([`load`], [`Marks`]), and the writing of such a page ([`write_page`]).
+//! into a page with marks ([`load`], [`Marks`]), the writing of such a page ([`write_page`]), and
+//! S-records ([`srec`]).
 //!
 //! No function panics, whatever its arguments.
 //!
@@ -33,6 +34,7 @@ mod marks;
 mod page;
 mod reader;
 mod record;
+pub mod srec;
 mod writer;
 
 pub use checksum::*;

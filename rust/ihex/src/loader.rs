@@ -3,13 +3,15 @@
 use std::error::Error;
 use std::fmt;
 
-use crate::reader::{LineError, ReaderError};
+use crate::reader::{write_line, LineError, ReaderError};
+use crate::srec::SReaderError;
 use crate::stranger;
 
 /// What an accepted load comes to.
 #[derive(PartialEq, Eq, Clone, Copy, Debug, Hash)]
+#[non_exhaustive]
 pub struct Loaded {
-    /// How many data records the text has ahead of its end record.
+    /// How many data records the text has before its end record.
     pub data_records: usize,
 }
 
@@ -17,8 +19,15 @@ pub struct Loaded {
 #[derive(PartialEq, Eq, Clone, Copy, Debug, Hash)]
 #[non_exhaustive]
 pub enum LoadError {
-    /// A line gives no record.
+    /// A line of Intel HEX gives no record.
     Line(LineError),
+    /// A line of S-records gives no record.
+    SRecordLine {
+        /// The line's number. Empty lines count.
+        line: usize,
+        /// Why the line gives no record.
+        error: SReaderError,
+    },
     /// The text has no end record.
     MissingEndOfFileRecord,
     /// The marks do not have [`marks_len`](crate::marks_len) bytes for the places of the page, the page has
@@ -31,14 +40,25 @@ pub enum LoadError {
         /// The address of the record's first byte that lies outside.
         address: u32,
     },
+    /// An S5 states another count than the text has data records before it.
+    CountMismatch {
+        /// The line of the S5.
+        line: usize,
+        /// The count that it states.
+        stated: u16,
+        /// How many data records the text has before it.
+        seen: usize,
+    },
 }
 
 impl LoadError {
     /// The number of the line that decided, if it was one.
     pub fn line(&self) -> Option<usize> {
         match self {
-            LoadError::Line(LineError { line, .. }) => Some(*line),
-            LoadError::OutsideWindow { line, .. } => Some(*line),
+            LoadError::Line(LineError { line, .. })
+            | LoadError::SRecordLine { line, .. }
+            | LoadError::OutsideWindow { line, .. }
+            | LoadError::CountMismatch { line, .. } => Some(*line),
             LoadError::MissingEndOfFileRecord | LoadError::BadWindow => None,
         }
     }
@@ -47,17 +67,20 @@ impl LoadError {
     pub fn column(&self) -> Option<usize> {
         match self {
             LoadError::Line(LineError { error, .. }) => error.column(),
+            LoadError::SRecordLine { error, .. } => error.column(),
             _ => None,
         }
     }
 
-    /// The refusal's number: 1 to 9, 13, 16 or 17.
+    /// The refusal's number: 1 to 9, 13, 16, 17 or 20.
     pub fn number(&self) -> u32 {
         match self {
             LoadError::Line(LineError { error, .. }) => error.number(),
+            LoadError::SRecordLine { error, .. } => error.number(),
             LoadError::MissingEndOfFileRecord => 13,
             LoadError::BadWindow => 16,
             LoadError::OutsideWindow { .. } => 17,
+            LoadError::CountMismatch { .. } => 20,
         }
     }
 }
@@ -66,12 +89,19 @@ impl fmt::Display for LoadError {
     fn fmt(&self, f: &mut fmt::Formatter) -> fmt::Result {
         match self {
             LoadError::Line(refused) => refused.fmt(f),
+            LoadError::SRecordLine { line, error } => write_line(f, *line, error.column(), error),
             LoadError::MissingEndOfFileRecord => write!(f, "text has no end of file record"),
             LoadError::BadWindow => write!(f, "page and marks are no window"),
             LoadError::OutsideWindow { line, address } => {
                 write!(
                     f,
                     "line {line}: address {address:08X} lies outside the window"
+                )
+            }
+            LoadError::CountMismatch { line, stated, seen } => {
+                write!(
+                    f,
+                    "line {line}: count record states {stated} data records, but there are {seen} before it"
                 )
             }
         }
@@ -82,6 +112,7 @@ impl Error for LoadError {
     fn source(&self) -> Option<&(dyn Error + 'static)> {
         match self {
             LoadError::Line(refused) => Some(&refused.error),
+            LoadError::SRecordLine { error, .. } => Some(error),
             _ => None,
         }
     }
@@ -115,6 +146,19 @@ where
     let (mut line, mut a, mut b) = (0, 0, 0);
     let text = text.as_ref();
     let code = ihex_sys::load(text, first, page, marks, &mut line, &mut a, &mut b);
+    result(code, line, a, b, |line, error| {
+        LoadError::Line(LineError { line, error })
+    })
+}
+
+/// What a load comes to, from its code, line and values; `refused` makes the refusal of a line.
+pub(crate) fn result(
+    code: u32,
+    line: usize,
+    a: u64,
+    b: u64,
+    refused: fn(usize, ReaderError) -> LoadError,
+) -> Result<Loaded, LoadError> {
     match code.wrapping_sub(ihex_sys::REFUSED) {
         13 => Err(LoadError::MissingEndOfFileRecord),
         16 => Err(LoadError::BadWindow),
@@ -126,7 +170,7 @@ where
             data_records: a as usize,
         }),
         _ => match ReaderError::told(code, a, b) {
-            Some(error) => Err(LoadError::Line(LineError { line, error })),
+            Some(error) => Err(refused(line, error)),
             None => stranger(code),
         },
     }

@@ -135,9 +135,19 @@ pub struct LineError {
 /// "line 3: ".
 impl fmt::Display for LineError {
     fn fmt(&self, f: &mut fmt::Formatter) -> fmt::Result {
-        let behind = self.error.column().map_or(':', |_| ',');
-        write!(f, "line {}{behind} {}", self.line, self.error)
+        write_line(f, self.line, self.error.column(), &self.error)
     }
+}
+
+/// Writes a line's number before a refusal's text, which begins with a column if the refusal names one.
+pub(crate) fn write_line(
+    f: &mut fmt::Formatter,
+    line: usize,
+    column: Option<usize>,
+    error: &dyn fmt::Display,
+) -> fmt::Result {
+    let after = column.map_or(':', |_| ',');
+    write!(f, "line {line}{after} {error}")
 }
 
 impl Error for LineError {

@@ -23,3 +23,5 @@ example!(object, "../examples/object.rs");
 example!(load, "../examples/load.rs");
 example!(marks, "../examples/marks.rs");
 example!(page, "../examples/page.rs");
+example!(srecord, "../examples/srecord.rs");
+example!(srecords, "../examples/srecords.rs");

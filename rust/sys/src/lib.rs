@@ -9,7 +9,7 @@ pub const REFUSED: u32 = 256;
 pub const DONE: u32 = 512;
 /// The chunk has no further answer: the next may be handed over.
 pub const USED_UP: u32 = 513;
-/// What should be written is no record: its type is over 5, or its number does not fit the type.
+/// What should be written is no record: its type is not one of the format's, or its number does not fit the type.
 pub const BAD_RECORD: u32 = 1024;
 
 /// Flag of the text reader: after a refused line, only [`DONE`].
@@ -38,6 +38,11 @@ pub const ENTRY: usize = 24;
 pub const MAX_PAGE: usize = 65_536;
 /// The most bytes of a page's file.
 pub const MAX_PAGE_FILE: usize = 458_810;
+
+/// The most bytes of data of an S-record.
+pub const MAX_SRECORD_DATA: usize = 252;
+/// The most characters of an S-record's line, without its line end.
+pub const MAX_SRECORD_LINE: usize = 514;
 
 mod c {
     extern "C" {
@@ -165,6 +170,39 @@ mod c {
             out: *mut u8,
             out_len: usize,
             value: *mut u64,
+        ) -> u32;
+        pub fn ihex_read_srecord(
+            line: *const u8,
+            line_len: usize,
+            pool: *mut u8,
+            pool_len: usize,
+            at: usize,
+            a: *mut u64,
+            b: *mut u64,
+            c: *mut u64,
+        ) -> u32;
+        pub fn ihex_to_srecord_string(
+            kind: u8,
+            address: u32,
+            at: usize,
+            len: usize,
+            pool: *const u8,
+            pool_len: usize,
+            out: *mut u8,
+            out_len: usize,
+            value: *mut u64,
+        ) -> u32;
+        pub fn ihex_load_srecords(
+            text: *const u8,
+            text_len: usize,
+            first: u32,
+            page: *mut u8,
+            page_len: usize,
+            marks: *mut u8,
+            marks_len: usize,
+            line: *mut usize,
+            a: *mut u64,
+            b: *mut u64,
         ) -> u32;
     }
 }
@@ -353,6 +391,56 @@ pub fn write_page(first: u32, page: &[u8], marks: &[u8], out: &mut [u8], value: 
     let (marks, marks_len) = (marks.as_ptr(), marks.len());
     let (out, out_len) = (out.as_mut_ptr(), out.len());
     unsafe { c::ihex_write_page(first, page, page_len, marks, marks_len, out, out_len, value) }
+}
+
+/// One line of S-records to a record or a refusal.
+pub fn read_srecord(
+    line: &[u8],
+    pool: &mut [u8],
+    at: usize,
+    a: &mut u64,
+    b: &mut u64,
+    c: &mut u64,
+) -> u32 {
+    let (line, line_len) = (line.as_ptr(), line.len());
+    unsafe { c::ihex_read_srecord(line, line_len, pool.as_mut_ptr(), pool.len(), at, a, b, c) }
+}
+
+/// One S-record to a line.
+pub fn to_srecord_string(
+    kind: u8,
+    address: u32,
+    at: usize,
+    len: usize,
+    pool: &[u8],
+    out: &mut [u8],
+    value: &mut u64,
+) -> u32 {
+    let (pool, pool_len) = (pool.as_ptr(), pool.len());
+    let (out, out_len) = (out.as_mut_ptr(), out.len());
+    unsafe {
+        c::ihex_to_srecord_string(kind, address, at, len, pool, pool_len, out, out_len, value)
+    }
+}
+
+/// A text of S-records into a page with marks, as [`load`] does a text of Intel HEX.
+pub fn load_srecords(
+    text: &[u8],
+    first: u32,
+    page: &mut [u8],
+    marks: &mut [u8],
+    line: &mut usize,
+    a: &mut u64,
+    b: &mut u64,
+) -> u32 {
+    let (text, text_len) = (text.as_ptr(), text.len());
+    let (page, page_len) = (page.as_mut_ptr(), page.len());
+    let (marks, marks_len) = (marks.as_mut_ptr(), marks.len());
+    unsafe {
+        c::ihex_load_srecords(
+            text, text_len, first, page, page_len, marks, marks_len, line, a, b,
+        )
+    }
 }
 
 /// The bytes that stand for a record in the list that an object is written from.

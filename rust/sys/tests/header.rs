@@ -13,7 +13,7 @@ fn defined(name: &str) -> Option<u64> {
 
 #[test]
 fn numbers_are_the_headers() {
-    let numbers: [(&str, u64); 15] = [
+    let numbers: [(&str, u64); 17] = [
         ("REFUSED", ihex_sys::REFUSED.into()),
         ("DONE", ihex_sys::DONE.into()),
         ("USED_UP", ihex_sys::USED_UP.into()),
@@ -32,6 +32,8 @@ fn numbers_are_the_headers() {
         ("RECORD_SIZE", ihex_sys::ENTRY as u64),
         ("MAX_PAGE", ihex_sys::MAX_PAGE as u64),
         ("MAX_PAGE_FILE", ihex_sys::MAX_PAGE_FILE as u64),
+        ("MAX_SRECORD_DATA", ihex_sys::MAX_SRECORD_DATA as u64),
+        ("MAX_SRECORD_LINE", ihex_sys::MAX_SRECORD_LINE as u64),
     ];
     for (name, number) in numbers {
         assert_eq!(defined(name), Some(number), "{name}");
