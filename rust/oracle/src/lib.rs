@@ -1,5 +1,5 @@
 //! The crate ihex 3.0.0 against the port: inputs, comparisons, and the search for a small input on
-//! which the two disagree.
+//! which the two disagree. S-records, which the crate does not have, are held to a plain model.
 //!
 //! The files stand in rooms, and each room uses only those above it:
 //!

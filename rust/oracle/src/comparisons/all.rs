@@ -3,7 +3,7 @@
 use crate::comparisons::run::{Kind, Plan};
 use crate::comparisons::seen::{Answers, Places};
 use crate::comparisons::{
-    chunks, dumps, forms, joined, lines, loads, long, pages, sums, texts, writes,
+    chunks, dumps, forms, joined, lines, loads, long, pages, srecords, sums, texts, writes,
 };
 use crate::subjects::face::RealFace;
 use crate::subjects::port::Port;
@@ -38,6 +38,7 @@ pub fn of_face(plan: Plan) -> Vec<Kind<'static>> {
         writes::of_face(plan),
         loads::of_face(plan),
         long::of_face(plan),
+        srecords::of_face(plan),
     ];
     parts.into_iter().flatten().collect()
 }
@@ -53,6 +54,7 @@ fn answers() -> impl Iterator<Item = &'static Answers> {
             &joined::SEEN_END.answers,
         ])
         .chain(&pages::SEEN)
+        .chain(srecords::answers())
         .chain(&loads::SEEN_WRAPS)
 }
 
@@ -67,6 +69,7 @@ fn places() -> impl Iterator<Item = &'static Places> {
     ]
     .into_iter()
     .chain(&joined::SEEN_CUTS)
+    .chain(srecords::places())
 }
 
 /// Prints how often each answer, each kind of place, each form of a page and each way to stop was called

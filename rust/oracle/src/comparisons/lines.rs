@@ -32,7 +32,7 @@ pub fn unlike(
     }
     let (is, should) = ((code, numbers.values()), (expected.code, expected.values));
     if is != should {
-        return Some(format!("port {is:?}, crate {should:?}"));
+        return Some(format!("port {is:?}, should be {should:?}"));
     }
     let mut held = before.to_vec();
     pour(expected, &mut held, at);
@@ -121,7 +121,7 @@ fn by_rule<'a>(port: &'a dyn Port, plan: Plan) -> Vec<Kind<'a>> {
             "good lines, each byte changed to all 256",
             plan,
             blocks(12, plan),
-            |_, chance| lines::changed(chance),
+            |_, chance| lines::changed(&lines::good(chance)),
             line,
         ),
     ]

@@ -47,8 +47,11 @@ fn note_wraps(case: &LoadCase, code: u32) {
     }
 }
 
-/// A page and marks to load into, and copies of them on which the model has run, with its answer.
-fn lent(case: &LoadCase) -> (Lent, Lent, Vec<u8>, Vec<u8>, LoadAnswer) {
+/// What a model answers to a load; page and marks are changed.
+pub type Model = fn(&LoadCase, &mut [u8], &mut [u8]) -> LoadAnswer;
+
+/// A page and marks to load into, and copies of them on which a model has run, with its answer.
+fn lent(case: &LoadCase, model: Model) -> (Lent, Lent, Vec<u8>, Vec<u8>, LoadAnswer) {
     let (page, mut marks) = (Lent::new(case.page), Lent::new(case.marks));
     if let Some(last) = marks.slice().last_mut() {
         *last = case.last;
@@ -60,22 +63,37 @@ fn lent(case: &LoadCase) -> (Lent, Lent, Vec<u8>, Vec<u8>, LoadAnswer) {
 
 /// What is wrong with a load by the port.
 pub fn port(port: &dyn Port, case: &LoadCase) -> Option<String> {
-    let (mut page, mut marks, held, marked, should) = lent(case);
-    SEEN.answers.note(should.0);
-    if should.0 == REFUSED + 2 {
-        let last = rows(&case.text, BOTH_STOPS).pop();
-        let place = last.and_then(|(answer, _)| offender_of(&answer));
-        SEEN.places.note(place);
-    }
-    note_wraps(case, should.0);
+    let note = |code| {
+        SEEN.answers.note(code);
+        if code == REFUSED + 2 {
+            let last = rows(&case.text, BOTH_STOPS).pop();
+            let place = last.and_then(|(answer, _)| offender_of(&answer));
+            SEEN.places.note(place);
+        }
+        note_wraps(case, code);
+    };
+    by_port(case, model, note, |text, page, marks, line, numbers| {
+        port.load(text, case.first, page, marks, line, numbers)
+    })
+}
+
+/// What is wrong with a load by a loader of the port, if it should answer as a model does; the model's code is
+/// noted.
+pub fn by_port(
+    case: &LoadCase,
+    model: Model,
+    note: impl Fn(u32),
+    load: impl Fn(&[u8], &mut [u8], &mut [u8], &mut usize, (&mut u64, &mut u64)) -> u32,
+) -> Option<String> {
+    let (mut page, mut marks, held, marked, should) = lent(case, model);
+    note(should.0);
     let text = Lent::holding(&case.text);
     let mut numbers = Numbers::default();
     let third = numbers.values()[2];
     let mut lines = [3, 5, 7];
     let (a, b, _) = numbers.lend();
-    let code = port.load(
+    let code = load(
         text.bytes(),
-        case.first,
         page.slice(),
         marks.slice(),
         &mut lines[1],
@@ -102,7 +120,9 @@ fn as_port(answer: Result<Loaded, LoadError>) -> LoadAnswer {
     };
     let [a, b, _] = match why {
         LoadError::Line(refused) => by_face::refusal(&refused.error).values,
+        LoadError::SRecordLine { error, .. } => by_face::refusal(&error.0).values,
         LoadError::OutsideWindow { address, .. } => [address.into(), 0, 0],
+        LoadError::CountMismatch { stated, seen, .. } => [stated.into(), seen as u64, 0],
         _ => [0; 3],
     };
     (REFUSED + why.number(), a, b, why.line().unwrap_or(0))
@@ -110,9 +130,19 @@ fn as_port(answer: Result<Loaded, LoadError>) -> LoadAnswer {
 
 /// What is wrong with a load by the face.
 pub fn face(case: &LoadCase) -> Option<String> {
-    let (mut page, mut marks, held, marked, should) = lent(case);
-    let answer = ihex::load(&case.text, case.first, page.slice(), marks.slice());
-    let is = as_port(answer);
+    by_face_with(case, model, |text, page, marks| {
+        ihex::load(text, case.first, page, marks)
+    })
+}
+
+/// What is wrong with a load by a loader of the face, if it should answer as a model does.
+pub fn by_face_with(
+    case: &LoadCase,
+    model: Model,
+    load: impl Fn(&[u8], &mut [u8], &mut [u8]) -> Result<Loaded, LoadError>,
+) -> Option<String> {
+    let (mut page, mut marks, held, marked, should) = lent(case, model);
+    let is = as_port(load(&case.text, page.slice(), marks.slice()));
     if is != should {
         return Some(format!("face {is:?}, model {should:?}"));
     }

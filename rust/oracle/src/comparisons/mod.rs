@@ -14,6 +14,7 @@ pub mod pages;
 pub mod replay;
 pub mod run;
 pub mod seen;
+pub mod srecords;
 pub mod stored;
 pub mod sums;
 pub mod texts;

@@ -32,7 +32,7 @@ pub fn unlike(
     }
     let (is, should) = ((code, value), (expected.code, expected.value));
     if is != should {
-        return Some(format!("port {is:?}, crate {should:?}"));
+        return Some(format!("port {is:?}, should be {should:?}"));
     }
     out.unlike("output", &expected.held(before))
 }

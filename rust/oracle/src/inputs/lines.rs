@@ -105,7 +105,7 @@ pub fn good(chance: &mut Chance) -> Vec<u8> {
 }
 
 /// Each letter in either case.
-fn recase(line: &mut [u8], chance: &mut Chance) {
+pub fn recase(line: &mut [u8], chance: &mut Chance) {
     for byte in line {
         if chance.once_in(2) {
             byte.make_ascii_lowercase();
@@ -198,14 +198,14 @@ pub fn damaged(chance: &mut Chance) -> Vec<u8> {
     line
 }
 
-/// Each line up to `n` characters over the telling bytes that begins with `start`.
-fn every(start: &[u8], n: usize) -> Vec<LineCase> {
+/// Each line up to `n` characters over these bytes that begins with `start`.
+pub fn every(bytes: &[u8], start: &[u8], n: usize) -> Vec<LineCase> {
     let mut lines = vec![start.to_vec()];
     let mut from = 0;
     for _ in start.len()..n {
         let end = lines.len();
         for i in from..end {
-            for byte in TELLING {
+            for &byte in bytes {
                 lines.push([&lines[i][..], &[byte]].concat());
             }
         }
@@ -242,13 +242,12 @@ pub fn sized(n: usize, chance: &mut Chance) -> Vec<LineCase> {
     found
 }
 
-/// A good line with each of its bytes changed to each of the 256.
-pub fn changed(chance: &mut Chance) -> Vec<LineCase> {
-    let line = good(chance);
+/// A line with each of its bytes, up to the sixtieth, changed to each of the 256.
+pub fn changed(line: &[u8]) -> Vec<LineCase> {
     let mut found = Vec::new();
     for at in 0..line.len().min(60) {
         for byte in 0..=255 {
-            let mut other = line.clone();
+            let mut other = line.to_vec();
             other[at] = byte;
             found.push(LineCase::new(other));
         }
@@ -295,12 +294,12 @@ pub fn damaged_line(chance: &mut Chance) -> LineCase {
 /// Every line up to 4 characters: a block for each telling byte that begins one, and one for the empty.
 pub fn every_short(block: u64, _: &mut Chance) -> Vec<LineCase> {
     match TELLING.get(block as usize) {
-        Some(&byte) => every(&[byte], 4),
-        None => every(b"", 0),
+        Some(&byte) => every(&TELLING, &[byte], 4),
+        None => every(&TELLING, b"", 0),
     }
 }
 
 /// Every line of a colon and up to 4 characters: a block for each telling byte that is the first of them.
 pub fn every_behind_colon(block: u64, _: &mut Chance) -> Vec<LineCase> {
-    every(&[b':', TELLING[block as usize]], 5)
+    every(&TELLING, &[b':', TELLING[block as usize]], 5)
 }

@@ -75,10 +75,10 @@ const FULL: usize = 65_536;
 const MISSED: usize = 8;
 
 /// Where a page is to show memory: from which address on, how many places, and how many there could be.
-struct Window {
-    first: u32,
-    size: usize,
-    room: usize,
+pub struct Window {
+    pub first: u32,
+    pub size: usize,
+    pub room: usize,
 }
 
 impl Window {
@@ -101,7 +101,8 @@ fn window_of_segment(chance: &mut Chance) -> Window {
     }
 }
 
-fn window(chance: &mut Chance) -> Window {
+/// A window, often at an end of 2 or 4 address bytes, and of a segment at times.
+pub fn window(chance: &mut Chance) -> Window {
     if chance.once_in(10) {
         return window_of_segment(chance);
     }
@@ -125,7 +126,7 @@ fn window(chance: &mut Chance) -> Window {
     Window { first, size, room }
 }
 
-fn line_end(chance: &mut Chance) -> &'static [u8] {
+pub fn line_end(chance: &mut Chance) -> &'static [u8] {
     chance.one_of(&["\n", "\r\n", "\n\n"]).as_bytes()
 }
 
@@ -225,7 +226,12 @@ pub fn load(chance: &mut Chance) -> LoadCase {
     if chance.once_in(8) {
         damage(&mut text, chance);
     }
-    let Window { first, size, room } = window;
+    into(text, &window, chance)
+}
+
+/// A text that is to be loaded into a window; at times page or marks have another length than they should.
+pub fn into(text: Vec<u8>, window: &Window, chance: &mut Chance) -> LoadCase {
+    let Window { first, size, room } = *window;
     let fit = packed_length(size);
     let (page, marks) = match chance.under(80) {
         0 => (size, fit + 1),

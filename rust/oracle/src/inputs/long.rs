@@ -19,8 +19,9 @@ pub const LENGTHS: [usize; 20] = [
 /// What may stand after a long line: two that end the line, two that end the text, and others.
 const ENDS: [&str; 7] = ["\n", "\r\n", "", "\r", "\r\r\n", "\n\n", "\r\r"];
 
-/// What stands before a long line.
+/// What stands before a long line, and before a long S-record.
 const SHORT: &[u8] = b":0200000041427B\n";
+const SHORT_S: &[u8] = b"S104000041BA\n";
 
 /// The sizes of chunks. The last is longer than any text.
 const SIZES: [usize; 10] = [1, 7, 64, 512, 521, 522, 523, 4096, 65_536, 1 << 20];
@@ -93,9 +94,25 @@ impl LongCase {
     }
 
     fn bytes_of_text(&self) -> Vec<u8> {
+        self.between(SHORT)
+    }
+
+    /// The line after a short one, and after a LF one more.
+    fn between(&self, short: &[u8]) -> Vec<u8> {
         let end = ENDS[self.end].as_bytes();
-        let behind = if end.ends_with(b"\n") { SHORT } else { b"" };
-        [SHORT, &self.bytes(), end, behind].concat()
+        let after = if end.ends_with(b"\n") { short } else { b"" };
+        [short, &self.bytes(), end, after].concat()
+    }
+
+    /// The same with an S in place of the colon: the line, and a text to load.
+    pub fn srecords(&self) -> (LineCase, LoadCase) {
+        let first = if self.first == b':' { b'S' } else { self.first };
+        let other = LongCase {
+            first,
+            ..self.clone()
+        };
+        let load = LoadCase::new(other.between(SHORT_S), 0, 2, 0xFF);
+        (other.line(), load)
     }
 
     /// The line, and each CR of what stands after it.

@@ -14,6 +14,7 @@ pub mod pages;
 pub mod replay;
 pub mod shrink;
 pub mod spelling;
+pub mod srecords;
 pub mod sums;
 pub mod texts;
 pub mod writes;

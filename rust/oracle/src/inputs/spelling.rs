@@ -25,6 +25,15 @@ pub fn spelt(bytes: &[u8]) -> Vec<u8> {
     line
 }
 
+/// The S-record with this digit of its type that states these bytes, from the count on, and their checksum.
+pub fn sspelt(digit: u8, bytes: &[u8]) -> Vec<u8> {
+    let sum = bytes.iter().fold(0u8, |sum, &byte| sum.wrapping_add(byte));
+    let mut line = vec![b'S', digit];
+    line.extend(digits(bytes, false));
+    line.extend(digits(&[!sum], false));
+    line
+}
+
 /// The line of a record with this type, address and payload.
 pub fn line_of(kind: u8, address: u16, payload: &[u8]) -> Vec<u8> {
     let [high, low] = address.to_be_bytes();

@@ -108,15 +108,23 @@ pub const UNWRAPPED: [(&str, Placing); 3] = [
     ),
 ];
 
-/// What a text states by these rules: how many data records, and the places of the window with their
-/// bytes, in order; or the refusal.
-pub fn stated(rules: Rules, case: &LoadCase) -> Result<(u64, Vec<(usize, u8)>), LoadAnswer> {
+/// What a text states: how many data records, and the places of the window with their bytes, in order; or
+/// the refusal.
+pub type Stated = Result<(u64, Vec<(usize, u8)>), LoadAnswer>;
+
+/// The addresses of a case's window, or the refusal of it.
+pub fn window(case: &LoadCase, fits: fn(usize, usize) -> bool) -> Result<Range<u64>, LoadAnswer> {
     let first = u64::from(case.first);
     let window = first..first + case.page as u64;
-    let fits = (rules.fits)(case.page, case.marks);
-    if !fits || case.page > 65_536 || window.end > 1 << 32 {
+    if !fits(case.page, case.marks) || case.page > 65_536 || window.end > 1 << 32 {
         return Err((REFUSED + 16, 0, 0, 0));
     }
+    Ok(window)
+}
+
+/// What a text states by these rules.
+pub fn stated(rules: Rules, case: &LoadCase) -> Stated {
+    let window = window(case, rules.fits)?;
     let mut latest = Latest::None;
     let mut records = 0;
     let mut stated = Vec::new();
@@ -135,7 +143,9 @@ pub fn stated(rules: Rules, case: &LoadCase) -> Result<(u64, Vec<(usize, u8)>), 
                 }
                 let placed = addresses.into_iter().zip(value);
                 let inside = placed.filter(|(address, _)| window.contains(address));
-                stated.extend(inside.map(|(address, byte)| ((address - first) as usize, byte)));
+                stated.extend(
+                    inside.map(|(address, byte)| ((address - window.start) as usize, byte)),
+                );
             }
             Ok(Record::ExtendedSegmentAddress(n)) => {
                 latest = (rules.segment)(latest, u64::from(n) << 4);
@@ -150,16 +160,26 @@ pub fn stated(rules: Rules, case: &LoadCase) -> Result<(u64, Vec<(usize, u8)>), 
     Err((REFUSED + 13, 0, 0, 0))
 }
 
-/// A load by these rules: page and marks change on acceptance only. A list of marks is made, a byte for
-/// each place, and then packed.
+/// A load by these rules.
 pub fn placed_by(rules: Rules, case: &LoadCase, page: &mut [u8], row: &mut [u8]) -> LoadAnswer {
-    match stated(rules, case) {
+    laid(stated(rules, case), rules.mark, page, row)
+}
+
+/// What a text states, laid on page and marks, which change on acceptance only. A list of marks is made, a byte
+/// for each place, and then packed.
+pub fn laid(
+    stated: Stated,
+    mark: fn(&mut [u8], usize),
+    page: &mut [u8],
+    row: &mut [u8],
+) -> LoadAnswer {
+    match stated {
         Err(refused) => refused,
         Ok((records, stated)) => {
             let mut marks = vec![0; page.len()];
             for (place, byte) in stated {
                 page[place] = byte;
-                (rules.mark)(&mut marks, place);
+                mark(&mut marks, place);
             }
             for (byte, eight) in row.iter_mut().zip(packed(&marks)) {
                 *byte = eight;

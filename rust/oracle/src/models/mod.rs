@@ -1,5 +1,5 @@
-//! The models: what should be answered, from the crate's answers and the rules. A model asks neither the port
-//! nor the face.
+//! The models: what should be answered, from the crate's answers and the rules; for S-records from the rules
+//! alone. A model asks neither the port nor the face.
 
 pub mod chunks;
 pub mod dumps;
@@ -7,5 +7,6 @@ pub mod lines;
 pub mod loads;
 pub mod pages;
 pub mod replay;
+pub mod srecords;
 pub mod texts;
 pub mod writes;

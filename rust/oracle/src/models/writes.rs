@@ -39,12 +39,19 @@ pub fn answered(answer: Result<String, original::WriterError>, out: usize) -> Wr
             let (code, value) = by_crate::unwritten(&why);
             refused(code, value)
         }
-        Ok(text) if text.len() > out => refused(REFUSED + 15, 0),
-        Ok(text) => Written {
-            code: 0,
-            value: text.len() as u64,
-            text: text.into_bytes(),
-        },
+        Ok(text) => wrote(text.into_bytes(), out),
+    }
+}
+
+/// The answer to what has this text, with room for `out` bytes.
+pub fn wrote(text: Vec<u8>, out: usize) -> Written {
+    if text.len() > out {
+        return refused(REFUSED + 15, 0);
+    }
+    Written {
+        code: 0,
+        value: text.len() as u64,
+        text,
     }
 }
 

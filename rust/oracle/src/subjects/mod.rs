@@ -4,5 +4,6 @@
 pub mod face;
 pub mod port;
 pub mod program;
+pub mod srecords;
 pub mod the_crate;
 pub mod told;

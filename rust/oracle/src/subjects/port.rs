@@ -3,7 +3,7 @@
 
 use ihex_sys::{Lies, Standing};
 
-use crate::subjects::told::{Entry, Place};
+use crate::subjects::told::{Entry, Place, SEntry};
 
 pub trait Port: Sync {
     fn checksum(&self, bytes: &[u8]) -> u8 {
@@ -112,6 +112,44 @@ pub trait Port: Sync {
         value: &mut u64,
     ) -> u32 {
         ihex_sys::write_page(first, page, marks, out, value)
+    }
+
+    fn read_srecord(
+        &self,
+        line: &[u8],
+        pool: &mut [u8],
+        at: usize,
+        (a, b, c): (&mut u64, &mut u64, &mut u64),
+    ) -> u32 {
+        ihex_sys::read_srecord(line, pool, at, a, b, c)
+    }
+
+    fn to_srecord_string(
+        &self,
+        entry: &SEntry,
+        pool: &[u8],
+        out: &mut [u8],
+        value: &mut u64,
+    ) -> u32 {
+        let SEntry {
+            kind,
+            address,
+            at,
+            len,
+        } = *entry;
+        ihex_sys::to_srecord_string(kind, address, at, len, pool, out, value)
+    }
+
+    fn load_srecords(
+        &self,
+        text: &[u8],
+        first: u32,
+        page: &mut [u8],
+        marks: &mut [u8],
+        line: &mut usize,
+        (a, b): (&mut u64, &mut u64),
+    ) -> u32 {
+        ihex_sys::load_srecords(text, first, page, marks, line, a, b)
     }
 }
 

@@ -44,7 +44,7 @@ pub struct Entry {
 impl Entry {
     /// The payload of a data record, if it lies in the pool.
     pub fn payload<'a>(&self, pool: &'a [u8]) -> Option<&'a [u8]> {
-        pool.get(self.at..self.at.checked_add(self.len)?)
+        part(pool, self.at, self.len)
     }
 
     /// How long the line of a record is, with its LF.
@@ -65,6 +65,20 @@ impl Entry {
             _ => false,
         }
     }
+}
+
+/// An S-record that should be written, as the C entry points take it.
+#[derive(Clone, PartialEq, Eq, Debug)]
+pub struct SEntry {
+    pub kind: u8,
+    pub address: u32,
+    pub at: usize,
+    pub len: usize,
+}
+
+/// So many bytes of a pool from a position on, if they lie in it.
+pub fn part(pool: &[u8], at: usize, len: usize) -> Option<&[u8]> {
+    pool.get(at..at.checked_add(len)?)
 }
 
 /// The same functions for the crate and for the Rust face, which have the same shapes; but the face's

@@ -3,7 +3,7 @@
 use crate::wrong::named::Wrong;
 use crate::wrong::{lines, loads, marks, places, sums, texts, writes};
 
-/// Every wrong port, but for those whose chunk reader or page writer is wrong.
+/// Every wrong port, but for those whose chunk reader or page writer is wrong, or what they do with S-records.
 pub fn ports() -> Vec<Wrong> {
     let parts = [
         sums::all(),

@@ -12,6 +12,7 @@ pub mod named;
 pub mod pages;
 pub mod places;
 pub mod replay;
+pub mod srecords;
 pub mod sums;
 pub mod texts;
 pub mod writes;
