@@ -1,10 +1,12 @@
-"""Pages written by ihex_write_page and loaded by other readers, and pages written by those and loaded by ihex_load; and dumps that other
-tools merge into one, where ihex_load loads one upon the other.
+"""Pages written by ihex_write_page and loaded by other readers, and pages written by those and loaded by ihex_load; dumps that other
+tools merge into one, where ihex_load loads one upon the other; and S-records: files that other tools write, loaded by ihex_load_srecords
+to the same bytes as the tool's own binary, and lines of ihex_to_srecord_string that they read.
 
     interop.py FOLDER WORDS..    the folder of the built programs pagefile and joined; the words that run a program
 
 Each page is one test for each reader and one for each writer. Each must have exactly the marked places, with their bytes. Each pair of
-dumps is two tests for each tool that merges, and one for ihex_load; two more for each tool see that it is given pairs enough. Files that
+dumps is two tests for each tool that merges, and one for ihex_load; two more for each tool see that it is given pairs enough. Each page of
+S-records is a test for each form that a tool writes, two for each type that it can read, and for each type one of a plain reader. Files that
 a tool does not take, and tools that are not there, are passed over and count nothing; a line that begins with '-- passed over:' names
 each. The last line is 'N passed, M failed'.
 """
@@ -15,7 +17,7 @@ import sys
 
 import model
 from model import packed, unpacked
-from peers import run, there
+from peers import Refused, of_srecords, run, there
 from programs import end, told
 
 PAGE = 65536
@@ -109,9 +111,9 @@ def page_file(case):
     return run(PAGEFILE + ['write', '%X' % case.first, str(len(case.page))], case.page + packed(case.marks)).decode()
 
 
-def loaded(first, n, text):
-    """The places that ihex_load marks in a window of n places, with their bytes."""
-    both = run(PAGEFILE + ['load', '%X' % first, str(n)], text.encode('latin-1'))
+def loaded(first, n, text, by='load'):
+    """The places that ihex_load, or ihex_load_srecords, marks in a window of n places, with their bytes."""
+    both = run(PAGEFILE + [by, '%X' % first, str(n)], text.encode('latin-1'))
     marks = unpacked(both[n:], n)
     if packed(marks) != both[n:]:
         raise ValueError('an unused bit is set')
@@ -249,6 +251,78 @@ def compare_joined(pairs):
         compare('joined, pair %d' % each.number, {**each.a.places, **each.b.places}, lambda: each.joined.places)
 
 
+# ---- S-records
+
+# Where pages of S-records lie: from 0 on, and across or at the ends of 2, 3 and 4 address bytes.
+SREC_FIRSTS = [0, 0xFFEF, 0xFFFFF8, 0xFFFFFED4]
+
+
+def srecord_cases():
+    for first in SREC_FIRSTS:
+        for name, marks in SHAPES:
+            if first + len(marks) <= TOP and any(marks):
+                yield Case(name, first, filled(len(marks)), marks)
+    yield Case('whole page', 0x18001, filled(PAGE), b'\1' * PAGE)
+    yield Case('ends of a whole page', 0xFFFF0000, filled(PAGE), runs(PAGE, (0, 1), (PAGE - 1, 1)))
+
+
+def types_for(case):
+    """The types of data record that have an address for each place of a page."""
+    last = case.first + len(case.marks) - 1
+    return [kind for kind in (1, 2, 3) if last < 256 ** (kind + 1)]
+
+
+def srecords(case, kind, size):
+    """A page as S-records of one type, written line by line by ihex_to_srecord_string."""
+    words = ['write-srecords', '%X' % case.first, str(len(case.page)), str(kind), str(size)]
+    return run(PAGEFILE + words, case.page + packed(case.marks)).decode()
+
+
+def written_whole(tool, case, file, options):
+    """The places that ihex_load_srecords marks for the S-records that a tool makes of a page's file, if its own binary has the same bytes."""
+    text = tool.write_srecords(file, options)
+    places = loaded(case.first, len(case.marks), text, 'load-srecords')
+    lowest, highest = min(places), max(places)
+    if tool.binary(text, lowest) != bytes(places.get(at, 0) for at in range(lowest, highest + 1)):
+        raise ValueError('its binary has other bytes')
+    return places
+
+
+def compare_srecords(tools):
+    for case in srecord_cases():
+        of, places, file = 'S-records, %s at %X' % (case.name, case.first), stated(case), page_file(case)
+        ours = {kind: srecords(case, kind, 16 if kind == 2 else 252 - kind) for kind in types_for(case)}
+        for kind, text in ours.items():
+            compare('a plain reader, S%d, %s' % (kind, of), places, lambda: of_srecords(text))
+            compare('loaded, S%d, %s' % (kind, of), places, lambda: loaded(case.first, len(case.marks), text, 'load-srecords'))
+        for tool in tools:
+            for form, options in tool.forms.items():
+                compare('%s writes %s, %s' % (tool.name, form, of), places, lambda: written_whole(tool, case, file, options))
+            for kind, text in ours.items():
+                compare('%s reads S%d, %s' % (tool.name, kind, of), places, lambda: tool.read_srecords(text))
+
+
+def refused_with(name, first, n, text, number):
+    """One test: ihex_load_srecords refuses a text with this number."""
+    try:
+        loaded(first, n, text, 'load-srecords')
+        told(name, False, 'it is accepted')
+    except Refused as why:
+        told(name, str(why).endswith('answer %d' % (256 + number)), str(why))
+
+
+def compare_ends(tool):
+    """srec_cat writes no end record unless it is told a start address, and a count, which notices a line that is lost."""
+    case = Case('two runs', 0, filled(20), runs(20, (0, 18), (19, 1)))
+    text = tool.write_srecords(page_file(case), '')
+    told('%s writes no end record' % tool.name, not any(line[:2] in ('S7', 'S8', 'S9') for line in text.split()))
+    refused_with('%s, a file without an end record' % tool.name, 0, 20, text, 13)
+    lines = tool.write_srecords(page_file(case), tool.START).splitlines(keepends=True)
+    lost = next(line for line in lines if line.startswith('S1'))
+    lines.remove(lost)
+    refused_with('%s, a file that lost a line' % tool.name, 0, 20, ''.join(lines), 20)
+
+
 def main():
     tools, pairs = there(), [pair(number) for number in NUMBERS]
     for tool in tools:
@@ -257,6 +331,11 @@ def main():
     for tool in tools:
         if tool.name in CANNOT:
             compare_merges(tool, pairs)
+    of_srecords_too = [tool for tool in tools if hasattr(tool, 'forms')]
+    compare_srecords(of_srecords_too)
+    for tool in of_srecords_too:
+        if hasattr(tool, 'START'):
+            compare_ends(tool)
     told('a tool could be had', bool(tools), 'none of the three')
     end()
 

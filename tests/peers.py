@@ -1,6 +1,7 @@
 """Other readers of Intel HEX: GNU objcopy, srec_cat and Python's intelhex. Each gives the places that a text states, by their address, or
 raises an error where it refuses the text; and each writes a text from such places. The last two also merge texts into one, in which the
-later text wins. A text is a string of one character a byte."""
+later text wins. The first two also read S-records, write a text of Intel HEX as S-records, and make a binary of S-records: the bytes from
+the lowest address to the highest, 0 where none is stated. A text is a string of one character a byte."""
 import io
 import os
 import shutil
@@ -82,7 +83,7 @@ def turned(words, *texts):
             with open(names['<' * number], 'wb') as file:
                 file.write(text.encode('latin-1'))
         run([names.get(word, word) for word in words])
-        with open(names['>']) as file:
+        with open(names['>'], encoding='latin-1', newline='') as file:
             return file.read()
 
 
@@ -97,6 +98,18 @@ class Objcopy:
     def write(self, places):
         return turned('objcopy -I srec -O ihex < >'.split(), to_srecords(places))
 
+    # How it is asked for S-records.
+    forms = {'as it does': '', 'as S3': '--srec-forceS3', 'of 7 bytes': '--srec-len=7'}
+
+    def write_srecords(self, text, options):
+        return turned(['objcopy', '-I', 'ihex', '-O', 'srec', *options.split(), '<', '>'], text)
+
+    def read_srecords(self, text):
+        return of_srecords(turned('objcopy -I srec -O srec < >'.split(), text))
+
+    def binary(self, text, lowest):
+        return turned('objcopy -I srec -O binary < >'.split(), text).encode('latin-1')
+
 
 class SrecCat:
     name, package, refuses = 'srec_cat', 'srecord', Refused
@@ -108,6 +121,19 @@ class SrecCat:
 
     def write(self, places):
         return turned('srec_cat < -motorola -o > -intel'.split(), to_srecords(places))
+
+    # How it is asked for S-records. It writes an end record only where it is told a start address.
+    START = '-execution-start-address=0'
+    forms = {'as it does': START, 'as S3': '-address-length=4 ' + START, 'of 44 characters': '-line-length=44 ' + START}
+
+    def write_srecords(self, text, options):
+        return turned(['srec_cat', '<', '-intel', '-o', '>', '-motorola', *options.split()], text)
+
+    def read_srecords(self, text):
+        return of_srecords(turned('srec_cat < -motorola -o > -motorola'.split(), text))
+
+    def binary(self, text, lowest):
+        return turned(['srec_cat', '<', '-motorola', '-offset', '-0x%X' % lowest, '-o', '>', '-binary'], text).encode('latin-1')
 
     def merge(self, *texts):
         files = [word for number in range(1, len(texts) + 1) for word in ('<' * number, '-intel')]
