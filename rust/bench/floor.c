@@ -14,20 +14,45 @@ static const uint8_t DIGIT[256] = {
 
 static const char CAPITAL[16] = "0123456789ABCDEF";
 
+/* The bytes of n pairs of digits; whether all are digits, and the sum of the bytes. */
+static inline int spelt(const uint8_t *digits, size_t n, uint8_t *bytes, uint8_t *sum)
+{
+    uint8_t seen = 0, total = 0;
+    for (size_t i = 0; i < n; i++) {
+        uint8_t high = DIGIT[digits[2 * i]], low = DIGIT[digits[2 * i + 1]];
+        seen |= high | low;
+        bytes[i] = high * 16 + low;
+        total += bytes[i];
+    }
+    *sum = total;
+    return seen <= 15;
+}
+
 /* A line's bytes into a buffer of 260, and how many there are; 0 where it is no record. */
 static size_t decode(const uint8_t *line, size_t len, uint8_t *bytes)
 {
     if (len < 11 || len > 521 || len % 2 == 0 || line[0] != ':')
         return 0;
     size_t n = len / 2;
-    uint8_t seen = 0, sum = 0;
-    for (size_t i = 0; i < n; i++) {
-        uint8_t high = DIGIT[line[1 + 2 * i]], low = DIGIT[line[2 + 2 * i]];
-        seen |= high | low;
-        bytes[i] = high * 16 + low;
-        sum += bytes[i];
-    }
-    if (seen > 15 || sum != 0 || bytes[0] != n - 5 || bytes[3] > 5)
+    uint8_t sum;
+    if (!spelt(line + 1, n, bytes, &sum) || sum != 0 || bytes[0] != n - 5 || bytes[3] > 5)
+        return 0;
+    return n;
+}
+
+/* How many bytes the address of each type of S-record has, 0 for a type that is not named. */
+static const uint8_t WIDTH[16] = {2, 2, 3, 4, 0, 2, 0, 4, 3, 2};
+
+/* The bytes of an S-record from its count on, into a buffer of 256, and how many there are; 0 where it is no record. */
+static size_t decode_srecord(const uint8_t *line, size_t len, uint8_t *bytes)
+{
+    if (len < 10 || len > 514 || len % 2 == 1 || line[0] != 'S')
+        return 0;
+    size_t n = len / 2 - 1, kind = DIGIT[line[1]];
+    uint8_t sum;
+    if (kind > 15 || WIDTH[kind] == 0 || n < 2u + WIDTH[kind] || (kind > 4 && n != 2u + WIDTH[kind]))
+        return 0;
+    if (!spelt(line + 2, n, bytes, &sum) || sum != 255 || bytes[0] != n - 1)
         return 0;
     return n;
 }
@@ -41,6 +66,18 @@ int64_t floor_read_record(const uint8_t *line, size_t len, uint8_t *pool)
         return -1;
     memcpy(pool, bytes + 4, n - 5);
     return n - 5;
+}
+
+/* The data's length of an S-record, or -1; the data goes to the pool. */
+int64_t floor_read_srecord(const uint8_t *line, size_t len, uint8_t *pool)
+{
+    uint8_t bytes[256];
+    size_t n = decode_srecord(line, len, bytes);
+    if (n == 0)
+        return -1;
+    size_t head = 1 + WIDTH[DIGIT[line[1]]];
+    memcpy(pool, bytes + head, n - 1 - head);
+    return n - 1 - head;
 }
 
 /* The line that begins at a position: its length; the position moves behind its LF. */
@@ -111,6 +148,45 @@ size_t floor_load(const uint8_t *text, size_t len, uint8_t *page, uint8_t *marks
                 mark(marks, offset, here);
                 memcpy(page, bytes + 4 + here, n - 5 - here);
                 mark(marks, 0, n - 5 - here);
+            }
+        }
+        if (write)
+            return records;
+    }
+    return 0;
+}
+
+/* Loads a text of S-records into a page from address 0 on. Judges first, then writes. */
+size_t floor_load_srecords(const uint8_t *text, size_t len, uint8_t *page, uint8_t *marks, size_t size)
+{
+    uint8_t bytes[256];
+    for (int write = 0; write < 2; write++) {
+        size_t records = 0;
+        if (write)
+            memset(marks, 0, (size + 7) / 8);
+        for (size_t position = 0; position < len;) {
+            size_t from = position, n = cut(text, len, &position);
+            if (n == 0)
+                continue;
+            n = decode_srecord(text + from, n, bytes);
+            if (n == 0)
+                return 0;
+            size_t kind = DIGIT[text[from + 1]], width = WIDTH[kind], address = 0;
+            for (size_t i = 1; i <= width; i++)
+                address = address * 256 + bytes[i];
+            if (kind > 6)
+                break;
+            if (kind == 5 && address != records)
+                return 0;
+            if (kind == 0 || kind == 5)
+                continue;
+            size_t here = n - 2 - width;
+            if (here > size || address > size - here)
+                return 0;
+            records++;
+            if (write) {
+                memcpy(page + address, bytes + 1 + width, here);
+                mark(marks, address, here);
             }
         }
         if (write)

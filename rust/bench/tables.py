@@ -37,6 +37,8 @@ LOADS = {
 # Pages by which of their places are marked: the multiples of a number.
 PLACES = 16 * FULL
 PAGES = {1: "all", 2: "every second", PLACES: "one"}
+# Works on S-records, with the same work on Intel HEX.
+SRECORDS = {"srecord": "record", "srecords": "load"}
 # What a load of a full page took a record, with a byte for each mark.
 BYTE_MARKS = 1597
 REPETITIONS = 2
@@ -155,6 +157,21 @@ def show_loads(reading):
     return max(n for n, _ in found.values())
 
 
+def show_srecords(count):
+    """Shows what S-records cost beside Intel HEX, and returns each as a multiple of Intel's."""
+    print(f"Instructions a record of 16 bytes, of {FULL:,} S-records; Intel HEX beside them is the port's:\n")
+    rows, multiples = [], []
+    for what, intel in SRECORDS.items():
+        found = {one: instructions(one, what, 16, FULL) for one in ("face", "port", "floor")}
+        found["Intel HEX"] = instructions("port", intel, 16, FULL)
+        if len({result for _, result in found.values()}) != 1:
+            sys.exit(f"{what}: the results differ, {found}")
+        multiples.append(found["port"][0] / count["port", intel, 16])
+        rows.append([WORK[intel] + ", S-records"] + [whole(n) for n, _ in found.values()] + [f"{multiples[-1]:.2f}"])
+    table(["Work", "face", "port", "floor", "Intel HEX", "port : Intel HEX"], rows)
+    return multiples
+
+
 def show_pages(who):
     """Shows what a page costs that is written, and returns what the port takes for a place without a mark."""
     print(f"Instructions a place, of a page of {PLACES:,} that is written; the crate is given the records, made before:\n")
@@ -205,12 +222,14 @@ def under(bar):
     return f"under {bar}", lambda is_: is_ < bar
 
 
-def show_bars(who, count, loading, unmarked, chunks):
+def show_bars(who, count, loading, unmarked, chunks, srecords):
     reading, writing = count["port", "text", 16], count["port", "object", 16]
     bars = [
         ("the dearest load, as a multiple of reading", loading / reading, at_most(2.5)),
         (f"loading a full page, as a multiple of {BYTE_MARKS:,}, with a byte for each mark", count["port", "load", 16] / BYTE_MARKS, at_most(1.1)),
         ("writing a page, instructions for a place without a mark", unmarked, under(15)),
+        ("reading an S-record, as a multiple of Intel's", srecords[0], at_most(1.15)),
+        ("loading S-records, as a multiple of Intel's", srecords[1], at_most(1.15)),
     ]
     if "crate" in who:
         bars += [
@@ -240,7 +259,8 @@ def main():
     show_page_growth()
     chunks = in_chunks()
     show_chunks(chunks)
-    show_bars(who, count, loading, unmarked, chunks)
+    srecords = show_srecords(count)
+    show_bars(who, count, loading, unmarked, chunks, srecords)
 
 
 main()

@@ -3,8 +3,16 @@
 mod c {
     extern "C" {
         pub fn floor_read_record(line: *const u8, len: usize, pool: *mut u8) -> i64;
+        pub fn floor_read_srecord(line: *const u8, len: usize, pool: *mut u8) -> i64;
         pub fn floor_read_text(text: *const u8, len: usize, pool: *mut u8, sum: *mut u64) -> usize;
         pub fn floor_load(
+            text: *const u8,
+            len: usize,
+            page: *mut u8,
+            marks: *mut u8,
+            size: usize,
+        ) -> usize;
+        pub fn floor_load_srecords(
             text: *const u8,
             len: usize,
             page: *mut u8,
@@ -35,6 +43,10 @@ pub fn read_record(line: &[u8], pool: &mut [u8; 255]) -> i64 {
     unsafe { c::floor_read_record(line.as_ptr(), line.len(), pool.as_mut_ptr()) }
 }
 
+pub fn read_srecord(line: &[u8], pool: &mut [u8; 255]) -> i64 {
+    unsafe { c::floor_read_srecord(line.as_ptr(), line.len(), pool.as_mut_ptr()) }
+}
+
 pub fn read_text(text: &[u8], pool: &mut [u8; 255], sum: &mut u64) -> usize {
     unsafe { c::floor_read_text(text.as_ptr(), text.len(), pool.as_mut_ptr(), sum) }
 }
@@ -48,6 +60,12 @@ pub fn load(text: &[u8], page: &mut [u8], marks: &mut [u8]) -> usize {
     let size = places(page, marks);
     let (page, marks) = (page.as_mut_ptr(), marks.as_mut_ptr());
     unsafe { c::floor_load(text.as_ptr(), text.len(), page, marks, size) }
+}
+
+pub fn load_srecords(text: &[u8], page: &mut [u8], marks: &mut [u8]) -> usize {
+    let size = places(page, marks);
+    let (page, marks) = (page.as_mut_ptr(), marks.as_mut_ptr());
+    unsafe { c::floor_load_srecords(text.as_ptr(), text.len(), page, marks, size) }
 }
 
 /// A line of up to 255 payload bytes into an output of 521.

@@ -4,13 +4,15 @@
 //!     bench port chunks BYTES RECORDS REPETITIONS CHUNK
 //!     bench port segment|linear|across BYTES RECORDS REPETITIONS
 //!     bench WHO page BYTES RECORDS REPETITIONS EVERY
+//!     bench port|face|floor srecord|srecords BYTES RECORDS REPETITIONS
 //!
 //! WHO is crate, port, face or floor. WHAT is record or text (reading), line or object (writing), or
 //! load. BYTES are a record's payload, RECORDS how many there are in a text, or calls a repetition.
 //! `chunks` reads the text in chunks of CHUNK bytes, to the number that `text` prints. `segment` and
 //! `linear` load it behind a type 02 and a type 04, `across` so many records across a segment's end,
 //! each to the number that `load` prints. `page` writes all payloads as a page in which each multiple of
-//! EVERY is marked; the crate is given its records.
+//! EVERY is marked; the crate is given its records. `srecord` and `srecords` read a record and load the
+//! text as S-records of at most 252 bytes, each to the number that `record` and `load` print.
 //! It prints a number that comes from the results, the same for all, and the nanoseconds taken.
 
 mod floor;
@@ -18,6 +20,8 @@ mod floor;
 use std::env;
 use std::process::exit;
 use std::time::Instant;
+
+use ihex::srec::{SRecord, SType};
 
 /// The inputs, the same for all.
 pub struct Given {
@@ -34,6 +38,9 @@ pub struct Given {
     segment: String,
     linear: String,
     across: String,
+    /// The text as S-records, and its first line.
+    srecords: String,
+    srecord: String,
     of_crate: Vec<original::Record>,
     of_face: Vec<ihex::Record>,
     /// The records as the C entry points take them.
@@ -75,6 +82,8 @@ fn given(n: usize, records: usize, step: usize) -> Given {
         segment: format!(":020000020000FC\n{text}"),
         linear: format!(":020000040000FA\n{text}"),
         across: across(n, &pool),
+        srecord: srecord(SType::S1, 0, &pool[..n.min(pool.len())]),
+        srecords: srecords(n, &pool),
         marked: marked(pool.len(), step),
         of_page: of_page(&pool, step),
         pool,
@@ -116,6 +125,27 @@ fn across(n: usize, pool: &[u8]) -> String {
     let mut records: Vec<_> = pool.chunks(n.max(1)).map(data).collect();
     records.push(original::Record::EndOfFile);
     original::create_object_file_representation(&records).expect("a good object")
+}
+
+/// The line of an S-record, or nothing where there is none.
+fn srecord(kind: SType, address: u32, value: &[u8]) -> String {
+    let value = value.to_vec();
+    let record = SRecord {
+        kind,
+        address,
+        value,
+    };
+    record.to_record_string().unwrap_or_default()
+}
+
+/// A text of S-records of these payloads, n bytes each, with an end record.
+fn srecords(n: usize, pool: &[u8]) -> String {
+    let mut text = String::new();
+    for (i, value) in pool.chunks(n.max(1)).enumerate() {
+        text += &srecord(SType::S1, u32::from((i * n) as u16), value);
+        text += "\n";
+    }
+    text + &srecord(SType::S9, 0, &[]) + "\n"
 }
 
 /// The records of a page of these bytes from address 0 on, in which each multiple of `every` is marked.
@@ -198,6 +228,17 @@ fn face_load(given: &mut Given) -> u64 {
     loaded.map_or(0, |loaded| loaded.data_records as u64)
 }
 
+fn face_srecord(given: &mut Given) -> u64 {
+    let first = |read: SRecord| read.value.first().map_or(0, |&byte| byte.into());
+    let read = |_| SRecord::from_record_string(&given.srecord).map_or(0, first);
+    (0..given.records).map(read).sum()
+}
+
+fn face_srecords(given: &mut Given) -> u64 {
+    let loaded = ihex::srec::load_srecords(&given.srecords, 0, &mut given.page, &mut given.marks);
+    loaded.map_or(0, |loaded| loaded.data_records as u64)
+}
+
 /// What a program does that has the crate's writer alone, once it has made the records.
 fn crate_page(given: &mut Given) -> u64 {
     let written = original::create_object_file_representation(&given.of_page);
@@ -221,6 +262,25 @@ mod by_port {
             sum += if code == 0 { u64::from(pool[0]) } else { 0 };
         }
         sum
+    }
+
+    pub fn srecord(given: &mut Given) -> u64 {
+        let mut pool = [0; 255];
+        let (mut a, mut b, mut c, mut sum) = (0, 0, 0, 0);
+        for _ in 0..given.records {
+            let line = given.srecord.as_bytes();
+            let code = ihex_sys::read_srecord(line, &mut pool, 0, &mut a, &mut b, &mut c);
+            sum += if code == 1 { u64::from(pool[0]) } else { 0 };
+        }
+        sum
+    }
+
+    pub fn srecords(given: &mut Given) -> u64 {
+        let (mut line, mut a, mut b) = (0, 0, 0);
+        let (page, marks) = (&mut given.page, &mut given.marks);
+        let text = given.srecords.as_bytes();
+        ihex_sys::load_srecords(text, 0, page, marks, &mut line, &mut a, &mut b);
+        a
     }
 
     pub fn text(given: &mut Given) -> u64 {
@@ -375,6 +435,21 @@ mod by_floor {
         sum
     }
 
+    pub fn srecord(given: &mut Given) -> u64 {
+        let mut pool = [0; 255];
+        let mut sum = 0;
+        for _ in 0..given.records {
+            let n = floor::read_srecord(given.srecord.as_bytes(), &mut pool);
+            sum += if n < 0 { 0 } else { u64::from(pool[0]) };
+        }
+        sum
+    }
+
+    pub fn srecords(given: &mut Given) -> u64 {
+        let text = given.srecords.as_bytes();
+        floor::load_srecords(text, &mut given.page, &mut given.marks) as u64
+    }
+
     pub fn text(given: &mut Given) -> u64 {
         let mut sum = 0;
         let records = floor::read_text(given.text.as_bytes(), &mut [0; 255], &mut sum);
@@ -416,6 +491,8 @@ fn work(who: &str, what: &str) -> Option<Work> {
         ("face", "object") => by_face::object,
         ("face", "load") => face_load,
         ("face", "page") => face_page,
+        ("face", "srecord") => face_srecord,
+        ("face", "srecords") => face_srecords,
         ("port", "record") => by_port::record,
         ("port", "text") => by_port::text,
         ("port", "chunks") => by_port::chunks,
@@ -426,12 +503,16 @@ fn work(who: &str, what: &str) -> Option<Work> {
         ("port", "linear") => by_port::linear,
         ("port", "across") => by_port::across,
         ("port", "page") => by_port::page,
+        ("port", "srecord") => by_port::srecord,
+        ("port", "srecords") => by_port::srecords,
         ("floor", "record") => by_floor::record,
         ("floor", "text") => by_floor::text,
         ("floor", "line") => by_floor::line,
         ("floor", "object") => by_floor::object,
         ("floor", "load") => by_floor::load,
         ("floor", "page") => by_floor::page,
+        ("floor", "srecord") => by_floor::srecord,
+        ("floor", "srecords") => by_floor::srecords,
         _ => return None,
     })
 }
@@ -440,7 +521,8 @@ const USAGE: &str = "\
 usage: bench crate|port|face|floor record|text|line|object|load BYTES RECORDS REPETITIONS
        bench port chunks BYTES RECORDS REPETITIONS CHUNK
        bench port segment|linear|across BYTES RECORDS REPETITIONS
-       bench crate|port|face|floor page BYTES RECORDS REPETITIONS EVERY";
+       bench crate|port|face|floor page BYTES RECORDS REPETITIONS EVERY
+       bench port|face|floor srecord|srecords BYTES RECORDS REPETITIONS";
 
 fn main() {
     let words: Vec<String> = env::args().skip(1).collect();
