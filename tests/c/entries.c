@@ -24,22 +24,6 @@ static void checksums(void)
 
 /* ---- one line */
 
-static uint32_t read_bytes(const char *l, size_t n, size_t pool_len, size_t at)
-{
-    const uint8_t *bytes = given(&text_, l, n);
-    uint8_t *pool = lend(&pool_, pool_len);
-    uint32_t r;
-    fresh();
-    r = ihex_read_record(bytes, n, pool, pool_len, at, &a.value, &b.value, &c.value);
-    CHECK(same(&text_, l));
-    return r;
-}
-
-static uint32_t read_line(const char *l, size_t pool_len, size_t at)
-{
-    return read_bytes(l, strlen(l), pool_len, at);
-}
-
 /* lines that leave the pool as it was: refused ones, and records without data */
 static const struct {
     const char *line;
@@ -1057,16 +1041,6 @@ static uint32_t write_record(uint8_t type, uint32_t number, uint16_t second, siz
 }
 
 /* the output begins with the text, and the value is its length */
-static int wrote(const char *text)
-{
-    return a.value == strlen(text) && holds(&out_, 0, text, strlen(text));
-}
-
-static int wrote_nothing(uint64_t value)
-{
-    return a.value == value && untouched(&out_);
-}
-
 static void written_records(void)
 {
     CHECK(write_record(IHEX_DATA, 0x0120, 0, 16, 4, 32, 600) == IHEX_OK);
@@ -2013,6 +1987,7 @@ static void packed_marks(void)
 
 int main(void)
 {
+    reader = ihex_read_record;
     loader = ihex_load;
     checksums();
     lines_without_data();

@@ -63,22 +63,6 @@ static const uint8_t *some_bytes(unsigned from)
 
 /* ---- one line */
 
-static uint32_t read_bytes(const char *l, size_t n, size_t pool_len, size_t at)
-{
-    const uint8_t *bytes = given(&text_, l, n);
-    uint8_t *pool = lend(&pool_, pool_len);
-    uint32_t r;
-    fresh();
-    r = ihex_read_srecord(bytes, n, pool, pool_len, at, &a.value, &b.value, &c.value);
-    CHECK(same(&text_, l));
-    return r;
-}
-
-static uint32_t read_line(const char *l, size_t pool_len, size_t at)
-{
-    return read_bytes(l, strlen(l), pool_len, at);
-}
-
 #define R(number) (IHEX_REFUSED + (number))
 
 /* lines that leave the pool as it was: refused ones, and records that have no data */
@@ -281,16 +265,6 @@ static uint32_t write_record(uint8_t type, uint32_t address, size_t at, size_t n
     r = ihex_to_srecord_string(type, address, at, n, pool, pool_len, out, out_len, &a.value);
     CHECK(same(&pool_, some_bytes(9)) && fenced() && b.value == EDGES);
     return r;
-}
-
-static int wrote(const char *text)
-{
-    return a.value == strlen(text) && holds(&out_, 0, text, strlen(text));
-}
-
-static int wrote_nothing(uint64_t value)
-{
-    return a.value == value && untouched(&out_);
 }
 
 static void written_records(void)
@@ -630,6 +604,7 @@ static void damaged_dumps(void)
 
 int main(void)
 {
+    reader = ihex_read_srecord;
     loader = ihex_load_srecords;
     lines_without_data();
     lines_with_data();

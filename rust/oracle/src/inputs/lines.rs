@@ -150,22 +150,28 @@ pub fn random(chance: &mut Chance) -> Vec<u8> {
     if chance.once_in(16) {
         return late(chance);
     }
+    let mut line = characters(515, &TELLING, chance);
+    if !chance.once_in(8) {
+        line.insert(0, b':');
+    }
+    line
+}
+
+/// Characters by chance: at times so many, or up to ten more; mostly few. They are any bytes, telling ones, or
+/// digits.
+pub fn characters(many: usize, telling: &[u8], chance: &mut Chance) -> Vec<u8> {
     let n = match chance.under(10) {
-        0 => chance.from_to(515, 525),
+        0 => chance.from_to(many, many + 10),
         1 => chance.under(600),
         _ => chance.under(24),
     };
     let style = chance.under(4);
     let one = |chance: &mut Chance| match style {
         0 => chance.byte(),
-        1 => chance.one_of(&TELLING),
+        1 => chance.one_of(telling),
         _ => chance.one_of(b"0123456789ABCDEFabcdef"),
     };
-    let mut line: Vec<u8> = (0..n).map(|_| one(chance)).collect();
-    if !chance.once_in(8) {
-        line.insert(0, b':');
-    }
-    line
+    (0..n).map(|_| one(chance)).collect()
 }
 
 /// One damage to a line: a character changed, lost, doubled, swapped or put in.

@@ -29,6 +29,17 @@ impl LoadCase {
             last,
         }
     }
+
+    /// A load into these buffers.
+    pub fn of(text: &[u8], first: u32, page: &[u8], marks: &[u8]) -> Self {
+        LoadCase {
+            text: text.to_vec(),
+            first,
+            page: page.len(),
+            marks: marks.len(),
+            last: marks.last().copied().unwrap_or(0),
+        }
+    }
 }
 
 impl Case for LoadCase {

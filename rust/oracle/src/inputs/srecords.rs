@@ -1,7 +1,7 @@
 //! S-records: lines, records to be written, and texts to be loaded.
 
 use crate::inputs::chance::Chance;
-use crate::inputs::lines::{self, damage, every, LineCase};
+use crate::inputs::lines::{self, characters, damage, every, LineCase};
 use crate::inputs::loads::{into, line_end, window, LoadCase, Window};
 use crate::inputs::marks::packed_length;
 use crate::inputs::shrink::{shorter, smaller_number, with_each, Case};
@@ -103,18 +103,7 @@ fn summed(chance: &mut Chance) -> Vec<u8> {
 
 /// A line of characters by chance.
 fn random(chance: &mut Chance) -> Vec<u8> {
-    let n = match chance.under(10) {
-        0 => chance.from_to(508, 518),
-        1 => chance.under(600),
-        _ => chance.under(24),
-    };
-    let style = chance.under(4);
-    let one = |chance: &mut Chance| match style {
-        0 => chance.byte(),
-        1 => chance.one_of(&TELLING),
-        _ => chance.one_of(b"0123456789ABCDEFabcdef"),
-    };
-    let mut line: Vec<u8> = (0..n).map(|_| one(chance)).collect();
+    let mut line = characters(508, &TELLING, chance);
     if !chance.once_in(8) {
         line.splice(0..0, [b'S', chance.one_of(b"01235789")]);
     }

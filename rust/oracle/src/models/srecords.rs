@@ -40,10 +40,10 @@ pub const RIGHT: Rules = Rules {
     checksum: |sum| !sum,
     count: |bytes| bytes + 1,
     placing: |address, i| (address + i) & 0xFFFF_FFFF,
-    placed: |kind| matches!(kind, 1 | 2 | 3),
-    counted: |kind, _| matches!(kind, 1 | 2 | 3),
+    placed: |kind| matches!(kind, 1..=3),
+    counted: |kind, _| matches!(kind, 1..=3),
     agrees: |stated, seen| stated == seen,
-    ends: |kind, _| matches!(kind, 7 | 8 | 9),
+    ends: |kind, _| matches!(kind, 7..=9),
 };
 
 /// What a line says.

@@ -44,13 +44,7 @@ impl Port for Ruled {
         line: &mut usize,
         (a, b): (&mut u64, &mut u64),
     ) -> u32 {
-        let case = LoadCase {
-            text: text.to_vec(),
-            first,
-            page: page.len(),
-            marks: marks.len(),
-            last: 0,
-        };
+        let case = LoadCase::of(text, first, page, marks);
         let (code, x, y, n) = placed_by(self.0, &case, page, marks);
         (*a, *b, *line) = (x, y, n);
         code

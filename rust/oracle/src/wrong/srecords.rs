@@ -55,13 +55,7 @@ impl Port for Ruled {
         line: &mut usize,
         (a, b): (&mut u64, &mut u64),
     ) -> u32 {
-        let case = LoadCase {
-            text: text.to_vec(),
-            first,
-            page: page.len(),
-            marks: marks.len(),
-            last: 0,
-        };
+        let case = LoadCase::of(text, first, page, marks);
         let (code, x, y, n) = placed_by(self.0, &case, page, marks);
         (*a, *b, *line) = (x, y, n);
         code
@@ -425,9 +419,11 @@ fn counts() -> Vec<Wrong> {
     let load = |name, change| -> Wrong { (name, Box::new(Load(change))) };
     vec![
         counting("counts an S0", |kind, _| kind < 4),
-        counting("counts an S5", |kind, _| matches!(kind, 1 | 2 | 3 | 5)),
+        counting("counts an S5", |kind, n| {
+            kind == 5 || (RIGHT.counted)(kind, n)
+        }),
         counting("does not count a data record without data", |kind, n| {
-            matches!(kind, 1 | 2 | 3) && n > 0
+            (RIGHT.counted)(kind, n) && n > 0
         }),
         ruled(
             "compares a count modulo 65,536",
