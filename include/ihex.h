@@ -271,10 +271,10 @@ uint32_t ihex_write_page(uint32_t first,
  * minus the low byte of the sum of count, address and data.
  *
  *   type        address bytes   data bytes
- *   S0          2               up to 252     a header
- *   S1, S2, S3  2, 3, 4         up to 252, 251, 250
- *   S5          2               none          the address is the count of data records (S1 to S3) before it
- *   S7, S8, S9  4, 3, 2         none          the end of the text; the address is where a program starts
+ *   S0          2               up to 252; a header
+ *   S1, S2, S3  2, 3, 4         up to 252, 251, 250; the address is that of the first byte
+ *   S5          2               none; the address is the count of data records (S1 to S3) before it
+ *   S7, S8, S9  4, 3, 2         none; the end of the text; the address is where a program starts
  */
 
 /* Reads one line of S-records, without its line end: returns the type's digit, IHEX_S0 to IHEX_S9, with the address in a and the position and

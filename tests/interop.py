@@ -273,9 +273,12 @@ def types_for(case):
 
 
 def srecords(case, kind, size):
-    """A page as S-records of one type, written line by line by ihex_to_srecord_string."""
+    """A page as S-records of one type, written line by line by ihex_to_srecord_string; what it refuses to write is a text that no tool reads."""
     words = ['write-srecords', '%X' % case.first, str(len(case.page)), str(kind), str(size)]
-    return run(PAGEFILE + words, case.page + packed(case.marks)).decode()
+    try:
+        return run(PAGEFILE + words, case.page + packed(case.marks)).decode()
+    except Refused as why:
+        return str(why)
 
 
 def written_whole(tool, case, file, options):

@@ -80,6 +80,9 @@ static const struct {
     {"SG", R(IHEX_CONTAINS_INVALID_CHARACTERS), 1, 0},
     {"SS", R(IHEX_CONTAINS_INVALID_CHARACTERS), 1, 0},
     {"S4G", R(IHEX_CONTAINS_INVALID_CHARACTERS), 2, 0},
+    {"S1G", R(IHEX_CONTAINS_INVALID_CHARACTERS), 2, 0},
+    {"S1030000G", R(IHEX_CONTAINS_INVALID_CHARACTERS), 8, 0},
+    {"S9030000FG", R(IHEX_CONTAINS_INVALID_CHARACTERS), 9, 0},
     {"S1 030000FC", R(IHEX_CONTAINS_INVALID_CHARACTERS), 2, 0},
     {"S9030000FC ", R(IHEX_CONTAINS_INVALID_CHARACTERS), 10, 0},
     {"S9030000FC\r", R(IHEX_CONTAINS_INVALID_CHARACTERS), 10, 0},
@@ -495,6 +498,30 @@ static void windows(void)
     CHECK(load("S9030000FC", 0xFFFF0001, IHEX_MAX_PAGE) == R(IHEX_BAD_WINDOW) && not_loaded(0, 0, 0));
 }
 
+/* what pool, page and marks held before changes no answer, no byte that is written and no mark; every other byte stays */
+static void old_contents(void)
+{
+    static const char text[] = "S004000148B2\nS105FFFFAABB97\nS5030001FB\nS9030000FC\n";
+    uint8_t pool[4], page[4], marks[1];
+    int old;
+    for (old = 0; old < 256; old++) {
+        begin_case();
+        memset(pool, old, sizeof pool);
+        memset(page, old, sizeof page);
+        marks[0] = (uint8_t)old;
+        CHECK(ihex_read_srecord((const uint8_t *)"S105FFFFAABB97", 14, pool, 4, 1, &a.value, &b.value, &c.value) == IHEX_S1);
+        CHECK(a.value == 0xFFFF && b.value == 1 && c.value == 2);
+        CHECK(pool[0] == old && pool[1] == 0xAA && pool[2] == 0xBB && pool[3] == old);
+        CHECK(ihex_load_srecords((const uint8_t *)text, sizeof text - 1, 0xFFFE, page, 4, marks, 1, &line.value, &a.value, &b.value) == IHEX_OK);
+        CHECK(a.value == 1 && b.value == 0 && line.value == 0 && marks[0] == 6);
+        CHECK(page[0] == old && page[1] == 0xAA && page[2] == 0xBB && page[3] == old);
+        marks[0] = (uint8_t)old;
+        CHECK(ihex_load_srecords((const uint8_t *)text, 28, 0xFFFE, page, 4, marks, 1, &line.value, &a.value, &b.value) == R(IHEX_MISSING_END_OF_FILE_RECORD));
+        CHECK(page[0] == old && page[1] == 0xAA && marks[0] == old);
+        end_case();
+    }
+}
+
 /* ---- dumps of both kinds, by chance */
 
 #define PLACES 300
@@ -624,6 +651,7 @@ int main(void)
     refused_loads();
     longest_loads();
     windows();
+    old_contents();
     dumps_of_both_kinds();
     damaged_dumps();
     printf("%d passed, %d failed\n", passed, failed);
