@@ -101,7 +101,7 @@ impl fmt::Display for LoadError {
             LoadError::CountMismatch { line, stated, seen } => {
                 write!(
                     f,
-                    "line {line}: count record states {stated} data records, but there are {seen} before it"
+                    "line {line}: count record states {stated} data records, found {seen} before it"
                 )
             }
         }

@@ -228,7 +228,7 @@ fn refusals_say_where_and_why() {
         ),
         (
             "S1030000FC\nS5030003F9",
-            "line 2: count record states 3 data records, but there are 1 before it",
+            "line 2: count record states 3 data records, found 1 before it",
         ),
         ("", "text has no end of file record"),
     ];
