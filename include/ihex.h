@@ -35,7 +35,7 @@ extern "C" {
 #define IHEX_S1 1 /* data: 2 address bytes */
 #define IHEX_S2 2 /* data: 3 address bytes */
 #define IHEX_S3 3 /* data: 4 address bytes */
-#define IHEX_S5 5 /* a: how many data records the text has before it, in 2 bytes; b and c are 0 */
+#define IHEX_S5 5 /* a: how many data records it states to be before it, in 2 bytes; b and c are 0 */
 #define IHEX_S7 7 /* the end: 4 address bytes; b and c are 0 */
 #define IHEX_S8 8 /* the end: 3 address bytes; b and c are 0 */
 #define IHEX_S9 9 /* the end: 2 address bytes; b and c are 0 */
@@ -77,7 +77,7 @@ extern "C" {
 #define IHEX_FINISHED 4               /* only "done" */
 #define IHEX_CR_WAITS 8               /* chunks: a CR comes after the carry's used bytes, and the next byte says whose it is */
 
-/* A payload has at most so many bytes, and a line at most so many characters, without its line end. */
+/* Of Intel HEX a payload has at most so many bytes, and a line at most so many characters, without its line end. */
 #define IHEX_MAX_PAYLOAD 255
 #define IHEX_MAX_LINE 521
 
@@ -85,7 +85,7 @@ extern "C" {
 #define IHEX_MAX_SRECORD_DATA 252
 #define IHEX_MAX_SRECORD_LINE 514
 
-/* The greatest place in a line that is named; it stands for any place beyond it too. The place of the colon, or of the S, is 0. */
+/* The greatest position that refusal 2 names; it means this position or a later one. The position of the colon, or of the S, is 0. */
 #define IHEX_MAX_PLACE 65535
 
 /* A carry has at least so many bytes. */
@@ -221,8 +221,11 @@ uint32_t ihex_create_object_file_representation(const void *list, size_t list_le
                                                 uint8_t *out, size_t out_len,
                                                 uint64_t *value);
 
-/* Loads a text, both stops on, into a page from the address `first` on. Returns 0 and counts data records in a; or IHEX_REFUSED and 16, the
- * first line's 1 to 9 or 17, with its number in line (else 0), or 13; the refusal's values are in a and b.
+/* Loads a text, both stops on, into a page from the address `first` on. Returns 0 and counts data records in a; or IHEX_REFUSED and 16; or the
+ * refusal of the first line that is refused, 1 to 9 or 17, with that line's number in line (else 0); or 13, if no line is refused and none is the
+ * end record. The refusal's values are in a and b.
+ * A line ends at an LF, and one CR directly before the LF is not part of it. A last line without LF counts. Empty lines are skipped, but
+ * counted: line numbers start at 1.
  * marks_len is IHEX_MARKS(page_len); what the marks held before does not matter. After an accepted load a place is marked exactly if the
  * text states a byte there. A place that is not marked keeps its byte. The unused bits of the marks are 0. A refused load changes no byte
  * of page or marks, and no unused bit.
@@ -318,17 +321,19 @@ uint32_t ihex_to_srecord_string(uint8_t type, uint32_t address, size_t at, size_
                                 uint64_t *value);
 
 /* Loads a text of S-records into a page from the address `first` on, as ihex_load does a text of Intel HEX: line ends, empty lines and line
- * numbers, page, marks and their lengths are as there. Returns 0 and counts data records (S1 to S3) in a; or IHEX_REFUSED and 16; or
- * the first line's 1 to 9, 17 or 20, with its number in line (else 0); or 13, if no line is an end. The refusal's values are in a and b.
+ * numbers, page, marks and their lengths are as there. Returns 0 and counts data records (S1 to S3) in a; or IHEX_REFUSED and 16; or the
+ * refusal of the first line that is refused, 1 to 9, 17 or 20, with that line's number in line (else 0); or 13, if no line is refused and none
+ * is an end. The refusal's values are in a and b.
  * Byte i of a data record lies at (address + i) modulo 2^32. There are no segments: S105FFFFAABB97 puts AA at FFFF and BB at 10000.
  * An S0 places nothing and is not counted. An S5 may stand anywhere, and more than once. It is compared with all data records before it, those
  * without data too, and not modulo 65,536: after 65,536 data records S5030000FC is refusal 20 with a = 0 and b = 65,536.
- * The first S7, S8 or S9 ends the text, whatever types the data has. What follows it changes nothing: no answer, page or mark.
+ * The first S7, S8 or S9 ends the text, whatever types the data has. What follows its line changes nothing: no answer, page or mark.
  * A refused load changes no byte of page or marks. What they held before changes no answer.
  * If ihex_load and ihex_load_srecords accept two texts that state the same bytes at the same addresses in the same order, they leave the same
  * page and marks, in one window and over the same old page.
- * Noise: what ihex_load promises about damaged texts holds for Intel HEX alone. ihex_read_srecord says why. Only an S5 can show that a data
- * record was lost, doubled or read as something else. */
+ * What ihex_load says of joined texts is for Intel HEX alone.
+ * Noise: what ihex_load promises about damaged texts holds for Intel HEX alone. ihex_read_srecord says why. A data record whose line is lost or
+ * doubled whole shows only in an S5 after it. One that is read as another type may be refused, may show in an S5, or may go unnoticed. */
 uint32_t ihex_load_srecords(const uint8_t *text, size_t text_len, uint32_t first,
                             uint8_t *page, size_t page_len,
                             uint8_t *marks, size_t marks_len,

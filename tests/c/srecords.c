@@ -181,7 +181,8 @@ static void longest_lines(void)
     CHECK(strlen(spell(1, 0, some_bytes(0), 252)) == IHEX_MAX_SRECORD_LINE);
 }
 
-/* a record of each type with each number of bytes, up to two more than it can have: a pool that they fill, and one that is a byte short */
+/* a record of each type with each number of bytes: a pool that they fill, and one that is a byte short. With more bytes than the type can
+ * have, the line is too long, and nothing else of it is looked at: its count has three digits */
 static void each_length(uint8_t type, size_t n)
 {
     size_t most = 254 - width_of(type);
@@ -254,6 +255,12 @@ static void wrong_types(void)
     CHECK(read_line("S0050000AABB95", 4, 0) == IHEX_S0 && values(0, 0, 2) && holds(&pool_, 0, "\xAA\xBB", 2));
     CHECK(read_line("S3050000AABB95", 4, 0) == IHEX_S3 && values(0xAABB, 0, 0) && untouched(&pool_));
     CHECK(read_line("S7050000AABB95", 4, 0) == IHEX_S7 && values(0xAABB, 0, 0) && untouched(&pool_));
+    CHECK(read_line("S5050000AABB95", 4, 0) == R(IHEX_INVALID_LENGTH_FOR_TYPE) && untouched(&pool_));
+    CHECK(read_line("S6050000AABB95", 4, 0) == R(IHEX_UNSUPPORTED_RECORD_TYPE) && values(6, 0, 0) && untouched(&pool_));
+    CHECK(read_line("S00600004844521B", 4, 0) == IHEX_S0 && values(0, 0, 3) && holds(&pool_, 0, "HDR", 3));
+    CHECK(read_line("S10600004844521B", 4, 0) == IHEX_S1 && values(0, 0, 3) && holds(&pool_, 0, "HDR", 3));
+    CHECK(read_line("S5030001FB", 4, 0) == IHEX_S5 && values(1, 0, 0) && untouched(&pool_));
+    CHECK(read_line("S9030001FB", 4, 0) == IHEX_S9 && values(1, 0, 0) && untouched(&pool_));
 }
 
 /* ---- writing */
@@ -608,23 +615,28 @@ static void dumps_of_both_kinds(void)
     }
 }
 
-/* a dump without its end, or with one wrong digit that is not a type's: refused, and no byte changes */
+/* a dump with one wrong digit that is not a type's, and the dump without its end: refused, and no byte changes */
 static void damaged_dumps(void)
 {
     int i;
     for (i = 0; i < 2000; i++) {
         size_t n, at;
+        char was;
         draw_dump();
         n = strlen(dump.srec);
         do
             at = draw((uint32_t)n);
         while (dump.srec[at] == '\n' || dump.srec[at] == 'S' || (at > 0 && dump.srec[at - 1] == 'S'));
-        dump.srec[at] = dump.srec[at] == '7' ? '8' : '7';
+        was = dump.srec[at];
+        dump.srec[at] = was == '7' ? '8' : '7';
         begin_case();
         CHECK(load(dump.srec, dump.first, PLACES) == R(IHEX_CHECKSUM_MISMATCH));
         CHECK(untouched(&page_) && untouched(&marks_) && a.value != b.value && line.value > 0);
-        dump.srec[n - 11] = 0;
-        CHECK(load(dump.srec, dump.first, PLACES) != IHEX_OK && untouched(&page_) && untouched(&marks_));
+        dump.srec[at] = was;
+        for (n--; n > 0 && dump.srec[n - 1] != '\n'; n--)
+            continue;
+        dump.srec[n] = 0;
+        CHECK(load(dump.srec, dump.first, PLACES) == R(IHEX_MISSING_END_OF_FILE_RECORD) && not_loaded(0, 0, 0));
         end_case();
     }
 }

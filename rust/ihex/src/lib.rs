@@ -5,7 +5,7 @@
 //! a place, and the pattern `ContainsInvalidCharacters { .. }` builds with the
 //! crate and with this.
 //!
-//! Beside them stand, and the crate has none of it: reading bytes that are no UTF-8 ([`ByteReader`],
+//! It adds what the crate lacks: input that is not UTF-8 ([`ByteReader`],
 //! [`Record::from_record_bytes`]), line numbers and columns ([`Reader::numbered`],
 //! [`ReaderError::column`]), a text that comes in chunks ([`ChunkReader`]), the loading of a text
 //! into a page with marks ([`load`], [`Marks`]), the writing of such a page ([`write_page`]), and

@@ -37,7 +37,7 @@ pub enum SType {
     S2,
     /// Data at an address of 4 bytes.
     S3,
-    /// How many data records the text has before it, in place of an address of 2 bytes.
+    /// How many data records it states to be before it, in place of an address of 2 bytes.
     S5,
     /// The end of the text, with a start address of 4 bytes.
     S7,
@@ -103,7 +103,7 @@ pub struct SRecord {
 }
 
 /// Why a line gives no S-record. The refusals are those of a line of Intel HEX, with the same numbers; the
-/// texts name S-records. They are judged in the order 1, 2, 3 (no type), 8, 3, 4, 5, 6, 7, 9.
+/// texts of 1 and 8 name S-records. They are judged in the order 1, 2, 3 (no type), 8, 3, 4, 5, 6, 7, 9.
 ///
 /// | Refusal | Of an S-record |
 /// |---|---|
