@@ -9,7 +9,7 @@ use Rattle.reader.specs.declared.State.{State}
 use Rattle.reader.specs.Told.{told}
 use Rattle.reader.specs.Text.{told-reply}
 use Rattle.srec.specs.declared.SAnswer.{SAnswer}
-use Rattle.srec.specs.Answer.{told as told-sanswer}
+use Rattle.srec.specs.Answer.{told-sanswer}
 use Rattle.entries.specs.declared.Attempt.{Attempt}
 use Rattle.entries.specs.declared.SAttempt.{SAttempt}
 use Rattle.entries.specs.Attempts.{told-attempt, told-sattempt}

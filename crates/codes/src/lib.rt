@@ -28,7 +28,7 @@ ghost use Prim.Native.Nat.{_+_};
 ghost use Rattle.reader.specs.Told.{told, refusal-of};
 ghost use Rattle.reader.specs.Text.{told-reply};
 ghost use Rattle.writer.specs.Told.{told-written, writer-refusal};
-ghost use Rattle.srec.specs.Answer.{told as told-sanswer};
+ghost use Rattle.srec.specs.Answer.{told-sanswer};
 ghost use Rattle.srec.specs.Writer.{told-swritten, swriter-refusal};
 ghost use Rattle.entries.specs.Attempts.{told-attempt, told-sattempt};
 ghost use Rattle.chunks.specs.Next.{word-of};

@@ -32,7 +32,7 @@ use Rattle.srec.specs.Line.{judge}
 use Rattle.srec.specs.Faults.{First-offender}
 use Rattle.srec.specs.Written.{Writable}
 use Rattle.srec.specs.Record.{digit-of, numbers-of, data-of}
-use Rattle.srec.specs.Answer.{told, Reads, ReadSRecord, answered, poured}
+use Rattle.srec.specs.Answer.{told-sanswer, Reads, ReadSRecord, answered, poured}
 use Rattle.srec.specs.Writer.{swriter-refusal, refusal-for, line, line-text, ToSRecordString}
 use Rattle.srec.specs.Claims.{Bounds, Heard, Answers-the-offender, Never-full, Reads-at-start, Refusal-changes-nothing, Rest-untouched, Writes-line, One-line, Line-injective, Line-plain, Round-trip, Reads-what-was-written}
 use Rattle.srec.proofs.Naming.{width-few}
@@ -87,11 +87,11 @@ never-full line n at r = go (judge line) refl
     go (wrong w) e = ne-eqb (number-of w) 10 (λ q. omega (arith, fault-few (subst (Stands line) e (stands line))))
 
 -- an answer, from what it tells
-told-gives : (r : SAnswer) (kind : ℕ) (numbers : List ℕ) → told r ≡ gives kind numbers → (x : SRecord) × (r ≡ Read x) × (digit-of (x .kind) ≡ kind) × (numbers-of x ≡ numbers)
+told-gives : (r : SAnswer) (kind : ℕ) (numbers : List ℕ) → told-sanswer r ≡ gives kind numbers → (x : SRecord) × (r ≡ Read x) × (digit-of (x .kind) ≡ kind) × (numbers-of x ≡ numbers)
 told-gives (Read x) kind numbers e = (x, refl, cc, cc)
 told-gives (Refused f) kind numbers e = let z : _≡_ {A = ℕ} 0 1 = cc in absurd (omega arith)
 
-told-refuses : (r : SAnswer) (f : Refusal) → told r ≡ refuses f → (e : ReaderError) × (r ≡ Refused e) × (refusal-of e ≡ f)
+told-refuses : (r : SAnswer) (f : Refusal) → told-sanswer r ≡ refuses f → (e : ReaderError) × (r ≡ Refused e) × (refusal-of e ≡ f)
 told-refuses (Read x) f e = let z : _≡_ {A = ℕ} 0 1 = cc in absurd (omega arith)
 told-refuses (Refused w) f e = (w, refl, cc)
 

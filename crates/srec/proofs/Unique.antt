@@ -26,7 +26,7 @@ use Rattle.srec.specs.declared.SWriterError.the-variants.{PayloadOutside
 use Rattle.srec.specs.declared.SWritten.{SWritten}
 use Rattle.srec.specs.declared.SWritten.the-variants as writings
 use Rattle.srec.specs.Record.{digit-of, told-type}
-use Rattle.srec.specs.Answer.{told}
+use Rattle.srec.specs.Answer.{told-sanswer}
 use Rattle.srec.specs.Writer.{swriter-refusal, told-swritten}
 use Rattle.srec.specs.Claims.{Type-of-unique, Digit-unique, Told-apart, Read-srecord-unique, Written-apart, To-srecord-string-unique}
 
@@ -86,7 +86,7 @@ untold (gives kind ns) = Read (record { kind = type-at kind; address = getD ns 0
 untold (refuses r) = Refused (error-of (old-claims.untold (refuses r)))
 untold done = Refused (error-of (old-claims.untold done))
 
-untold-told : (r : SAnswer) → untold (told r) ≡ r
+untold-told : (r : SAnswer) → untold (told-sanswer r) ≡ r
 unfolding untold error-of
 untold-told (Read r) = ap (λ (t : SType). Read (record { kind = t; address = r .address; at = r .at; len = r .len })) (type-again (r .kind))
 untold-told (Refused e) = ap (λ (a : Answer). Refused (error-of a)) (old-claims.untold-told (old.Refused e))

@@ -16,9 +16,9 @@ use Rattle.srec.specs.Line.{judge}
 use Rattle.srec.specs.Record.{digit-of, numbers-of}
 
 -- what an answer tells: the type's digit, then address, position and length; or a refusal
-abbrev pub told : SAnswer → Told
-told (Read r) = gives (digit-of (r .kind)) (numbers-of r)
-told (Refused e) = refuses (refusal-of e)
+abbrev pub told-sanswer : SAnswer → Told
+told-sanswer (Read r) = gives (digit-of (r .kind)) (numbers-of r)
+told-sanswer (Refused e) = refuses (refusal-of e)
 
 -- what is returned for a record that goes into a pool of n bytes at a position: S5 and the ends have no data, and name no place of the pool
 unfoldable pub answered : Said → (n at : ℕ) → Told
@@ -38,7 +38,7 @@ poured (wrong r) pool at = pool
 
 -- what a reader of one thing said answers, and leaves in the pool
 pub record Reads (said : Said) (pool : List ℕ) (at : ℕ) (r : SAnswer) (pool′ : List ℕ) : Type 0 where
-  pub answer : told r ≡ answered said (length pool) at
+  pub answer : told-sanswer r ≡ answered said (length pool) at
   pub left : pool′ ≡ poured said pool at
 
 -- the contract of `read_srecord`

@@ -30,7 +30,7 @@ use Rattle.srec.specs.Format.{Complements, Format}
 use Rattle.srec.specs.Faults.{First-offender, Fault}
 use Rattle.srec.specs.Written.{written, In-capitals, Writable}
 use Rattle.srec.specs.Record.{digit-of, DigitOf, TypeOf, data-of}
-use Rattle.srec.specs.Answer.{told, answered, ReadSRecord}
+use Rattle.srec.specs.Answer.{told-sanswer, answered, ReadSRecord}
 use Rattle.srec.specs.Writer.{told-swritten, line, line-text, ToSRecordString}
 
 -- the judge accepts exactly what the format admits, with the same type, address and data
@@ -110,7 +110,7 @@ Digit-unique = (t : SType) (r r′ : ℕ) → DigitOf t r → DigitOf t r′ →
 
 -- no two answers have the same number and values
 abbrev pub Told-apart : Type 0
-Told-apart = (a b : SAnswer) → told a ≡ told b → a ≡ b
+Told-apart = (a b : SAnswer) → told-sanswer a ≡ told-sanswer b → a ≡ b
 
 -- no second answer meets the contract, and no second pool
 abbrev pub Read-srecord-unique : Type 0

@@ -4,7 +4,7 @@
 //!     bench port chunks BYTES RECORDS REPETITIONS CHUNK
 //!     bench port segment|linear|across BYTES RECORDS REPETITIONS
 //!     bench WHO page BYTES RECORDS REPETITIONS EVERY
-//!     bench port|face|floor srecord|srecords BYTES RECORDS REPETITIONS
+//!     bench port|face|floor srecord|srecords BYTES RECORDS REPETITIONS TYPE
 //!
 //! WHO is crate, port, face or floor. WHAT is record or text (reading), line or object (writing), or
 //! load. BYTES are a record's payload, RECORDS how many there are in a text, or calls a repetition.
@@ -56,7 +56,7 @@ pub struct Given {
     marks: Vec<u8>,
 }
 
-/// The inputs; `step` is a chunk's length, or which places of a page are marked.
+/// The inputs; `step` is a chunk's length, which places of a page are marked, or the type of S-records.
 fn given(n: usize, records: usize, step: usize) -> Given {
     let byte = |i: usize| (i.wrapping_add(1).wrapping_mul(2_654_435_761) >> 13) as u8;
     let pool: Vec<u8> = (0..n * records).map(byte).collect();
@@ -82,8 +82,8 @@ fn given(n: usize, records: usize, step: usize) -> Given {
         segment: format!(":020000020000FC\n{text}"),
         linear: format!(":020000040000FA\n{text}"),
         across: across(n, &pool),
-        srecord: srecord(SType::S1, 0, &pool[..n.min(pool.len())]),
-        srecords: srecords(n, &pool),
+        srecord: srecord(data_type(step), 0, &pool[..n.min(pool.len())]),
+        srecords: srecords(data_type(step), n, &pool),
         marked: marked(pool.len(), step),
         of_page: of_page(&pool, step),
         pool,
@@ -138,11 +138,20 @@ fn srecord(kind: SType, address: u32, value: &[u8]) -> String {
     record.to_record_string().unwrap_or_default()
 }
 
-/// A text of S-records of these payloads, n bytes each, with an end record.
-fn srecords(n: usize, pool: &[u8]) -> String {
+/// The type of data with this digit, and S1 for any other number.
+fn data_type(digit: usize) -> SType {
+    match digit {
+        2 => SType::S2,
+        3 => SType::S3,
+        _ => SType::S1,
+    }
+}
+
+/// A text of S-records of this type and these payloads, n bytes each, with an end record.
+fn srecords(kind: SType, n: usize, pool: &[u8]) -> String {
     let mut text = String::new();
     for (i, value) in pool.chunks(n.max(1)).enumerate() {
-        text += &srecord(SType::S1, u32::from((i * n) as u16), value);
+        text += &srecord(kind, u32::from((i * n) as u16), value);
         text += "\n";
     }
     text + &srecord(SType::S9, 0, &[]) + "\n"
@@ -270,7 +279,7 @@ mod by_port {
         for _ in 0..given.records {
             let line = given.srecord.as_bytes();
             let code = ihex_sys::read_srecord(line, &mut pool, 0, &mut a, &mut b, &mut c);
-            sum += if code == 1 { u64::from(pool[0]) } else { 0 };
+            sum += if code < 4 { u64::from(pool[0]) } else { 0 };
         }
         sum
     }
@@ -522,7 +531,7 @@ usage: bench crate|port|face|floor record|text|line|object|load BYTES RECORDS RE
        bench port chunks BYTES RECORDS REPETITIONS CHUNK
        bench port segment|linear|across BYTES RECORDS REPETITIONS
        bench crate|port|face|floor page BYTES RECORDS REPETITIONS EVERY
-       bench port|face|floor srecord|srecords BYTES RECORDS REPETITIONS";
+       bench port|face|floor srecord|srecords BYTES RECORDS REPETITIONS TYPE";
 
 fn main() {
     let words: Vec<String> = env::args().skip(1).collect();
