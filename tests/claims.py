@@ -36,10 +36,15 @@ def stands(file, name):
     return re.search(r'(?<![\w-])' + re.escape(name) + r'(?![\w-])', text) is not None
 
 
+def is_statement(field):
+    """Whether a field of a record says something; one that ends in a type is a relation to be given, and says nothing."""
+    return re.search('[→↔≡≢≤<⊎¬]', field) is not None and re.search(r'→ Type \d+\s*$', field) is None
+
+
 def claims(spec):
     for found in CLAIM.finditer(spec + '\n'):
         fields = re.split(r'(?m)^  pub ', found['fields'] or '')[1:]
-        if found['name'] or fields and all(re.search('[→↔≡≢≤<⊎¬]', field) for field in fields):
+        if found['name'] or fields and all(map(is_statement, fields)):
             yield found['name'] or found['record']
 
 
@@ -54,6 +59,7 @@ def proves(proof, crate, stem, claim):
 def finds_what_is_wrong():
     """A claim with its proof; and texts that do not prove it: of another type, of another file's name, stated anew, in a comment."""
     spec = ('abbrev pub Holds : Type 0\nHolds = Unit\n\nabbrev pub Takes : ℕ → Type 0\n\npub record Cell : Type 0 where\n  pub place : ℕ\n\n'
+            'pub record Given : Type 1 where\n  pub holds : (n : ℕ) → Type 0\n\n'
             'pub record Examples : Type 0 where\n  -- one\n  pub one : 1 ≤ 1\n\n  pub all : (n : ℕ)\n      → n ≡ n\n')
     use, lemma = 'use Rattle.a.specs.B.{Other, Holds}\n', 'pub holds : Holds\n'
     wrong = [use + 'pub holds : ℕ → Holds\n', use.replace('.B.', '.C.') + lemma, use + 'abbrev Holds : Type 0\n' + lemma, use + '-- ' + lemma]

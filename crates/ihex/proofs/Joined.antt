@@ -12,7 +12,8 @@ use Rattle.steps.specs.Steps.{Tally, Verdict, accepted, refused}
 use Rattle.steps.specs.Sites.{Loaded}
 use Rattle.steps.proofs.Join.{after-verdict}
 use Rattle.loader.specs.Load.{load}
-use Rattle.loader.specs.Claims.{Why, bad-one, no-end, at-line}
+use Rattle.window.specs.Reasons.{bad-one, no-end, at-line}
+use Rattle.loader.specs.Claims.{Why}
 use Rattle.loader.specs.Joined.{before-end, joined, end-record}
 use Rattle.loader.proofs.Claims.{reasons}
 use Rattle.loader.proofs.Joined.{answer-by-lengths, joined-answer, one-upon-another, what-a-panel-sees, either-grouping, nothing-stated, end-alone}

@@ -2,25 +2,30 @@
 -- Assumes nothing.
 use Prim.Native.Nat.{ℕ}
 use mathlib.Core.Path.{_≡_, sym, _∙_, ap, subst}
+use mathlib.Core.Bool.{Bool}
 use mathlib.Core.List.{List}
 use lib.ListN.{length, getD}
 use Rattle.marks.specs.Marks.{mark-at, flags, Unused-clear}
 use Rattle.steps.specs.Steps.{Verdict}
 use Rattle.steps.specs.Source.{Source}
+use Rattle.steps.specs.Account.{Account}
 use Rattle.window.specs.Load.{load-window}
 use Rattle.window.specs.Loads.{Alike}
+use Rattle.window.specs.Reasons.{Load-reasons, Load-one-reason}
 use Rattle.window.proofs.Loads.{non-interference, same-placements, what-is-stored, refusal-changes-nothing}
 use Rattle.window.proofs.AsBytes.{packed-as-bytes}
 use Rattle.loader.specs.Placing.{intel}
+use Rattle.loader.specs.Claims.{account}
 use Rattle.loader.proofs.Claims.{reasons}
 use Rattle.loader.proofs.OneReason.{one-reason}
 use Rattle.srecload.specs.Placing.{s-records}
+use Rattle.srecload.specs.Claims.{account as s-account}
 use Rattle.srecload.proofs.Claims.{reasons as s-reasons}
 use Rattle.srecload.proofs.OneReason.{one-reason as s-one-reason}
 use Rattle.codes.specs.Codes.{value, loading, line-at}
 use Rattle.codes.proofs.Says.{was-accepted, was-refused}
 use Rattle.ihex.specs.Entries.{IhexLoadBy}
-use Rattle.ihex.specs.Loads.{Load-non-interference, Load-what-is-stored, Load-keeps, Load-packed-as-bytes, In-load-numbers, Reasoned, Ihex-non-interference, Ihex-what-is-stored, Ihex-load-keeps, Ihex-load-reasons, Ihex-packed-as-bytes, Ihex-load-srecords-non-interference, Ihex-load-srecords-what-is-stored, Ihex-load-srecords-keeps, Ihex-load-srecords-reasons, Ihex-load-srecords-packed-as-bytes, Ihex-both-kinds}
+use Rattle.ihex.specs.Loads.{Load-non-interference, Load-what-is-stored, Load-keeps, Load-packed-as-bytes, In-load-numbers, Load-reasoned, Ihex-non-interference, Ihex-what-is-stored, Ihex-load-keeps, Ihex-load-reasons, Ihex-packed-as-bytes, Ihex-load-srecords-non-interference, Ihex-load-srecords-what-is-stored, Ihex-load-srecords-keeps, Ihex-load-srecords-reasons, Ihex-load-srecords-packed-as-bytes, Ihex-both-kinds}
 
 -- ---- of any source
 
@@ -63,16 +68,14 @@ module _ {S : Type 0} (src : Source S) where
       (x .page-is ∙ kept .0, x .marks-is ∙ kept .1)
 
   -- by a reason for the verdict that no other verdict has
-  pub load-reasoned : (Because : Verdict → Type 0) (text : List ℕ) (first : ℕ) (page marks : List ℕ) (r l a b : ℕ) (p m : List ℕ)
-      → IhexLoadBy src text first page marks r l a b p m → Because (load-window src text first page marks .answer) → ((v w : Verdict) → Because v → Because w → v ≡ w)
-      → Reasoned Because r l a b
-  load-reasoned Because text first page marks r l a b p m x why one =
+  pub load-reasoned : (account : (inside : ℕ → Bool) → Account) → Load-reasons src account → Load-one-reason src account → Load-reasoned src account
+  load-reasoned account reasons one text first page marks r l a b p m x =
       let v = load-window src text first page marks .answer in
       record {
         verdict = v;
-        why = why;
+        why = reasons text first page marks;
         told = record { code-is = x .code-is; line-is = x .line-is; a-is = x .a-is; b-is = x .b-is };
-        only = λ w because. one w v because why;
+        only = λ w because. one text first page marks w v because (reasons text first page marks);
       }
 
   pub load-packed-as-bytes : Load-packed-as-bytes src
@@ -99,8 +102,7 @@ pub ihex-load-keeps : Ihex-load-keeps
 ihex-load-keeps = load-keeps intel
 
 pub ihex-load-reasons : Ihex-load-reasons
-ihex-load-reasons text first page marks r l a b p m x =
-    load-reasoned intel _ text first page marks r l a b p m x (reasons text first page marks) (one-reason text first page marks)
+ihex-load-reasons = load-reasoned intel account reasons one-reason
 
 pub ihex-packed-as-bytes : Ihex-packed-as-bytes
 ihex-packed-as-bytes = load-packed-as-bytes intel
@@ -117,8 +119,7 @@ pub ihex-load-srecords-keeps : Ihex-load-srecords-keeps
 ihex-load-srecords-keeps = load-keeps s-records
 
 pub ihex-load-srecords-reasons : Ihex-load-srecords-reasons
-ihex-load-srecords-reasons text first page marks r l a b p m x =
-    load-reasoned s-records _ text first page marks r l a b p m x (s-reasons text first page marks) (s-one-reason text first page marks)
+ihex-load-srecords-reasons = load-reasoned s-records s-account s-reasons s-one-reason
 
 pub ihex-load-srecords-packed-as-bytes : Ihex-load-srecords-packed-as-bytes
 ihex-load-srecords-packed-as-bytes = load-packed-as-bytes s-records

@@ -1,9 +1,10 @@
 -- What is claimed of `ihex_load` and `ihex_load_srecords`, in their numbers: demand 3 of document 01, why they return what they return, what their
--- packed marks say, and that dumps of both kinds that state the same leave the same. But for the reasons each is said once for a load of any source, and then of both.
+-- packed marks say, and that dumps of both kinds that state the same leave the same. Each is said once for a load of any source, and then of both.
 -- Assumes nothing.
 use Prim.Native.Nat.{ℕ, _+_, _<_}
 use mathlib.Core.Path.{_≡_}
 use mathlib.Core.Logic.{_≢_, _↔_}
+use mathlib.Core.Bool.{Bool}
 use mathlib.Core.Option.{some}
 use mathlib.Core.List.{List}
 use lib.ListN.{length, getD}
@@ -12,14 +13,16 @@ use Rattle.reader.specs.Lines.{through}
 use Rattle.steps.specs.Steps.{Verdict, by, stated}
 use Rattle.steps.specs.Source.{Source, steps-of}
 use Rattle.steps.specs.Sites.{Loaded, Owed-at}
+use Rattle.steps.specs.Account.{Account}
 use Rattle.window.specs.Load.{stopping-by-window}
+use Rattle.window.specs.Reasons.{Why}
 use Rattle.window.specs.Loads.{byte-load}
 use Rattle.loader.specs.Placing.{intel}
 use Rattle.loader.specs.Load.{placements}
-use Rattle.loader.specs.Claims.{Why}
+use Rattle.loader.specs.Claims.{account}
 use Rattle.srecload.specs.Placing.{s-records}
 use Rattle.srecload.specs.Load as srecload
-use Rattle.srecload.specs.Claims.{Why as S-why}
+use Rattle.srecload.specs.Claims.{account as s-account}
 use Rattle.codes.specs.Codes.{OK, value, loading, line-at}
 use Rattle.ihex.specs.Entries.{IhexLoadBy, IhexLoad, IhexLoadSrecords}
 
@@ -82,17 +85,17 @@ pub record Reasoned (Because : Verdict → Type 0) (r line a b : ℕ) : Type 0 w
   pub told : In-load-numbers verdict r line a b
   pub only : (v : Verdict) → Because v → v ≡ verdict
 
--- of `ihex_load`, in the text's lines and the window
-abbrev pub Ihex-load-reasons : Type 0
-Ihex-load-reasons =
-    (text : List ℕ) (first : ℕ) (page marks : List ℕ) (r l a b : ℕ) (p m : List ℕ) → IhexLoad text first page marks r l a b p m
-    → Reasoned (Why text first page marks) r l a b
+-- of a load, in the text's lines and the window, by what its format says of a line
+abbrev pub Load-reasoned : {S : Type 0} → Source S → (account : (inside : ℕ → Bool) → Account) → Type 0
+Load-reasoned src account =
+    (text : List ℕ) (first : ℕ) (page marks : List ℕ) (r l a b : ℕ) (p m : List ℕ) → IhexLoadBy src text first page marks r l a b p m
+    → Reasoned (Why src account text first page marks) r l a b
 
--- and of `ihex_load_srecords`
+abbrev pub Ihex-load-reasons : Type 0
+Ihex-load-reasons = Load-reasoned intel account
+
 abbrev pub Ihex-load-srecords-reasons : Type 0
-Ihex-load-srecords-reasons =
-    (text : List ℕ) (first : ℕ) (page marks : List ℕ) (r l a b : ℕ) (p m : List ℕ) → IhexLoadSrecords text first page marks r l a b p m
-    → Reasoned (S-why text first page marks) r l a b
+Ihex-load-srecords-reasons = Load-reasoned s-records s-account
 
 -- packed marks say what marks of a byte each would say: the same is returned, and the page is the same; if it is IHEX_OK, the marks, unpacked, are
 -- the others, and the unused bits are 0

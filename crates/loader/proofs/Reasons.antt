@@ -16,8 +16,7 @@ use Rattle.steps.specs.Source.{steps}
 use Rattle.steps.proofs.Firsts.{Seen, seen, Walked, past, here}
 use Rattle.loader.specs.Placing.{Base, segment, linear, stated-by, base-behind, placed, does, act, base-after, intel, intel-by}
 use Rattle.loader.specs.Helpers.{does-on}
-use Rattle.loader.specs.Claims.{said-record, record-on, sets, latest, in-force, states, counts, data-records, Counted, is-empty, goes-on, the-end, no-record, first-outside}
-use Rattle.loader.proofs.OneReason.{account}
+use Rattle.loader.specs.Claims.{said-record, record-on, sets, latest, in-force, states, counts, data-records, Counted, account, is-empty, goes-on, the-end, no-record, first-outside}
 
 -- ---- one line more behind lines
 

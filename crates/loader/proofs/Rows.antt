@@ -88,5 +88,5 @@ module _ (f : Base → Base) where
 
 -- the steps of a text are those of what is said on its lines
 pub steps-along : (text : List ℕ) → steps-of text ≡ along (λ base. base) from-start (sayings 1 (lines text))
-unfolding steps-of source.steps-of intel-by
+unfolding source.steps-of intel-by
 steps-along text = by-sayings (λ base. base) from-start 1 (lines text)

@@ -13,18 +13,20 @@ use Rattle.record.specs.Refusals.{number-of, outside-window}
 use Rattle.record.specs.Meaning.{Meaning, data-at, end-of-file, extended-segment, start-segment, extended-linear, start-linear}
 use Rattle.record.proofs.Standing.{Stands, stands, fault-few}
 use Rattle.reader.specs.Lines.{lines}
-use Rattle.steps.specs.Steps.{Placement, Tally, Verdict, accepted, refused}
+use Rattle.steps.specs.Steps.{Tally, Verdict, accepted, refused}
+use Rattle.steps.specs.Account.{All-pass}
 use Rattle.steps.specs.Puts as puts
 use Rattle.steps.proofs.Firsts.{All-inside}
 use Rattle.steps.proofs.Puts.{Laid, laid-states, Holding, Puts-after, owed-put, all-inside, first-out, owed-put-unique}
 use Rattle.window.specs.Window.{within}
+use Rattle.window.specs.Reasons.{bad-one, no-end, at-line}
 use Rattle.loader.specs.Placing.{Base, byte-address, stated-by, intel}
 use Rattle.loader.specs.Load.{load}
-use Rattle.loader.specs.Claims.{record-on, in-force, states, all-states, Passes, is-empty, goes-on, All-pass, Stops, the-end, no-record, first-outside, Why, bad-one, no-end, at-line}
+use Rattle.loader.specs.Claims.{record-on, in-force, states, Passes, is-empty, goes-on, Stops, the-end, no-record, first-outside, account, Why}
 use Rattle.loader.specs.Segments.{At, Puts, Last-put, Owed, Owed-unique, Stored, Stored-by-Intel, First-outside, Outside-by-Intel}
 use Rattle.window.proofs.Loads.{at-place}
 use Rattle.loader.proofs.Claims.{reasons}
-use Rattle.loader.proofs.OneReason.{empty-none, none-stated, one-more, account}
+use Rattle.loader.proofs.OneReason.{empty-none}
 use Rattle.loader.proofs.Segments.{at-only, at-there}
 
 -- ---- what a line holds
@@ -49,18 +51,13 @@ held-states ahead (some (start-segment cs ip)) = refl
 held-states ahead (some (extended-linear number)) = refl
 held-states ahead (some (start-linear number)) = refl
 
-lines-both : (ahead : List (List ℕ)) (l : List ℕ) (ls : List (List ℕ))
-    → all-states ahead (l ∷ ls) ≡ laid-states (held (in-force ahead) (record-on l)) ++ all-states (ahead ++ (l ∷ [])) ls
-lines-both ahead l ls = one-more ahead l ls ∙ ap (λ (ps : List Placement). ps ++ all-states (ahead ++ (l ∷ [])) ls) (held-states ahead (record-on l))
-
 abbrev holding : Holding
 holding =
     record {
       holds = λ ahead line. held (in-force ahead) (record-on line);
-      all-states = all-states;
+      states = λ ahead line. states ahead (record-on line);
       empty-none = λ ahead. ap (held (in-force ahead)) (empty-none [] refl);
-      states-none = none-stated;
-      states-both = lines-both;
+      same = λ ahead line. held-states ahead (record-on line);
     }
 
 -- what lines hold is what they put
@@ -116,7 +113,7 @@ module _ (ls : List (List ℕ)) (a : ℕ) where
   of-owed x = record { one-or-zero = x .one-or-zero; marked-iff-put = x .marked-iff-put; marked-holds = λ e. of-last (x .marked-holds e); unmarked-keeps = x .unmarked-keeps }
 
 -- each line that passes is no end record
-none-ends : (inside : ℕ → Bool) (ahead ls : List (List ℕ)) → All-pass inside ahead ls → Every (λ (line : List ℕ). record-on line ≢ some end-of-file) ls
+none-ends : (inside : ℕ → Bool) (ahead ls : List (List ℕ)) → All-pass (account inside) ahead ls → Every (λ (line : List ℕ). record-on line ≢ some end-of-file) ls
 none-ends inside ahead [] p = tt
 none-ends inside ahead (l ∷ ls) (p, ps) = (go p, none-ends inside (ahead ++ (l ∷ [])) ls ps)
   where
@@ -171,7 +168,7 @@ outside-by-intel text first page marks address line e = go (load text first page
     inside = within first (length page)
 
     stops : (ahead : List (List ℕ)) (l : List ℕ) (later : List (List ℕ)) (n : ℕ) (a : Verdict) → lines text ≡ ahead ++ (l ∷ later) → n ≡ suc (length ahead)
-        → All-pass inside [] ahead → Stops inside ahead l n a → a ≡ refused (outside-window address) line → First-outside (lines text) first (length page) address line
+        → All-pass (account inside) [] ahead → Stops inside ahead l n a → a ≡ refused (outside-window address) line → First-outside (lines text) first (length page) address line
     stops ahead l later n a w k x (the-end tally s c) q = let z : _≡_ {A = ℕ} 0 1 = cc in absurd (omega arith)
     stops ahead l later n a w k x (no-record r b s) q =
         let few = fault-few (subst (Stands l) s (stands l)) in
@@ -179,7 +176,7 @@ outside-by-intel text first page marks address line e = go (load text first page
         let many = ap number-of r-is in
         absurd (omega arith)
     stops ahead l later n a w k x (first-outside before after p s i o) q =
-        let f = first-out holding (account inside) inside (lie inside) ahead l later x before after p i o (sym (held-states ahead (record-on l)) ∙ s) in
+        let f = first-out holding (account inside) inside (lie inside) ahead l later x before after p i o s in
         let at : p .address ≡ address = cc in
         let on : n ≡ line = cc in
         let ls = ahead ++ (l ∷ later) in

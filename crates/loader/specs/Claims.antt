@@ -1,34 +1,33 @@
 -- What is claimed of a load. Demand 3: what stands behind the line at which a load stops, and what the buffers held before, can change no
 -- answer and no mark; a place is marked exactly when a data record ahead of the end record states it, and holds what the last such record
 -- states; every other place keeps its byte. Then why a load answers as it does, and that nothing else meets the contract.
--- Those of demand 3 are what `window` claims of every source, said of Intel HEX. Each is proved in `proofs/Demand3.antt`, `proofs/Claims.antt` or
--- `proofs/OneReason.antt`.
+-- Those of demand 3 and of reasons are what `window` says of every source, said of Intel HEX. Each is proved in `proofs/Demand3.antt`,
+-- `proofs/Claims.antt` or `proofs/OneReason.antt`.
 -- Assumes nothing.
 use mathlib.Core.Path.{_≡_}
 use mathlib.Core.Logic.{_≢_}
-use Prim.Native.Nat.{ℕ, suc, _+_, _<_}
-use mathlib.Core.Bool.{Bool, true, false, _||_}
+use Prim.Native.Nat.{ℕ, _+_, _<_}
+use mathlib.Core.Bool.{Bool, true, false}
 use mathlib.Core.Option.{Option, none, some, Option·getD}
 use mathlib.Core.List.{List, [], _∷_, _++_}
-use lib.Dec.{eqb}
 use lib.ListN.{length, getD, replicate}
 use Rattle.digits.specs.Common.{or-else, Every, text}
-use Rattle.record.specs.Refusals.{Refusal, number-of, contains-invalid-characters, missing-end-of-file-record, bad-window, outside-window}
+use Rattle.record.specs.Refusals.{Refusal, number-of, contains-invalid-characters, outside-window}
 use Rattle.record.specs.Line.{Said, says, wrong, judge}
 use Rattle.digits.specs.Reading.{named}
 use Rattle.record.specs.Meaning.{Meaning, data-at, end-of-file, extended-segment, start-segment, extended-linear, start-linear, meaning}
-use Rattle.reader.specs.Lines.{LF, lines, through}
+use Rattle.reader.specs.Lines.{LF, through}
 use Rattle.reader.specs.Claims.{Offends}
 use Rattle.marks.specs.Marks.{mark-at}
 use Rattle.steps.specs.declared.Loading.{Loading}
 use Rattle.steps.specs.Steps.{Placement, Tally, Verdict, accepted, refused, by}
-use Rattle.steps.specs.Sites.{Loaded, Owed-at}
-use Rattle.window.specs.Window.{within}
-use Rattle.window.specs.Claims.{Window}
+use Rattle.steps.specs.Sites.{Owed-at}
+use Rattle.steps.specs.Account.{Account}
+use Rattle.window.specs.Reasons.{Load-reasons, Load-one-reason, Among}
+use Rattle.window.specs.Reasons as reasons
 pub use Rattle.window.specs.Loads.{Alike}
-use Rattle.loader.specs.Placing.{Base, from-start, segment, linear, stated-by}
+use Rattle.loader.specs.Placing.{Base, from-start, segment, linear, stated-by, intel}
 use Rattle.loader.specs.Load.{stopping, placements, load, Load}
-use Rattle.steps.specs.Told.{told-loading}
 
 -- ---- two loads
 
@@ -107,12 +106,6 @@ unfolding stated-by in-force
 states ahead none = []
 states ahead (some m) = stated-by (in-force ahead) m
 
--- what lines state, one after the other, behind these
-unfoldable pub all-states : (ahead ls : List (List ℕ)) → List Placement
-unfolding states said-record judge
-all-states ahead [] = []
-all-states ahead (line ∷ ls) = states ahead (record-on line) ++ all-states (ahead ++ (line ∷ [])) ls
-
 -- how many of the lines are data records
 unfoldable pub counts : Option Meaning → ℕ
 counts none = 0
@@ -138,10 +131,6 @@ pub data Passes (inside : ℕ → Bool) (ahead : List (List ℕ)) (line : List �
   goes-on : (m : Meaning) → line ≢ [] → record-on line ≡ some m → m ≢ end-of-file
       → Every (λ (p : Placement). inside (p .address) ≡ true) (states ahead (some m)) → Passes inside ahead line
 
-abbrev pub All-pass : (inside : ℕ → Bool) (ahead ls : List (List ℕ)) → Type 0
-All-pass inside ahead [] = Unit
-All-pass inside ahead (line ∷ ls) = Passes inside ahead line × All-pass inside (ahead ++ (line ∷ [])) ls
-
 -- what line n, behind these, gives a load that stops at it: it is the end record, or it is refused, or it has a first byte outside
 pub data Stops (inside : ℕ → Bool) (ahead : List (List ℕ)) (line : List ℕ) (n : ℕ) : Verdict → Type 0 where
   the-end : (tally : Tally) → record-on line ≡ some end-of-file → Counted tally ahead → Stops inside ahead line n (accepted tally)
@@ -150,30 +139,21 @@ pub data Stops (inside : ℕ → Bool) (ahead : List (List ℕ)) (line : List �
       → states ahead (record-on line) ≡ before ++ (p ∷ after) → Every (λ (q : Placement). inside (q .address) ≡ true) before
       → inside (p .address) ≡ false → Stops inside ahead line n (refused (outside-window (p .address)) n)
 
--- line n of the text stops the load: each line ahead of it passes; if it accepts, what the text states is what those lines state
-pub record Decided (text : List ℕ) (inside : ℕ → Bool) (n : ℕ) (v : Verdict) : Type 0 where
-  pub ahead : List (List ℕ)
-  pub line : List ℕ
-  pub later : List (List ℕ)
-  pub whole : lines text ≡ ahead ++ (line ∷ later)
-  pub number : n ≡ suc (length ahead)
-  pub pass : All-pass inside [] ahead
-  pub stops : Stops inside ahead line n v
-  pub stated : (tally : Tally) → v ≡ accepted tally → placements text ≡ all-states [] ahead
+-- what a load asks of a line of Intel HEX
+abbrev pub account : (inside : ℕ → Bool) → Account
+account inside = record { passes = Passes inside; stops = Stops inside; states = λ ahead line. states ahead (record-on line) }
 
 -- a reason for an answer
-pub data Why (text : List ℕ) (first : ℕ) (page marks : List ℕ) : Verdict → Type 0 where
-  bad-one : ¬ Window first page marks → Why text first page marks (refused bad-window 0)
-  no-end : Window first page marks → All-pass (within first (length page)) [] (lines text)
-      → Why text first page marks (refused missing-end-of-file-record 0)
-  at-line : (n : ℕ) (v : Verdict) → Window first page marks → Decided text (within first (length page)) n v → Why text first page marks v
+abbrev pub Why : (text : List ℕ) (first : ℕ) (page marks : List ℕ) → Verdict → Type 0
+Why text first page marks = reasons.Why intel account text first page marks
 
+-- each answer has one
 abbrev pub Reasons : Type 0
-Reasons = (text : List ℕ) (first : ℕ) (page marks : List ℕ) → Why text first page marks ((load text first page marks) .answer)
+Reasons = Load-reasons intel account
 
 -- and no other answer has one: each refusal is given exactly when its reason holds
 abbrev pub One-reason : Type 0
-One-reason = (text : List ℕ) (first : ℕ) (page marks : List ℕ) (v v′ : Verdict) → Why text first page marks v → Why text first page marks v′ → v ≡ v′
+One-reason = Load-one-reason intel account
 
 -- a load that is refused with 2 gives the number of a line that has an offender, and names the first one's place there
 abbrev pub Load-names-the-offender : Type 0
@@ -185,16 +165,8 @@ Load-names-the-offender =
 abbrev pub refusal-numbers : List ℕ
 refusal-numbers = 1 ∷ 2 ∷ 3 ∷ 4 ∷ 5 ∷ 6 ∷ 7 ∷ 8 ∷ 9 ∷ 13 ∷ 16 ∷ 17 ∷ []
 
-abbrev pub one-of : List ℕ → ℕ → Bool
-one-of [] n = false
-one-of (x ∷ xs) n = eqb n x || one-of xs n
-
-abbrev pub Among : Verdict → Type 0
-Among (accepted tally) = Unit
-Among (refused r line) = one-of refusal-numbers (number-of r) ≡ true
-
 abbrev pub Total : Type 0
-Total = (text : List ℕ) (first : ℕ) (page marks : List ℕ) → Among ((load text first page marks) .answer)
+Total = (text : List ℕ) (first : ℕ) (page marks : List ℕ) → Among refusal-numbers ((load text first page marks) .answer)
 
 -- ---- the contract
 

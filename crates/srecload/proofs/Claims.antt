@@ -3,11 +3,9 @@
 use mathlib.Core.Path.{_≡_, refl, sym, ap, _∙_, subst}
 use Prim.Native.Nat.{ℕ}
 use native.Mathlib.Omega.{arith}
-use mathlib.Core.Bool.{Bool, true, false}
-use mathlib.Core.Option.{Option, none, some}
+use mathlib.Core.Bool.{Bool}
+use mathlib.Core.Option.{some}
 use mathlib.Core.List.{List, []}
-use lib.ListN.{length}
-use Rattle.digits.specs.Common.{if_then_else_}
 use Rattle.digits.specs.Digits.{number-after}
 use Rattle.digits.specs.Reading.{named}
 use Rattle.record.specs.Refusals.{Refusal, number-of, contains-invalid-characters, missing-end-of-file-record, bad-window, outside-window, count-mismatch}
@@ -18,20 +16,15 @@ use Rattle.srec.specs.Format.{Width, type-0, type-1, type-2, type-3, type-5, ty
 use Rattle.srec.specs.Faults.{Fault, no-start, no-digit, no-type, type-unknown, short, long, odd, sum-differs, length-differs, size-differs}
 use Rattle.srec.proofs.Standing.{Stands, stands}
 use Rattle.srec.proofs.Claims.{admits, names-the-offender}
-use Rattle.steps.specs.Steps.{nothing-yet, Verdict, refused, Decision, by, decision, verdict, stated}
+use Rattle.steps.specs.Steps.{Placement, nothing-yet, Verdict, refused, stated}
 use Rattle.steps.specs.Source as source
-use Rattle.steps.specs.Sites.{stopping-by}
-use Rattle.steps.proofs.Firsts.{Walked}
-use Rattle.window.specs.Window.{within, unfit, one-window}
-use Rattle.window.specs.Claims.{Window}
+use Rattle.steps.specs.Account.{Decided}
+use Rattle.window.specs.Reasons.{bad-one, no-end, at-line, Among}
 use Rattle.window.specs.Load.{stopping-by-window, load-window}
-use Rattle.window.proofs.Tests.{good-window, no-window}
-use Rattle.window.proofs.Loads.{load-answer}
+use Rattle.window.proofs.Reasons.{load-reasons}
 use Rattle.srecload.specs.Placing.{S-meaning, s-meaning, s-records}
-use Rattle.srecload.specs.Load.{steps-of}
-use Rattle.srecload.specs.Claims.{said-record, Means, of-header, of-data, of-count, of-end, Records-by-format, data-records, Stops, the-end, no-record, first-outside, count-differs, Decided, Why, bad-one, no-end, at-line, Reasons, Offends, Load-names-the-offender, Among, Total, Examples}
+use Rattle.srecload.specs.Claims.{said-record, Means, of-header, of-data, of-count, of-end, Records-by-format, data-records, Stops, the-end, no-record, first-outside, count-differs, account, Why, Reasons, Offends, Load-names-the-offender, refusal-numbers, Total, Examples}
 use Rattle.srecload.proofs.Meeting.{means-header, means-data, means-count, means-end}
-use Rattle.srecload.proofs.OneReason.{account}
 use Rattle.srecload.proofs.Reasons.{walked}
 
 pub examples : Examples
@@ -75,25 +68,12 @@ records-by-format line m = (
 -- ---- reasons
 
 pub reasons : Reasons
-unfolding stopping-by-window source.steps-of data-records verdict one-window stopping-by s-records
-reasons text first page marks =
-    rw (load-answer s-records text first page marks) (go (unfit first (length page) (length marks)) refl)
-  where
-    inside : ℕ → Bool
-    inside = within first (length page)
-
-    by-its-line : Window first page marks → (d : Option Decision) → Walked (account inside) [] (steps-of text) 1 (lines text) d → Why text first page marks (verdict d)
-    by-its-line w none all = no-end w all
-    by-its-line w (some (by m v)) f =
-        at-line m v w (record { ahead = f .mid; line = f .line; later = f .later; whole = f .whole; number = omega (arith, f .number); pass = f .pass; stops = f .stops; stated = f .states })
-
-    go : (b : Bool) → unfit first (length page) (length marks) ≡ b → Why text first page marks (verdict (stopping-by (if b then some bad-window else none) inside (steps-of text)))
-    go true e = bad-one (no-window first page marks e)
-    go false e = by-its-line (good-window first page marks e) (decision inside nothing-yet (steps-of text)) (walked inside (lines text) 1 [] nothing-yet (record { records = refl }))
+unfolding source.steps-of data-records s-records
+reasons = load-reasons s-records account (λ inside text. walked inside (lines text) 1 [] nothing-yet (record { records = refl }))
 
 -- ---- totality
 
-refused-line : {line : List ℕ} {r : Refusal} (n : ℕ) → Fault line r → Among (refused r n)
+refused-line : {line : List ℕ} {r : Refusal} (n : ℕ) → Fault line r → Among refusal-numbers (refused r n)
 refused-line n (no-start a) = refl
 refused-line n (no-digit p f) = refl
 refused-line n (no-type a) = refl
@@ -105,13 +85,13 @@ refused-line n (sum-differs a b c d e f g h i j k) = refl
 refused-line n (length-differs a b c d e f g) = refl
 refused-line n (size-differs a b c d e f g h) = refl
 
-stops-among : {inside : ℕ → Bool} {ahead : List (List ℕ)} {line : List ℕ} {n : ℕ} {v : Verdict} → Stops inside ahead line n v → Among v
+stops-among : {inside : ℕ → Bool} {ahead : List (List ℕ)} {line : List ℕ} {n : ℕ} {v : Verdict} → Stops inside ahead line n v → Among refusal-numbers v
 stops-among (the-end tally a e c) = tt
 stops-among {line} {n} (no-record r b e) = refused-line n (subst (Stands line) e (stands line))
 stops-among (first-outside before after p e i o) = refl
 stops-among (count-differs k e d) = refl
 
-why-among : {text : List ℕ} {first : ℕ} {page marks : List ℕ} {v : Verdict} → Why text first page marks v → Among v
+why-among : {text : List ℕ} {first : ℕ} {page marks : List ℕ} {v : Verdict} → Why text first page marks v → Among refusal-numbers v
 why-among (bad-one w) = refl
 why-among (no-end w all) = refl
 why-among (at-line n v w d) = stops-among (d .stops)
@@ -122,9 +102,9 @@ total text first page marks = why-among (reasons text first page marks)
 -- ---- the offender
 
 -- of the answers of a line only its own refusal has the number 2
-named-by : {text : List ℕ} {inside : ℕ → Bool} {n m : ℕ} {v : Verdict} {r : Refusal} → Decided text inside n v → v ≡ refused r m → number-of r ≡ 2
+named-by : {text : List ℕ} {inside : ℕ → Bool} {ps : List Placement} {n m : ℕ} {v : Verdict} {r : Refusal} → Decided (account inside) (lines text) ps n v → v ≡ refused r m → number-of r ≡ 2
     → (place : ℕ) × Offends text m place × (r ≡ contains-invalid-characters (named place))
-named-by {text} {inside} {n} {m} {v} {r} d = go (d .stops) refl
+named-by {text} {inside} {ps} {n} {m} {v} {r} d = go (d .stops) refl
   where
     go : {k : ℕ} {v : Verdict} → Stops inside (d .ahead) (d .line) k v → k ≡ n → v ≡ refused r m → number-of r ≡ 2 → (place : ℕ) × Offends text m place × (r ≡ contains-invalid-characters (named place))
     go (the-end tally a e c) k q two = let z : _≡_ {A = ℕ} 0 1 = cc in absurd (omega arith)

@@ -6,17 +6,14 @@ use native.Mathlib.Omega.{arith}
 use mathlib.Core.Bool.{Bool}
 use mathlib.Core.Option.{Option, none, some}
 use mathlib.Core.List.{List, [], _∷_, _++_}
-use lib.ListN.{length}
 use Rattle.record.specs.Refusals.{Refusal, outside-window, count-mismatch}
 use Rattle.record.specs.Line.{wrong}
-use Rattle.reader.specs.Lines.{lines}
 use Rattle.srec.specs.Line.{judge}
 use Rattle.steps.specs.Steps.{Placement, Verdict, accepted, refused}
-use Rattle.steps.proofs.Firsts.{not-empty, every-at, same-first, Inside, not-inside, Account, Found, none-found, one-found}
-use Rattle.window.specs.Window.{within}
-use Rattle.srecload.specs.Placing.{S-meaning, s-header, s-count, s-end, s-placed, s-states}
-use Rattle.srecload.specs.Load.{steps-of}
-use Rattle.srecload.specs.Claims.{said-record, record-on, states, all-states, data-records, Passes, is-empty, is-header, lies-inside, counts-right, All-pass, Stops, the-end, no-record, first-outside, count-differs, Decided, Why, bad-one, no-end, at-line, One-reason}
+use Rattle.steps.proofs.Firsts.{not-empty, every-at, same-first, Inside, not-inside, Sound}
+use Rattle.window.proofs.Reasons.{load-one-reason}
+use Rattle.srecload.specs.Placing.{S-meaning, s-header, s-count, s-end, s-placed, s-states, s-records}
+use Rattle.srecload.specs.Claims.{said-record, record-on, states, data-records, Passes, is-empty, is-header, lies-inside, counts-right, Stops, the-end, no-record, first-outside, count-differs, account, One-reason}
 
 -- ---- one line
 
@@ -32,14 +29,6 @@ empty-none line e = rw e
 no-first : (line : List ℕ) (o : Option S-meaning) → record-on line ≡ o → states o ≡ [] → (before : List Placement) (p : Placement) (after : List Placement)
     → states (record-on line) ≡ before ++ (p ∷ after) → ⊥
 no-first line o e s before p after w = not-empty before p after (sym s ∙ ap states (sym e) ∙ w)
-
-pub none-stated : all-states [] ≡ []
-unfolding all-states
-none-stated = refl
-
-pub one-more : (l : List ℕ) (ls : List (List ℕ)) → all-states (l ∷ ls) ≡ states (record-on l) ++ all-states ls
-unfolding all-states
-one-more l ls = refl
 
 module _ (inside : ℕ → Bool) where
   pub not-both : {ahead : List (List ℕ)} {line : List ℕ} {n : ℕ} {v : Verdict} → Passes inside ahead line → Stops inside ahead line n v → ⊥
@@ -85,45 +74,8 @@ module _ (inside : ℕ → Bool) where
   one-verdict {ahead} {n} (count-differs k e d) (count-differs k′ e′ d′) =
       let same : k ≡ k′ = cc in ap (λ (x : ℕ). refused (count-mismatch x (data-records ahead)) n) same
 
-  -- which lines pass, which stop a load, and what they state
-  abbrev pub account : Account
-  account =
-      record {
-        passes = Passes inside;
-        all-pass = All-pass inside;
-        stops = Stops inside;
-        states = λ ahead line. states (record-on line);
-        all-states = λ ahead ls. all-states ls;
-        pass-none = λ ahead. tt;
-        pass-both = λ ahead l ls p ps. (p, ps);
-        pass-each = λ ahead l ls h. h;
-        states-none = λ ahead. none-stated;
-        states-both = λ ahead l ls. one-more l ls;
-        not-both = λ ahead l n v p s. not-both p s;
-        one-verdict = λ ahead l n v v′ s s′. one-verdict s s′;
-      }
-
--- ---- a load
+  pub sound : Sound (account inside)
+  sound = record { not-both = λ ahead l n v p s. not-both p s; one-verdict = λ ahead l n v v′ s s′. one-verdict s s′ }
 
 pub one-reason : One-reason
-one-reason text first page marks v v′ = go
-  where
-    inside : ℕ → Bool
-    inside = within first (length page)
-
-    found : {n : ℕ} {v : Verdict} → Decided text inside n v → Found (account inside) [] (steps-of text) 1 (lines text) n v
-    found d = record { mid = d .ahead; line = d .line; later = d .later; whole = d .whole; number = omega (arith, d .number); pass = d .pass; stops = d .stops; states = d .stated }
-
-    never : {n : ℕ} {v : Verdict} → All-pass inside [] (lines text) → Decided text inside n v → ⊥
-    never all d = none-found (account inside) (steps-of text) (lines text) all (found d)
-
-    go : {v v′ : Verdict} → Why text first page marks v → Why text first page marks v′ → v ≡ v′
-    go (bad-one b) (bad-one b′) = refl
-    go (bad-one b) (no-end w all) = absurd (b w)
-    go (bad-one b) (at-line n v w d) = absurd (b w)
-    go (no-end w all) (bad-one b) = absurd (b w)
-    go (no-end w all) (no-end w′ all′) = refl
-    go (no-end w all) (at-line n v w′ d) = absurd (never all d)
-    go (at-line n v w d) (bad-one b) = absurd (b w)
-    go (at-line n v w d) (no-end w′ all) = absurd (never all d)
-    go (at-line n v w d) (at-line n′ v′ w′ d′) = one-found (account inside) (steps-of text) (lines text) (found d) (found d′)
+one-reason = load-one-reason s-records account sound

@@ -17,8 +17,7 @@ use Rattle.steps.specs.Steps.{places, counts as counts-to, Step, step, Tally, o
 use Rattle.steps.specs.Source.{steps}
 use Rattle.steps.proofs.Firsts.{Seen, seen, Walked, past, here}
 use Rattle.srecload.specs.Placing.{S-meaning, s-header, s-data, s-count, s-end, s-meaning, s-placed, s-states, s-does, s-act, s-records}
-use Rattle.srecload.specs.Claims.{said-record, record-on, states, counts, data-records, Counted, is-empty, is-header, lies-inside, counts-right, the-end, no-record, first-outside, count-differs}
-use Rattle.srecload.proofs.OneReason.{account}
+use Rattle.srecload.specs.Claims.{said-record, record-on, states, counts, data-records, Counted, account, is-empty, is-header, lies-inside, counts-right, the-end, no-record, first-outside, count-differs}
 
 -- one line more
 records-snoc : (ahead : List (List ℕ)) (l : List ℕ) (o : Option S-meaning) → record-on l ≡ o → data-records (ahead ++ (l ∷ [])) ≡ counts o + data-records ahead

@@ -11,16 +11,18 @@ use Rattle.digits.specs.Common.{Every}
 use Rattle.record.specs.Refusals.{number-of, outside-window}
 use Rattle.reader.specs.Lines.{lines}
 use Rattle.srec.proofs.Standing.{Stands, stands, fault-few}
-use Rattle.steps.specs.Steps.{Placement, Tally, Verdict, accepted, refused}
+use Rattle.steps.specs.Steps.{Tally, Verdict, accepted, refused}
+use Rattle.steps.specs.Account.{All-pass}
 use Rattle.steps.proofs.Firsts.{All-inside}
 use Rattle.steps.proofs.Puts.{Laid, laid-states, Holding, Puts-after, owed-put, all-inside, first-out, owed-put-unique}
 use Rattle.window.specs.Window.{within}
+use Rattle.window.specs.Reasons.{bad-one, no-end, at-line}
 use Rattle.window.proofs.Loads.{at-place}
 use Rattle.srecload.specs.Placing.{S-meaning, s-header, s-data, s-count, s-end, s-address, s-states, s-records}
 use Rattle.srecload.specs.Load.{load}
-use Rattle.srecload.specs.Claims.{record-on, states, all-states, Passes, is-empty, is-header, lies-inside, counts-right, All-pass, Stops, the-end, no-record, first-outside, count-differs, Why, bad-one, no-end, at-line}
+use Rattle.srecload.specs.Claims.{record-on, states, Passes, is-empty, is-header, lies-inside, counts-right, Stops, the-end, no-record, first-outside, count-differs, account, Why}
 use Rattle.srecload.specs.Stored.{Puts, Owed-unique, No-end, Stored, Stored-by-lines, First-outside, Outside-by-lines}
-use Rattle.srecload.proofs.OneReason.{empty-none, account}
+use Rattle.srecload.proofs.OneReason.{empty-none}
 use Rattle.srecload.proofs.Claims.{reasons}
 
 -- ---- what a line holds
@@ -40,22 +42,13 @@ held-states (some (s-data address bytes)) = refl
 held-states (some (s-count stated)) = refl
 held-states (some (s-end address)) = refl
 
-lines-both : (l : List ℕ) (ls : List (List ℕ)) → all-states (l ∷ ls) ≡ laid-states (held (record-on l)) ++ all-states ls
-unfolding all-states
-lines-both l ls = ap (λ (ps : List Placement). ps ++ all-states ls) (held-states (record-on l))
-
-lines-none : all-states [] ≡ []
-unfolding all-states
-lines-none = refl
-
 abbrev holding : Holding
 holding =
     record {
       holds = λ ahead line. held (record-on line);
-      all-states = λ ahead ls. all-states ls;
+      states = λ ahead line. states (record-on line);
       empty-none = λ ahead. ap held (empty-none [] refl);
-      states-none = λ ahead. lines-none;
-      states-both = λ ahead l ls. lines-both l ls;
+      same = λ ahead line. held-states (record-on line);
     }
 
 -- what lines hold is what they put
@@ -89,7 +82,7 @@ lie inside ahead l (counts-right c e h) = rw e tt
 -- ---- a load that is accepted
 
 -- each line that passes is no end
-none-ends : (inside : ℕ → Bool) (ahead ls : List (List ℕ)) → All-pass inside ahead ls → Every No-end ls
+none-ends : (inside : ℕ → Bool) (ahead ls : List (List ℕ)) → All-pass (account inside) ahead ls → Every No-end ls
 none-ends inside ahead [] p = tt
 none-ends inside ahead (l ∷ ls) (p, ps) = (go p, none-ends inside (ahead ++ (l ∷ [])) ls ps)
   where
@@ -148,7 +141,7 @@ outside-by-lines text first page marks address line e = go (load text first page
     inside = within first (length page)
 
     stops : (ahead : List (List ℕ)) (l : List ℕ) (later : List (List ℕ)) (n : ℕ) (a : Verdict) → lines text ≡ ahead ++ (l ∷ later) → n ≡ suc (length ahead)
-        → All-pass inside [] ahead → Stops inside ahead l n a → a ≡ refused (outside-window address) line → First-outside (lines text) first (length page) address line
+        → All-pass (account inside) [] ahead → Stops inside ahead l n a → a ≡ refused (outside-window address) line → First-outside (lines text) first (length page) address line
     stops ahead l later n a w k x (the-end tally _ s c) q = let z : _≡_ {A = ℕ} 0 1 = cc in absurd (omega arith)
     stops ahead l later n a w k x (no-record r b s) q =
         let few = fault-few (subst (Stands l) s (stands l)) in
@@ -156,7 +149,7 @@ outside-by-lines text first page marks address line e = go (load text first page
         let many = ap number-of r-is in
         absurd (omega arith)
     stops ahead l later n a w k x (first-outside before after p s i o) q =
-        let f = first-out holding (account inside) inside (lie inside) ahead l later x before after p i o (sym (held-states (record-on l)) ∙ s) in
+        let f = first-out holding (account inside) inside (lie inside) ahead l later x before after p i o s in
         let at : p .address ≡ address = cc in
         let on : n ≡ line = cc in
         let ls = ahead ++ (l ∷ later) in

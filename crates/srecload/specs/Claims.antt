@@ -1,18 +1,17 @@
--- What is claimed of a load of S-records. Demand 3, which `window` claims of every source, said of S-records; then why a load answers as it does,
--- said of the text's lines, and that nothing else meets the contract. Each claim is proved in `proofs/Demand3.antt`, `proofs/Claims.antt` or
+-- What is claimed of a load of S-records. Demand 3 and reasons, which `window` has for every source, said of S-records; what a line of S-records
+-- does; and that nothing else meets the contract. Each claim is proved in `proofs/Demand3.antt`, `proofs/Claims.antt` or
 -- `proofs/OneReason.antt`.
 -- Assumes nothing.
 use mathlib.Core.Path.{_≡_}
 use mathlib.Core.Logic.{_≢_, _↔_}
 use Prim.Native.Nat.{ℕ, suc, _+_, _≤_, _<_}
-use mathlib.Core.Bool.{Bool, true, false, _||_}
+use mathlib.Core.Bool.{Bool, true, false}
 use mathlib.Core.Option.{Option, none, some}
 use mathlib.Core.List.{List, [], _∷_, _++_}
-use lib.Dec.{eqb}
 use lib.ListN.{length, getD, replicate}
 use Rattle.digits.specs.Common.{Every, text}
 use Rattle.digits.specs.Reading.{named}
-use Rattle.record.specs.Refusals.{Refusal, number-of, missing-start-code, contains-invalid-characters, missing-end-of-file-record, bad-window, outside-window, count-mismatch}
+use Rattle.record.specs.Refusals.{Refusal, number-of, missing-start-code, contains-invalid-characters, missing-end-of-file-record, outside-window, count-mismatch}
 use Rattle.record.specs.Line.{Said, says, wrong}
 use Rattle.reader.specs.Lines.{LF, lines, through}
 use Rattle.srec.specs.Line.{judge}
@@ -22,10 +21,11 @@ use Rattle.marks.specs.Marks.{row-length, mark-at}
 use Rattle.steps.specs.declared.Loading.{Loading}
 use Rattle.steps.specs.Steps.{Placement, Tally, Verdict, accepted, refused, by}
 use Rattle.steps.specs.Sites.{Loaded, Owed-at}
-use Rattle.window.specs.Window.{within}
-use Rattle.window.specs.Claims.{Window}
+use Rattle.steps.specs.Account.{Account}
 use Rattle.window.specs.Loads.{Alike, Unpacks-to}
 use Rattle.window.specs.Loads as loads
+use Rattle.window.specs.Reasons.{Load-reasons, Load-one-reason, Among}
+use Rattle.window.specs.Reasons as reasons
 use Rattle.srecload.specs.Placing.{S-meaning, s-header, s-data, s-count, s-end, s-meaning, s-placed, s-states, s-records}
 use Rattle.srecload.specs.Load.{stopping, placements, load, LoadSRecords}
 
@@ -103,12 +103,6 @@ unfolding s-states
 states none = []
 states (some m) = s-states m
 
--- what lines state, one after the other
-unfoldable pub all-states : List (List ℕ) → List Placement
-unfolding states said-record judge
-all-states [] = []
-all-states (line ∷ ls) = states (record-on line) ++ all-states ls
-
 -- how many of the lines are data records, S1 to S3
 unfoldable pub counts : Option S-meaning → ℕ
 counts none = 0
@@ -134,10 +128,6 @@ pub data Passes (inside : ℕ → Bool) (ahead : List (List ℕ)) (line : List �
       → Every (λ (p : Placement). inside (p .address) ≡ true) (s-placed address bytes) → Passes inside ahead line
   counts-right : (stated : ℕ) → record-on line ≡ some (s-count stated) → stated ≡ data-records ahead → Passes inside ahead line
 
-abbrev pub All-pass : (inside : ℕ → Bool) (ahead ls : List (List ℕ)) → Type 0
-All-pass inside ahead [] = Unit
-All-pass inside ahead (line ∷ ls) = Passes inside ahead line × All-pass inside (ahead ++ (line ∷ [])) ls
-
 -- what line n, after these, gives a load that stops at it: it is an end, or it is refused, or it has a first byte outside, or its count differs
 pub data Stops (inside : ℕ → Bool) (ahead : List (List ℕ)) (line : List ℕ) (n : ℕ) : Verdict → Type 0 where
   the-end : (tally : Tally) (address : ℕ) → record-on line ≡ some (s-end address) → Counted tally ahead → Stops inside ahead line n (accepted tally)
@@ -148,30 +138,21 @@ pub data Stops (inside : ℕ → Bool) (ahead : List (List ℕ)) (line : List �
   count-differs : (stated : ℕ) → record-on line ≡ some (s-count stated) → stated ≢ data-records ahead
       → Stops inside ahead line n (refused (count-mismatch stated (data-records ahead)) n)
 
--- line n of the text stops the load: each line before it passes; if it accepts, what the text states is what those lines state
-pub record Decided (text : List ℕ) (inside : ℕ → Bool) (n : ℕ) (v : Verdict) : Type 0 where
-  pub ahead : List (List ℕ)
-  pub line : List ℕ
-  pub later : List (List ℕ)
-  pub whole : lines text ≡ ahead ++ (line ∷ later)
-  pub number : n ≡ suc (length ahead)
-  pub pass : All-pass inside [] ahead
-  pub stops : Stops inside ahead line n v
-  pub stated : (tally : Tally) → v ≡ accepted tally → placements text ≡ all-states ahead
+-- what a load asks of a line of S-records
+abbrev pub account : (inside : ℕ → Bool) → Account
+account inside = record { passes = Passes inside; stops = Stops inside; states = λ ahead line. states (record-on line) }
 
 -- a reason for an answer
-pub data Why (text : List ℕ) (first : ℕ) (page marks : List ℕ) : Verdict → Type 0 where
-  bad-one : ¬ Window first page marks → Why text first page marks (refused bad-window 0)
-  no-end : Window first page marks → All-pass (within first (length page)) [] (lines text)
-      → Why text first page marks (refused missing-end-of-file-record 0)
-  at-line : (n : ℕ) (v : Verdict) → Window first page marks → Decided text (within first (length page)) n v → Why text first page marks v
+abbrev pub Why : (text : List ℕ) (first : ℕ) (page marks : List ℕ) → Verdict → Type 0
+Why text first page marks = reasons.Why s-records account text first page marks
 
+-- each answer has one
 abbrev pub Reasons : Type 0
-Reasons = (text : List ℕ) (first : ℕ) (page marks : List ℕ) → Why text first page marks ((load text first page marks) .answer)
+Reasons = Load-reasons s-records account
 
 -- and no other answer has one: each refusal is given exactly when its reason holds
 abbrev pub One-reason : Type 0
-One-reason = (text : List ℕ) (first : ℕ) (page marks : List ℕ) (v v′ : Verdict) → Why text first page marks v → Why text first page marks v′ → v ≡ v′
+One-reason = Load-one-reason s-records account
 
 -- the first offender of a text's n-th line stands at the place
 pub record Offends (text : List ℕ) (n place : ℕ) : Type 0 where
@@ -192,16 +173,8 @@ Load-names-the-offender =
 abbrev pub refusal-numbers : List ℕ
 refusal-numbers = 1 ∷ 2 ∷ 3 ∷ 4 ∷ 5 ∷ 6 ∷ 7 ∷ 8 ∷ 9 ∷ 13 ∷ 16 ∷ 17 ∷ 20 ∷ []
 
-abbrev pub one-of : List ℕ → ℕ → Bool
-one-of [] n = false
-one-of (x ∷ xs) n = eqb n x || one-of xs n
-
-abbrev pub Among : Verdict → Type 0
-Among (accepted tally) = Unit
-Among (refused r line) = one-of refusal-numbers (number-of r) ≡ true
-
 abbrev pub Total : Type 0
-Total = (text : List ℕ) (first : ℕ) (page marks : List ℕ) → Among ((load text first page marks) .answer)
+Total = (text : List ℕ) (first : ℕ) (page marks : List ℕ) → Among refusal-numbers ((load text first page marks) .answer)
 
 -- ---- the contract
 

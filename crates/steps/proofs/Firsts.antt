@@ -10,6 +10,7 @@ use mathlib.Core.List.{List, [], _∷_, _++_, append-assoc, append-nil, nil≢co
 use lib.ListN.{length}
 use Rattle.digits.specs.Common.{if_then_else_, Every}
 use Rattle.steps.specs.Steps.{Placement, Step, Tally, Verdict, accepted, Decision, by, outside, stated}
+use Rattle.steps.specs.Account.{Account, All-pass, all-states, Decided}
 
 -- ---- lists
 
@@ -67,20 +68,10 @@ module _ (inside : ℕ → Bool) where
 
 -- ---- the line that stops a load
 
--- what a loader says of a line after others: that it passes, that it stops a load with a verdict, and what it states; and of lines one after the other
-pub record Account : Type 1 where
-  pub passes : (ahead : List (List ℕ)) (line : List ℕ) → Type 0
-  pub all-pass : (ahead ls : List (List ℕ)) → Type 0
-  pub stops : (ahead : List (List ℕ)) (line : List ℕ) (n : ℕ) → Verdict → Type 0
-  pub states : (ahead : List (List ℕ)) (line : List ℕ) → List Placement
-  pub all-states : (ahead ls : List (List ℕ)) → List Placement
-  pub pass-none : (ahead : List (List ℕ)) → all-pass ahead []
-  pub pass-both : (ahead : List (List ℕ)) (l : List ℕ) (ls : List (List ℕ)) → passes ahead l → all-pass (ahead ++ (l ∷ [])) ls → all-pass ahead (l ∷ ls)
-  pub pass-each : (ahead : List (List ℕ)) (l : List ℕ) (ls : List (List ℕ)) → all-pass ahead (l ∷ ls) → passes ahead l × all-pass (ahead ++ (l ∷ [])) ls
-  pub states-none : (ahead : List (List ℕ)) → all-states ahead [] ≡ []
-  pub states-both : (ahead : List (List ℕ)) (l : List ℕ) (ls : List (List ℕ)) → all-states ahead (l ∷ ls) ≡ states ahead l ++ all-states (ahead ++ (l ∷ [])) ls
-  pub not-both : (ahead : List (List ℕ)) (l : List ℕ) (n : ℕ) (v : Verdict) → passes ahead l → stops ahead l n v → ⊥
-  pub one-verdict : (ahead : List (List ℕ)) (l : List ℕ) (n : ℕ) (v v′ : Verdict) → stops ahead l n v → stops ahead l n v′ → v ≡ v′
+-- what an account owes: a line that passes does not stop a load, and a line that stops one gives one verdict
+pub record Sound (a : Account) : Type 0 where
+  pub not-both : (ahead : List (List ℕ)) (l : List ℕ) (n : ℕ) (v : Verdict) → a .passes ahead l → a .stops ahead l n v → ⊥
+  pub one-verdict : (ahead : List (List ℕ)) (l : List ℕ) (n : ℕ) (v v′ : Verdict) → a .stops ahead l n v → a .stops ahead l n v′ → v ≡ v′
 
 module _ (a : Account) where
   -- of lines numbered from n on, after others, whose steps are s: line m decides, and those before it pass
@@ -90,19 +81,20 @@ module _ (a : Account) where
     pub later : List (List ℕ)
     pub whole : ls ≡ mid ++ (line ∷ later)
     pub number : m ≡ n + length mid
-    pub pass : a .all-pass ahead mid
+    pub pass : All-pass a ahead mid
     pub stops : a .stops (ahead ++ mid) line m v
-    pub states : (t : Tally) → v ≡ accepted t → stated s ≡ a .all-states ahead mid
+    pub states : (t : Tally) → v ≡ accepted t → stated s ≡ all-states (a .states) ahead mid
 
   abbrev pub Walked : (ahead : List (List ℕ)) → List Step → ℕ → List (List ℕ) → Option Decision → Type 0
-  Walked ahead s n ls none = a .all-pass ahead ls
+  Walked ahead s n ls none = All-pass a ahead ls
   Walked ahead s n ls (some (by m v)) = Found ahead s n ls m v
 
   -- a line that passes
   pub past : (ahead : List (List ℕ)) (l : List ℕ) (s s′ : List Step) (n : ℕ) (ls : List (List ℕ)) → a .passes ahead l
       → stated s ≡ a .states ahead l ++ stated s′
       → (d : Option Decision) → Walked (ahead ++ (l ∷ [])) s′ (suc n) ls d → Walked ahead s n (l ∷ ls) d
-  past ahead l s s′ n ls p e none w = a .pass-both ahead l ls p w
+  unfolding all-states
+  past ahead l s s′ n ls p e none w = (p, w)
   past ahead l s s′ n ls p e (some (by m v)) w =
       record {
         mid = l ∷ w .mid;
@@ -110,55 +102,59 @@ module _ (a : Account) where
         later = w .later;
         whole = ap (λ (x : List (List ℕ)). l ∷ x) (w .whole);
         number = omega (arith, w .number);
-        pass = a .pass-both ahead l (w .mid) p (w .pass);
+        pass = (p, w .pass);
         stops = rw append-assoc at (w .stops);
-        states = λ t h. e ∙ ap (λ (x : List Placement). a .states ahead l ++ x) (w .states t h) ∙ sym (a .states-both ahead l (w .mid));
+        states = λ t h. e ∙ ap (λ (x : List Placement). a .states ahead l ++ x) (w .states t h);
       }
 
   -- a line that decides
   pub here : (ahead : List (List ℕ)) (l : List ℕ) (s : List Step) (n : ℕ) (ls : List (List ℕ)) (v : Verdict) → a .stops ahead l n v
       → ((t : Tally) → v ≡ accepted t → stated s ≡ []) → Found ahead s n (l ∷ ls) n v
-  here ahead l s n ls v w e =
-      record {
-        mid = [];
-        line = l;
-        later = ls;
-        whole = refl;
-        number = omega arith;
-        pass = a .pass-none ahead;
-        stops = rw append-nil w;
-        states = λ t h. e t h ∙ sym (a .states-none ahead);
-      }
+  unfolding all-states
+  here ahead l s n ls v w e = record { mid = []; line = l; later = ls; whole = refl; number = omega arith; pass = tt; stops = rw append-nil w; states = e }
 
   -- ---- there is one
 
-  passes-at : (done ahead : List (List ℕ)) (line : List ℕ) (later : List (List ℕ)) → a .all-pass done (ahead ++ (line ∷ later)) → a .passes (done ++ ahead) line
-  passes-at done [] line later h = rw append-nil (a .pass-each done line later h .0)
-  passes-at done (x ∷ ahead) line later h = rw append-assoc at (passes-at (done ++ (x ∷ [])) ahead line later (a .pass-each done x (ahead ++ (line ∷ later)) h .1))
+  passes-at : (done ahead : List (List ℕ)) (line : List ℕ) (later : List (List ℕ)) → All-pass a done (ahead ++ (line ∷ later)) → a .passes (done ++ ahead) line
+  passes-at done [] line later h = rw append-nil (h .0)
+  passes-at done (x ∷ ahead) line later h = rw append-assoc at (passes-at (done ++ (x ∷ [])) ahead line later (h .1))
 
   -- two splits of the lines, each at the first that does not pass
   same-line : (done ahead ahead′ : List (List ℕ)) (line line′ : List ℕ) (later later′ : List (List ℕ)) → ahead ++ (line ∷ later) ≡ ahead′ ++ (line′ ∷ later′)
-      → a .all-pass done ahead → a .all-pass done ahead′ → ¬ a .passes (done ++ ahead) line → ¬ a .passes (done ++ ahead′) line′
+      → All-pass a done ahead → All-pass a done ahead′ → ¬ a .passes (done ++ ahead) line → ¬ a .passes (done ++ ahead′) line′
       → (ahead ≡ ahead′) × (line ≡ line′)
   same-line done [] [] line line′ later later′ e h h′ n n′ = (refl, head-eq-of-cons-eq e)
-  same-line done [] (x ∷ ahead′) line line′ later later′ e h h′ n n′ = absurd (n (rw (append-nil, head-eq-of-cons-eq e) (a .pass-each done x ahead′ h′ .0)))
-  same-line done (x ∷ ahead) [] line line′ later later′ e h h′ n n′ = absurd (n′ (rw (append-nil, ← head-eq-of-cons-eq e) (a .pass-each done x ahead h .0)))
+  same-line done [] (x ∷ ahead′) line line′ later later′ e h h′ n n′ = absurd (n (rw (append-nil, head-eq-of-cons-eq e) (h′ .0)))
+  same-line done (x ∷ ahead) [] line line′ later later′ e h h′ n n′ = absurd (n′ (rw (append-nil, ← head-eq-of-cons-eq e) (h .0)))
   same-line done (x ∷ ahead) (x′ ∷ ahead′) line line′ later later′ e h h′ n n′ =
       let q : x′ ≡ x = sym (head-eq-of-cons-eq e) in
-      let (b, l) = same-line (done ++ (x ∷ [])) ahead ahead′ line line′ later later′ (tail-eq-of-cons-eq e) (a .pass-each done x ahead h .1) (rw q at (a .pass-each done x′ ahead′ h′ .1))
+      let (b, l) = same-line (done ++ (x ∷ [])) ahead ahead′ line line′ later later′ (tail-eq-of-cons-eq e) (h .1) (rw q at (h′ .1))
       (rw append-assoc n) (rw (append-assoc, ← q) n′) in
       (cc, l)
 
-  module _ (s : List Step) (ls : List (List ℕ)) where
+  module _ (sound : Sound a) (s : List Step) (ls : List (List ℕ)) where
     stuck : {m : ℕ} {v : Verdict} (f : Found [] s 1 ls m v) → ¬ a .passes (f .mid) (f .line)
-    stuck {m} {v} f p = a .not-both (f .mid) (f .line) m v p (f .stops)
+    stuck {m} {v} f p = sound .not-both (f .mid) (f .line) m v p (f .stops)
 
     -- no line stops the load, and one does
-    pub none-found : {m : ℕ} {v : Verdict} → a .all-pass [] ls → Found [] s 1 ls m v → ⊥
+    none-found : {m : ℕ} {v : Verdict} → All-pass a [] ls → Found [] s 1 ls m v → ⊥
     none-found all f = stuck f (passes-at [] (f .mid) (f .line) (f .later) (rw (f .whole) at all))
 
-    pub one-found : {m m′ : ℕ} {v v′ : Verdict} → Found [] s 1 ls m v → Found [] s 1 ls m′ v′ → v ≡ v′
+    one-found : {m m′ : ℕ} {v v′ : Verdict} → Found [] s 1 ls m v → Found [] s 1 ls m′ v′ → v ≡ v′
     one-found {m} {m′} {v} {v′} f f′ =
         let (b, l) = same-line [] (f .mid) (f′ .mid) (f .line) (f′ .line) (f .later) (f′ .later) (sym (f .whole) ∙ f′ .whole) (f .pass) (f′ .pass) (stuck f) (stuck f′) in
         let same : m ≡ m′ = f .number ∙ ap (λ (x : List (List ℕ)). 1 + length x) b ∙ sym (f′ .number) in
-        a .one-verdict (f′ .mid) (f′ .line) m′ v v′ (rw (b, l, same) at (f .stops)) (f′ .stops)
+        sound .one-verdict (f′ .mid) (f′ .line) m′ v v′ (rw (b, l, same) at (f .stops)) (f′ .stops)
+
+    found : {m : ℕ} {v : Verdict} → Decided a ls (stated s) m v → Found [] s 1 ls m v
+    found d = record { mid = d .ahead; line = d .line; later = d .later; whole = d .whole; number = omega (arith, d .number); pass = d .pass; stops = d .stops; states = d .stated }
+
+    -- the same of a line that is decided
+    pub none-decided : {m : ℕ} {v : Verdict} → All-pass a [] ls → Decided a ls (stated s) m v → ⊥
+    none-decided all d = none-found all (found d)
+
+    pub one-decided : {m m′ : ℕ} {v v′ : Verdict} → Decided a ls (stated s) m v → Decided a ls (stated s) m′ v′ → v ≡ v′
+    one-decided d d′ = one-found (found d) (found d′)
+
+  pub as-decided : (s : List Step) (ls : List (List ℕ)) (m : ℕ) (v : Verdict) → Found [] s 1 ls m v → Decided a ls (stated s) m v
+  as-decided s ls m v f = record { ahead = f .mid; line = f .line; later = f .later; whole = f .whole; number = omega (arith, f .number); pass = f .pass; stops = f .stops; stated = f .states }

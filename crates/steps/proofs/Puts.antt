@@ -18,9 +18,10 @@ use Rattle.digits.specs.Common.{if_then_else_, or-else}
 use Rattle.steps.specs.Steps.{Placement}
 use Rattle.steps.specs.Sites.{last-at, mark}
 use Rattle.steps.specs.Runs.{spread}
+use Rattle.steps.specs.Account.{Account, All-pass, all-states}
 use Rattle.steps.specs.Puts.{Last-put, Owed-put, First-out}
 use Rattle.steps.proofs.Places.{last-append}
-use Rattle.steps.proofs.Firsts.{All-inside, not-empty, Account}
+use Rattle.steps.proofs.Firsts.{All-inside, not-empty}
 
 -- ---- one record
 
@@ -91,13 +92,12 @@ abbrev pub laid-states : Option Laid → List Placement
 laid-states none = []
 laid-states (some x) = spread (x .at) 0 (x .bytes)
 
--- what a line after others holds, and what lines state one after the other
+-- what a line after others holds, and what it states
 pub record Holding : Type 0 where
   pub holds : (ahead : List (List ℕ)) (line : List ℕ) → Option Laid
-  pub all-states : (ahead ls : List (List ℕ)) → List Placement
+  pub states : (ahead : List (List ℕ)) (line : List ℕ) → List Placement
   pub empty-none : (ahead : List (List ℕ)) → holds ahead [] ≡ none
-  pub states-none : (ahead : List (List ℕ)) → all-states ahead [] ≡ []
-  pub states-both : (ahead : List (List ℕ)) (l : List ℕ) (ls : List (List ℕ)) → all-states ahead (l ∷ ls) ≡ laid-states (holds ahead l) ++ all-states (ahead ++ (l ∷ [])) ls
+  pub same : (ahead : List (List ℕ)) (line : List ℕ) → states ahead line ≡ laid-states (holds ahead line)
 
 module _ (h : Holding) where
   -- byte i of line n lies at the address, where the lines stand after others
@@ -178,12 +178,13 @@ module _ (h : Holding) where
           nothing zero j c q = f j c q
           nothing (suc n) j c q = g n j c (down n j c q)
 
-    pub among : (ahead ls : List (List ℕ)) → Among ahead ls (last-at a (h .all-states ahead ls))
-    unfolding last-at
-    among ahead [] = rw (h .states-none ahead) (λ n i b p. no-lines ahead a n i b p)
+    pub among : (ahead ls : List (List ℕ)) → Among ahead ls (last-at a (all-states (h .states) ahead ls))
+    unfolding last-at all-states
+    among ahead [] = λ n i b p. no-lines ahead a n i b p
     among ahead (l ∷ ls) =
-        rw (h .states-both ahead l ls, last-append a (laid-states (h .holds ahead l)) (h .all-states (ahead ++ (l ∷ [])) ls))
-        (both ahead l ls (last-at a (laid-states (h .holds ahead l))) (last-at a (h .all-states (ahead ++ (l ∷ [])) ls)) (on-first ahead l ls) (among (ahead ++ (l ∷ [])) ls))
+        let later = all-states (h .states) (ahead ++ (l ∷ [])) ls in
+        rw (h .same ahead l, last-append a (laid-states (h .holds ahead l)) later)
+        (both ahead l ls (last-at a (laid-states (h .holds ahead l))) (last-at a later) (on-first ahead l ls) (among (ahead ++ (l ∷ [])) ls))
 
   -- ---- what is owed to a place
 
@@ -206,8 +207,8 @@ module _ (h : Holding) where
           unmarked-keeps = λ e. absurd (omega arith);
         }
 
-    pub owed-put : let o = last-at a (h .all-states [] ls) in Owed-put P old (mark o) (Option·getD o old)
-    owed-put = owed-for (last-at a (h .all-states [] ls)) (among a [] ls)
+    pub owed-put : let o = last-at a (all-states (h .states) [] ls) in Owed-put P old (mark o) (Option·getD o old)
+    owed-put = owed-for (last-at a (all-states (h .states) [] ls)) (among a [] ls)
 
   -- ---- inside and outside
 
@@ -220,12 +221,12 @@ module _ (h : Holding) where
         rw (← q) (first-inside (p .laid .at) inside 0 (p .laid .bytes) ps [] (sym (append-nil ps)) (rw e at (lie ahead l x)) i (rw (length-spread (p .laid .at) 0 (p .laid .bytes)) k))
 
     -- each byte of lines that pass lies inside
-    pub all-inside : (ahead ls : List (List ℕ)) → w .all-pass ahead ls → (n i a b : ℕ) → Puts-after ahead ls a n i b → inside a ≡ true
+    pub all-inside : (ahead ls : List (List ℕ)) → All-pass w ahead ls → (n i a b : ℕ) → Puts-after ahead ls a n i b → inside a ≡ true
     all-inside ahead [] x n i a b p = absurd (no-lines ahead a n i b p)
-    all-inside ahead (l ∷ ls) x zero i a b p = line-inside ahead l ls (w .pass-each ahead l ls x .0) i a b p
-    all-inside ahead (l ∷ ls) x (suc n) i a b p = all-inside (ahead ++ (l ∷ [])) ls (w .pass-each ahead l ls x .1) n i a b (down a ahead l ls n i b p)
+    all-inside ahead (l ∷ ls) x zero i a b p = line-inside ahead l ls (x .0) i a b p
+    all-inside ahead (l ∷ ls) x (suc n) i a b p = all-inside (ahead ++ (l ∷ [])) ls (x .1) n i a b (down a ahead l ls n i b p)
 
-    module _ (ahead : List (List ℕ)) (line : List ℕ) (later : List (List ℕ)) (pass : w .all-pass [] ahead) (before after : List Placement) (p : Placement)
+    module _ (ahead : List (List ℕ)) (line : List ℕ) (later : List (List ℕ)) (pass : All-pass w [] ahead) (before after : List Placement) (p : Placement)
         (first : All-inside inside before) (out : inside (p .address) ≡ false) where
       abbrev all : List (List ℕ)
       all = ahead ++ (line ∷ later)
@@ -261,8 +262,8 @@ module _ (h : Holding) where
             let is : x .at (0 + j) ≡ a = rw (zero-add j, ← same) (q .lies) in
             rw (← is) (first-inside (x .at) inside 0 (x .bytes) before (p ∷ after) s first j l)
 
-      pub first-out : laid-states (h .holds ahead line) ≡ before ++ (p ∷ after) → First-out inside (λ n i a b. Puts-after [] all a n i b) (p .address) (suc (length ahead))
-      first-out = go (h .holds ahead line) refl
+      pub first-out : h .states ahead line ≡ before ++ (p ∷ after) → First-out inside (λ n i a b. Puts-after [] all a n i b) (p .address) (suc (length ahead))
+      first-out s = go (h .holds ahead line) refl (sym (h .same ahead line) ∙ s)
         where
           go : (o : Option Laid) → h .holds ahead line ≡ o → laid-states o ≡ before ++ (p ∷ after) → First-out inside (λ n i a b. Puts-after [] all a n i b) (p .address) (suc (length ahead))
           go none e s = absurd (not-empty before p after s)

@@ -6,3 +6,4 @@ pub mod Packed
 pub mod Runs
 pub mod Join
 pub mod Puts
+pub mod Account

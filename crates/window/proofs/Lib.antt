@@ -5,3 +5,4 @@ pub mod Claims
 pub mod Spread
 pub mod Loads
 pub mod AsBytes
+pub mod Reasons

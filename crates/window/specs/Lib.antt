@@ -3,3 +3,4 @@ pub mod Contracts
 pub mod Claims
 pub mod Load
 pub mod Loads
+pub mod Reasons
