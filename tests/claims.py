@@ -5,7 +5,8 @@ In a cell of a table of docs/CLAIMS.md each file in backquotes is there, and eac
 that file, outside its comments. A claim is a name of a crate's specs/ that is a statement by itself: `abbrev pub X : Type n`,
 or a record without parameters each of whose fields is a statement. It stands in docs/CLAIMS.md after its file, and has a proof of exactly its type: `pub x : X` in the
 crate's proofs/, in a file that has X from the file of specs/ that states it. That the proof holds is the check's to say.
-Files and names of docs/GLOSSARY.md are looked up in the same way."""
+Files and names of docs/GLOSSARY.md are looked up in the same way. Each edit of a must-fail folder has a line that stands once in
+the file that it changes, and a row in docs/CLAIMS.md."""
 import pathlib
 import re
 import sys
@@ -65,6 +66,7 @@ def finds_what_is_wrong():
     wrong = [use + 'pub holds : ℕ → Holds\n', use.replace('.B.', '.C.') + lemma, use + 'abbrev Holds : Type 0\n' + lemma, use + '-- ' + lemma]
     return (list(claims(spec)) == ['Holds', 'Examples'] and proves(use + lemma, 'a', 'B', 'Holds')
             and not any(proves(text, 'a', 'B', 'Holds') for text in wrong)
+            and times('file: f\nold:   x = 1\nnew:   x = 2\n', 'x = 1\n  x = 1\n') == 1
             and list(names('| `x` | `crates/a` `y` |\n`z`')) == [(1, 'crates/a', 'crates/a'), (1, 'crates/a', 'y')])
 
 
@@ -79,17 +81,34 @@ def unproved(listed):
                                     *([] if (file, claim) in listed else ['is not in docs/CLAIMS.md'])]
 
 
+def times(edit, text):
+    """How often the line that an edit changes stands in the text of its file."""
+    return text.count(re.search(r'(?m)^old: (.*)$', edit)[1])
+
+
+def edits(listed):
+    """Each edit, with what it lacks."""
+    for path in sorted((repo / 'crates').glob('*/must-fail/*.edit')):
+        file, edit = str(path.relative_to(repo)), path.read_text(encoding='utf-8')
+        changed = path.parent.parent / re.search(r'(?m)^file: (.*)$', edit)[1]
+        there = times(edit, changed.read_text(encoding='utf-8')) if changed.is_file() else 0
+        yield file, [*([] if there == 1 else ['changes a line that stands %d times in its file' % there]),
+                     *([] if (file, file) in listed else ['is not in docs/CLAIMS.md'])]
+
+
 def main():
     tables = {doc: list(names((repo / doc).read_text(encoding='utf-8'))) for doc in ('docs/CLAIMS.md', 'docs/GLOSSARY.md')}
     table = tables['docs/CLAIMS.md']
     missing = ['%s:%d: %s' % (doc, line, name) for doc in tables for line, file, name in tables[doc] if not stands(file, name)]
-    found = list(unproved({(file, name) for _, file, name in table}))
+    listed = {(file, name) for _, file, name in table}
+    found, changes = list(unproved(listed)), list(edits(listed))
     missing += ['%s: %s %s' % (file, claim, why) for file, claim, lacking in found for why in lacking]
-    print('\n'.join([*missing, '%d names, %d claims, %d things missing' % (len(table), len(found), len(missing))]))
+    missing += ['%s %s' % (file, why) for file, lacking in changes for why in lacking]
+    print('\n'.join([*missing, '%d names, %d claims, %d edits, %d things missing' % (len(table), len(found), len(changes), len(missing))]))
     sees = finds_what_is_wrong()
     if not sees:
         print('this test does not find what is wrong in its own samples')
-    sys.exit(bool(missing) or not all(tables.values()) or not found or not sees)
+    sys.exit(bool(missing) or not all(tables.values()) or not found or not changes or not sees)
 
 
 main()
