@@ -69,6 +69,7 @@ extern "C" {
 #define IHEX_CARRY_TOO_SMALL 18             /* a carry under IHEX_CARRY bytes, or a state that counts more than that used */
 #define IHEX_BAD_MARK 19                    /* a page to be written; value: the place of the lowest unused bit of its marks that is set */
 #define IHEX_COUNT_MISMATCH 20              /* an S5; a: the count that it states; b: how many data records the text has before it */
+#define IHEX_START_CONFLICT 21              /* a type 03 or 05 that states another start than the first that the text states */
 #define IHEX_ADDRESS_TOO_WIDE 25            /* an S-record to be written; its address needs more bytes than its type has */
 
 /* The flags of a state. The other bits are not read, and are 0 at exit; ihex_next has the first three only. */
@@ -95,6 +96,9 @@ extern "C" {
 #define IHEX_NOWHERE 0  /* no record was given */
 #define IHEX_IN_CHUNK 1 /* len bytes of the chunk, from `from` on */
 #define IHEX_IN_CARRY 2 /* the carry's first len bytes; from is 0 */
+
+/* What an accepted load says of the start address: `start`. It is this, IHEX_START_SEGMENT_ADDRESS or IHEX_START_LINEAR_ADDRESS. */
+#define IHEX_NO_START 0 /* the text states none */
 
 /* A page has at most so many places, its marks at most so many bytes, and its file at most so many bytes: 7 for each place, and 58. */
 #define IHEX_MAX_PAGE 65536
@@ -222,8 +226,16 @@ uint32_t ihex_create_object_file_representation(const void *list, size_t list_le
                                                 uint64_t *value);
 
 /* Loads a text, both stops on, into a page from the address `first` on. Returns 0 and counts data records in a; or IHEX_REFUSED and 16; or the
- * refusal of the first line that is refused, 1 to 9 or 17, with that line's number in line (else 0); or 13, if no line is refused and none is the
- * end record. The refusal's values are in a and b.
+ * refusal of the first line that is refused, 1 to 9, 17 or 21, with that line's number in line (else 0); or 13, if no line is refused and none is
+ * the end record. The refusal's values are in a and b.
+ * After an accepted load `start` is the kind of start that the text states, with its values in b and c:
+ *
+ *   IHEX_NO_START               none; b and c are 0
+ *   IHEX_START_SEGMENT_ADDRESS  by a type 03; b: CS; c: IP
+ *   IHEX_START_LINEAR_ADDRESS   by a type 05; b: the address; c is 0
+ *
+ * The same start may be stated more than once. A start that differs from the first is refusal 21 at its line. Starts are compared as they are
+ * stated: a type 03 and a type 05 always differ, and so do 1000:0000 and 0FFF:0010. After a refusal start and c are 0.
  * A line ends at an LF, and one CR directly before the LF is not part of it. A last line without LF counts. Empty lines are skipped, but
  * counted: line numbers start at 1.
  * marks_len is IHEX_MARKS(page_len); what the marks held before does not matter. After an accepted load a place is marked exactly if the
@@ -234,17 +246,18 @@ uint32_t ihex_create_object_file_representation(const void *list, size_t list_le
  * (base + offset + i) modulo 2^32.
  * One dump upon another: the joined text of A and B is the bytes of A before the line of its end record, the line :020000020000FC with one
  * LF, and B. A's end record is the first line that the reader takes for one. In one window, let A be accepted. The joined text is accepted
- * exactly when B is, and the counts of data records add; else it is refused as B is, at B's line plus the lines of A before its end record
- * plus 1 (13 keeps 0). If both are accepted, loading A and then B leaves the page that the joined text leaves on the same old page, and the
- * marks of the joined text are the union of the marks of both loads.
+ * exactly when B is, unless both state a start and the two differ. Where it is accepted, the counts of data records add, and its start is A's,
+ * or B's if A states none; loading A and then B leaves the page that the joined text leaves on the same old page, and the marks of the joined
+ * text are the union of the marks of both loads. Else it is refused as B is, at B's line plus the lines of A before its end record plus 1 (13
+ * keeps 0). But if B states a start that differs from A's, before any line at which B is refused, that is 21 at that start's line, moved so too.
  * Noise: let a text be accepted, and then be damaged in one of these ways. One byte is changed, lost or added, or two neighbours are
  * swapped. It is cut off after any byte. Each line has at most one such slip, and every LF stays as it is. The load of the damaged text
- * into the same window is refused, or it is the very same load: what is returned, page and marks. Other damage can go unnoticed: two wrong
- * characters in one line can cancel each other, and a line that is lost whole can leave no trace. */
+ * into the same window is refused, or it is the very same load: what is returned, start, page and marks. Other damage can go unnoticed: two
+ * wrong characters in one line can cancel each other, and a line that is lost whole can leave no trace. */
 uint32_t ihex_load(const uint8_t *text, size_t text_len, uint32_t first,
                    uint8_t *page, size_t page_len,
                    uint8_t *marks, size_t marks_len,
-                   size_t *line, uint64_t *a, uint64_t *b);
+                   size_t *line, uint8_t *start, uint64_t *a, uint64_t *b, uint64_t *c);
 
 /* How long the file is that ihex_write_page writes: returns 0 and its length as the value, or IHEX_REFUSED and the first of 16, 19 that
  * holds, with the value of 19; the value of 16 is 0. Of the page only the length counts. The unused bits of the marks must be 0: for 3
@@ -260,7 +273,7 @@ uint32_t ihex_page_file_length(uint32_t first,
  * run's start and afresh at each multiple of 65,536, where a record is cut too. A type 04 record stands before the first data record
  * and wherever the upper 16 bits of the address change; the end record is last, and stands alone where no place is marked. One LF
  * follows each line. Bytes of places without a mark do not matter. Loaded by ihex_load with the same `first` and lengths, the file
- * gives the same marks and the same bytes at them. */
+ * gives the same marks and the same bytes at them, and IHEX_NO_START: a page has no start. */
 uint32_t ihex_write_page(uint32_t first,
                          const uint8_t *page, size_t page_len,
                          const uint8_t *marks, size_t marks_len,
@@ -323,7 +336,8 @@ uint32_t ihex_to_srecord_string(uint8_t type, uint32_t address, size_t at, size_
 /* Loads a text of S-records into a page from the address `first` on, as ihex_load does a text of Intel HEX: line ends, empty lines and line
  * numbers, page, marks and their lengths are as there. Returns 0 and counts data records (S1 to S3) in a; or IHEX_REFUSED and 16; or the
  * refusal of the first line that is refused, 1 to 9, 17 or 20, with that line's number in line (else 0); or 13, if no line is refused and none
- * is an end. The refusal's values are in a and b.
+ * is an end. The refusal's values are in a and b. The address of the end is the start: after an accepted load start is
+ * IHEX_START_LINEAR_ADDRESS, b the address and c 0. So S9030000FC states the start 0, and 21 is not given. After a refusal start and c are 0.
  * Byte i of a data record lies at (address + i) modulo 2^32. There are no segments: S105FFFFAABB97 puts AA at FFFF and BB at 10000.
  * An S0 places nothing and is not counted. An S5 may stand anywhere, and more than once. It is compared with all data records before it, those
  * without data too, and not modulo 65,536: after 65,536 data records S5030000FC is refusal 20 with a = 0 and b = 65,536.
@@ -337,7 +351,7 @@ uint32_t ihex_to_srecord_string(uint8_t type, uint32_t address, size_t at, size_
 uint32_t ihex_load_srecords(const uint8_t *text, size_t text_len, uint32_t first,
                             uint8_t *page, size_t page_len,
                             uint8_t *marks, size_t marks_len,
-                            size_t *line, uint64_t *a, uint64_t *b);
+                            size_t *line, uint8_t *start, uint64_t *a, uint64_t *b, uint64_t *c);
 
 #ifdef __cplusplus
 }

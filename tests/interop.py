@@ -6,7 +6,8 @@ to the same bytes as the tool's own binary, and lines of ihex_to_srecord_string 
 
 Each page is one test for each reader and one for each writer. Each must have exactly the marked places, with their bytes. Each pair of
 dumps is two tests for each tool that merges, and one for ihex_load; two more for each tool see that it is given pairs enough. Each page of
-S-records is a test for each form that a tool writes, two for each type that it can read, and for each type one of a plain reader. Files that
+S-records is a test for each form that a tool writes, two for each type that it can read, and for each type one of a plain reader. Each start
+is one test for each tool that has a form for it: intelhex says what it is, the others turn it into the end of S-records and back. Files that
 a tool does not take, and tools that are not there, are passed over and count nothing; a line that begins with '-- passed over:' names
 each. The last line is 'N passed, M failed'.
 """
@@ -17,7 +18,7 @@ import sys
 
 import model
 from model import packed, unpacked
-from peers import Refused, of_srecords, run, there
+from peers import Refused, of_srecords, run, srecord, there
 from programs import end, told
 
 PAGE = 65536
@@ -120,10 +121,10 @@ def loaded(first, n, text, by='load'):
     return stated(Case('', first, both[:n], marks))
 
 
-def compare(name, places, gives):
-    """One test: what is given states these places, and nothing else. Whatever a tool raises is a failure."""
+def compare(name, wanted, gives, other='other places or bytes'):
+    """One test: what is given is what is wanted, these places and nothing else. Whatever a tool raises is a failure."""
     try:
-        same, why = gives() == places, 'other places or bytes'
+        same, why = gives() == wanted, other
     except Exception as error:
         same, why = False, str(error)
     told(name, same, why)
@@ -149,12 +150,12 @@ Loaded = collections.namedtuple('Loaded', 'text places')
 
 # A pair of dumps with their joined text, and the window that they are loaded into: its first address and how many places it has.
 Pair = collections.namedtuple('Pair', 'number first length a b joined')
-NUMBERS = range(0, 200, 2)
+NUMBERS = [number for number in range(0, 400, 2) if number % 8 != 6]
 
 # What a tool refuses, or takes otherwise than Intel's rule, of a dump that ihex_load accepts. For srec_cat the latest start record decides
 # where a record across offset FFFF goes on: after a type 03 in its segment, after a type 05 beyond it. GNU objcopy merges no files.
 NO_DATA = 'a dump without a byte'
-ADDRESS = 'an extension record with an address'
+ADDRESS = 'an extension record or a start record with an address'
 ACROSS_FIRST = 'a record across offset FFFF before any extension record'
 ACROSS_SEGMENT = 'a record across the end of a segment'
 ACROSS_AFTER_START = 'a record across offset FFFF after a start record'
@@ -217,10 +218,11 @@ def oddities(text):
     for kind, address, payload in records(text):
         if kind == 0:
             found |= across(latest, is_after_start) if address + len(payload) > PAGE else set()
-        elif kind in (2, 4):
-            latest, is_after_start = kind, False
-            found |= {ADDRESS} if address else set()
         else:
+            found |= {ADDRESS} if address else set()
+        if kind in (2, 4):
+            latest, is_after_start = kind, False
+        elif kind in (3, 5):
             starts, is_after_start = starts + 1, True
     odd = (NO_DATA, not bytes_at), (TWO_STARTS, starts > 1), (STATED_TWICE, len(set(bytes_at)) < len(bytes_at))
     return found | {name for name, holds in odd if holds}
@@ -326,6 +328,49 @@ def compare_ends(tool):
     refused_with('%s, a file that lost a line' % tool.name, 0, 20, ''.join(lines), 20)
 
 
+# ---- starts
+
+# Starts as ihex_load returns them: the kind and two values.
+STARTS = [(3, 0x1000, 0), (3, 0xFFF, 0x10), (3, 0, 0x1234), (3, 0xFFFF, 1), (3, 0xF000, 0xFFFF), (5, 1, 0), (5, 0x1234, 0), (5, 0xABCDE, 0),
+          (5, 0xFFFFF, 0), (5, 0x100000, 0), (5, 0x1234567, 0), (5, 0x80000000, 0), (5, 0xFFFFFFFF, 0)]
+ZEROS = [(3, 0, 0), (5, 0, 0)]
+OTHER = 'another start'
+
+
+def started(start):
+    """A text of one byte and a start, if it is one."""
+    kind, x, y = start
+    payload = x.to_bytes(2, 'big') + y.to_bytes(2, 'big') if kind == 3 else x.to_bytes(4, 'big')
+    lines = [model.record(0, 0, b'\x11')] + [model.record(kind, 0, payload)] * (kind > 0) + [model.record(1, 0, b''), '']
+    return '\n'.join(lines)
+
+
+def start_of(text, by='start'):
+    return tuple(int(word, 16) for word in run(PAGEFILE + [by, '0', '1'], text.encode('latin-1')).split())
+
+
+def linear(start):
+    """The linear address of a start, as these tools take CS with IP."""
+    kind, x, y = start
+    return 16 * x + y if kind == 3 else x
+
+
+def compare_starts(tools):
+    for start in STARTS + ZEROS + [(0, 0, 0)]:
+        compare('start %d %X %X' % start, start, lambda: start_of(started(start)), OTHER)
+    for tool in tools:
+        if hasattr(tool, 'start'):
+            for start in STARTS + ZEROS + [(0, 0, 0)]:
+                compare('%s reads, start %d %X %X' % (tool.name, *start), start, lambda: tool.start(started(start)), OTHER)
+        if hasattr(tool, 'to_srecords'):
+            for start in STARTS + ZEROS * tool.states_zero:
+                text, address = started(start), linear(start)
+                compare('%s writes S-records, start %d %X %X' % (tool.name, *start), (5, address, 0),
+                        lambda: start_of(tool.to_srecords(text), 'start-srecords'), OTHER)
+                compare('%s writes from S-records, start %X' % (tool.name, address), address,
+                        lambda: linear(start_of(tool.of_srecords(srecord(0, 0) + srecord(3, 0, b'\x11') + srecord(7, address)))), OTHER)
+
+
 def main():
     tools, pairs = there(), [pair(number) for number in NUMBERS]
     for tool in tools:
@@ -339,6 +384,7 @@ def main():
     for tool in of_srecords_too:
         if hasattr(tool, 'START'):
             compare_ends(tool)
+    compare_starts(tools)
     told('a tool could be had', bool(tools), 'none of the three')
     end()
 

@@ -108,19 +108,23 @@ def load(text, first, page_size, marks_size):
     untouched = bytes([PAGE]) * page_size, bytes([MARKS]) * marks_size
     if marks_size != (page_size + 7) // 8 or page_size > 65536 or first + page_size > 2**32:
         return "! 16 @0", *untouched
-    latest, data, stated = ("X2", 0), 0, {}
+    latest, data, start, stated = ("X2", 0), 0, "", {}
     for number, row in enumerate(lines_of(text), 1):
         if not row:
             continue
         told, payload = judge(row, bytes(255), 0)
         if told == "E":
             page = bytes(stated.get(first + i, PAGE) for i in range(page_size))
-            return f"A {data:X}", page, packed([first + i in stated for i in range(page_size)])
+            return f"A {data:X} {start}".rstrip(), page, packed([first + i in stated for i in range(page_size)])
         if told.startswith("!"):
             return f"{told} @{number:X}", *untouched
         kind, value, *rest = told.split()
         if kind in ("X2", "X4"):
             latest = kind, int(value, 16)
+        if kind in ("X3", "X5"):
+            if start not in ("", told):
+                return f"! 21 @{number:X}", *untouched
+            start = told
         if kind == "D":
             data += 1
             for i in range(int(rest[1], 16)):
@@ -807,13 +811,15 @@ def of_addresses():
 # A record of two bytes across offset FFFF, and start records of both types.
 OVER = ":02FFFF00AABB9B"
 STARTS = record(3, 0, b"\x12\x34\x56\x78"), record(5, 0, b"\x00\x01\x00\x00")
+# What is told of each.
+STARTS_SAID = "X3 12345678", "X5 00010000"
 
 
 def of_segments():
     heading("loads: a record across FFFF, with no extension record and in segment 0")
-    for ahead in ((), (record(2, 0, b"\x00\x00"),), STARTS):
+    for ahead, said in (((), ""), ((record(2, 0, b"\x00\x00"),), ""), ((STARTS[0],) * 2, STARTS_SAID[0]), ((STARTS[1],) * 2, STARTS_SAID[1])):
         over, line = ended(*ahead, OVER, END), len(ahead) + 1
-        load_case(over, "A 1", 0, 65536, places={0xFFFF: 0xAA, 0: 0xBB})
+        load_case(over, f"A 1 {said}".rstrip(), 0, 65536, places={0xFFFF: 0xAA, 0: 0xBB})
         load_case(over, f"! 17 00000000 @{line}", 0xFFFF, 2)
         load_case(over, f"! 17 00000000 @{line}", 0xFFF8, 16)
         load_case(over, f"! 17 00000000 @{line}", 1, 65535)
@@ -899,23 +905,23 @@ def of_wraps():
 
 def of_wraps_behind_starts():
     heading("loads: across FFFF behind a start record, by the rule of the extension record ahead of it")
-    for start in STARTS:
+    for start, said in zip(STARTS, STARTS_SAID):
         over = ended(SEGMENT, start, OVER, END)
-        load_case(over, "A 1", 0x12340, 65536, places={0xFFFF: 0xAA, 0: 0xBB})
+        load_case(over, f"A 1 {said}", 0x12340, 65536, places={0xFFFF: 0xAA, 0: 0xBB})
         load_case(over, "! 17 00012340 @3", 0x2233F, 2)
         load_case(over, "! 17 0002233F @3", 0, 65536)
         load_case(over, "! 17 0002233F @3", 0xFFFF, 2)
         over = ended(LINEAR, start, OVER, END)
-        load_case(over, "A 1", 0x1FFFF, 2, places={0: 0xAA, 1: 0xBB})
+        load_case(over, f"A 1 {said}", 0x1FFFF, 2, places={0: 0xAA, 1: 0xBB})
         load_case(over, "! 17 00020000 @3", 0x10000, 65536)
         load_case(over, "! 17 0001FFFF @3", 0x10, 65536)
         load_case(over, "! 17 0001FFFF @3", 0, 65536)
         load_case(over, "! 17 0001FFFF @3", 0xFFFF, 2)
         over = ended(record(4, 0, b"\x00\x00"), start, OVER, END)
-        load_case(over, "A 1", 0xFFFF, 2, places={0: 0xAA, 1: 0xBB})
+        load_case(over, f"A 1 {said}", 0xFFFF, 2, places={0: 0xAA, 1: 0xBB})
         load_case(over, "! 17 00010000 @3", 0, 65536)
-        load_case(ended(LINEAR, SEGMENT, start, OVER, END), "A 1", 0x12340, 65536, places={0xFFFF: 0xAA, 0: 0xBB})
-        load_case(ended(SEGMENT, LINEAR, start, OVER, END), "A 1", 0x1FFFF, 2, places={0: 0xAA, 1: 0xBB})
+        load_case(ended(LINEAR, SEGMENT, start, OVER, END), f"A 1 {said}", 0x12340, 65536, places={0xFFFF: 0xAA, 0: 0xBB})
+        load_case(ended(SEGMENT, LINEAR, start, OVER, END), f"A 1 {said}", 0x1FFFF, 2, places={0: 0xAA, 1: 0xBB})
 
 
 def of_windows():
@@ -988,11 +994,11 @@ def of_bases():
     load_case(ended(record(2, 0, b"\xFF\xFF"), record(0, 0xFFFF, b"\x77"), END), "A 1", 0x10FFE8, places={7: 0x77})
     load_case(ended(ONE, LINEAR, record(0, 0, b"\x55"), END), "! 17 00010000 @3", 0)
     load_case(ended(record(0, 0xFFFF, b"\x11"), LINEAR, record(0, 0, b"\x22"), END), "A 2", 0xFFFC, places={3: 0x11, 4: 0x22})
-    load_case(ended(STARTS[0], ONE, STARTS[1], record(0, 3, b"\x66"), END), "A 2", places={2: 0x77, 3: 0x66})
-    for start in STARTS:
-        load_case(ended(SEGMENT, start, ONE, END), "A 1", 0x12340, places={2: 0x77})
+    for start, said in zip(STARTS, STARTS_SAID):
+        load_case(ended(start, ONE, start, record(0, 3, b"\x66"), END), f"A 2 {said}", places={2: 0x77, 3: 0x66})
+        load_case(ended(SEGMENT, start, ONE, END), f"A 1 {said}", 0x12340, places={2: 0x77})
         load_case(ended(SEGMENT, start, ONE, END), "! 17 00012342 @3", 0)
-        load_case(ended(LINEAR, start, ONE, END), "A 1", 0x10000, places={2: 0x77})
+        load_case(ended(LINEAR, start, ONE, END), f"A 1 {said}", 0x10000, places={2: 0x77})
         load_case(ended(LINEAR, start, ONE, END), "! 17 00010002 @3", 0)
         load_case(ended(LINEAR, start, ONE, END), "! 17 00010002 @3", 0x10)
     load_case(ended(SEGMENT, ONE, OTHER_SEGMENT, ONE, END), "A 2", 0x12000, 1024, places={0x342: 0x77, 2: 0x77})
@@ -1002,6 +1008,55 @@ def of_bases():
     load_case(ended(LINEAR, OTHER_LINEAR, ONE, END), "! 17 00020002 @3", 0x10000)
     load_case(ended(LINEAR, OTHER_LINEAR, ONE, END), "! 17 00020002 @3", 0x30000)
     load_case(ended(record(2, 0x1234, b"\x00\x00"), record(4, 5, b"\x00\x00"), ONE, ":00123401B9"), "A 1", places={2: 0x77})
+
+
+# Starts that differ in one point each: CS and IP, another CS with the same address, and that address; the same digits as a linear address; 0 by
+# both types; and two linear addresses that differ in one digit.
+FAR, NEAR, FLAT = (record(kind, 0, bytes.fromhex(number)) for kind, number in ((3, "10000000"), (3, "0FFF0010"), (5, "00010000")))
+DIGITS, ZERO, FLAT_ZERO = (record(kind, 0, bytes.fromhex(number)) for kind, number in ((5, "10000000"), (3, "00000000"), (5, "00000000")))
+LETTERS, OTHER_LETTERS = (record(5, 0, bytes.fromhex(number)) for number in ("ABCDEF12", "ABCDEF02"))
+ALL_STARTS = FAR, NEAR, FLAT, DIGITS, ZERO, FLAT_ZERO, LETTERS, OTHER_LETTERS
+
+
+def said_of(start):
+    return told_other(*read(start.encode())[1][::2])
+
+
+def of_starts():
+    heading("loads: none, one of each type, and the same twice, in either case and with any address field")
+    load_case(ended(ONE, END), "A 1", places={2: 0x77})
+    load_case(ended(":0400000310000000E9", END), "A 0 X3 10000000", places={})
+    load_case(ended(":04000005000000CD2A", END), "A 0 X5 000000CD", places={})
+    for start in ALL_STARTS:
+        said = said_of(start)
+        load_case(ended(start, ONE, END), f"A 1 {said}", places={2: 0x77})
+        load_case(ended(ONE, start, END, end="\r\n"), f"A 1 {said}", places={2: 0x77})
+        load_case(ended(start, start.lower(), "", start, END), f"A 0 {said}", places={})
+        load_case(ended(start.lower(), ONE, start, END), f"A 1 {said}", places={2: 0x77})
+        load_case(ended(start, record(int(said[1]), 0xFACE, bytes.fromhex(said[3:])), END), f"A 0 {said}", places={})
+    heading("loads: each two of these starts, which differ")
+    for first in ALL_STARTS:
+        for second in ALL_STARTS:
+            if first != second:
+                load_case(ended(first, second, END), "! 21 @2")
+    load_case(ended(FAR, FAR, NEAR, END), "! 21 @3")
+    load_case(ended(FAR, "", ONE, FAR, "", NEAR, FAR), "! 21 @6")
+    load_case(ended(ONE, LETTERS, OTHER_LETTERS.lower(), END), "! 21 @3")
+    heading("loads: starts after the end record, and without one")
+    load_case(ended(END, FAR), "A 0", places={})
+    load_case(ended(FAR, END, NEAR), "A 0 X3 10000000", places={})
+    load_case(ended(ONE, END, FLAT, FAR), "A 1", places={2: 0x77})
+    load_case(ended(FAR, FAR), "! 13 @0")
+    load_case(ended(FAR, NEAR), "! 21 @2")
+    load_case(FAR + "\n" + NEAR, "! 21 @2")
+    heading("loads: refusal 21 and others, in the order of the text")
+    outside = record(0, 8, b"\x77")
+    for first, second in ((FAR, NEAR), (FLAT, FAR), (ZERO, FLAT_ZERO)):
+        for line, said in ((outside, "! 17 00000008"), *zip(BAD, BAD_SAID)):
+            load_case(ended(first, second, line, END), "! 21 @2")
+            load_case(ended(first, line, second, END), f"{said} @2")
+            load_case(ended(line, first, second, END), f"{said} @1")
+    load_case(ended(ONE, FAR, NEAR, END), "! 16 @0", 0, 8, 2)
 
 
 def of_records_over_one_another():
@@ -1137,6 +1192,7 @@ def make_all():
     of_packed_marks()
     of_records_half_inside()
     of_bases()
+    of_starts()
     of_records_over_one_another()
     of_refused_loads()
     of_places_in_loads()
@@ -1152,7 +1208,7 @@ def hold_to_every_answer():
         told[c[0]].update(part.split(" |")[0] for part in a.split("; "))
     kinds = ["D", "E", "X2", "X3", "X4", "X5"]
     for form, wanted in (("L", [*kinds, *range(1, 11)]), ("T", [*kinds, "done", *range(1, 11)]), ("W", ["W", 11, 12, 15]),
-                         ("O", ["W", *range(11, 16)]), ("M", ["A", *range(1, 10), 13, 16, 17])):
+                         ("O", ["W", *range(11, 16)]), ("M", ["A", *range(1, 10), 13, 16, 17, 21])):
         for w in (f"! {w}" if isinstance(w, int) else w for w in wanted):
             assert any(t == w or t.startswith(w + " ") for t in told[form]), f"no case {form} is answered {w}"
 

@@ -1,7 +1,8 @@
 """Other readers of Intel HEX: GNU objcopy, srec_cat and Python's intelhex. Each gives the places that a text states, by their address, or
 raises an error where it refuses the text; and each writes a text from such places. The last two also merge texts into one, in which the
 later text wins. The first two also read S-records, write a text of Intel HEX as S-records, and make a binary of S-records: the bytes from
-the lowest address to the highest, 0 where none is stated. A text is a string of one character a byte."""
+the lowest address to the highest, 0 where none is stated. They also turn a text with a start into S-records and back: the address of the
+start is that of the end. The last gives the start of a text as it is stated. A text is a string of one character a byte."""
 import io
 import os
 import shutil
@@ -110,6 +111,15 @@ class Objcopy:
     def binary(self, text, lowest):
         return turned('objcopy -I srec -O binary < >'.split(), text).encode('latin-1')
 
+    # It states no start that is 0, and cuts one to as many bytes as the addresses of the data have.
+    states_zero = False
+
+    def to_srecords(self, text):
+        return turned('objcopy -I ihex -O srec --srec-forceS3 < >'.split(), text)
+
+    def of_srecords(self, text):
+        return turned('objcopy -I srec -O ihex < >'.split(), text)
+
 
 class SrecCat:
     name, package, refuses = 'srec_cat', 'srecord', Refused
@@ -135,6 +145,14 @@ class SrecCat:
     def binary(self, text, lowest):
         return turned(['srec_cat', '<', '-motorola', '-offset', '-0x%X' % lowest, '-o', '>', '-binary'], text).encode('latin-1')
 
+    states_zero = True
+
+    def to_srecords(self, text):
+        return turned('srec_cat < -intel -o > -motorola'.split(), text)
+
+    def of_srecords(self, text):
+        return turned('srec_cat < -motorola -o > -intel'.split(), text)
+
     def merge(self, *texts):
         files = [word for number in range(1, len(texts) + 1) for word in ('<' * number, '-intel')]
         return turned(['srec_cat', '-contradictory-bytes=ignore', *files, '-o', '>', '-intel'], *texts)
@@ -148,6 +166,13 @@ class Intelhex:
     def read(self, text):
         read = intelhex.IntelHex(io.StringIO(text))
         return {address: read[address] for address in read.addresses()}
+
+    def start(self, text):
+        """The kind of start of a text and its two values, as ihex_load returns them."""
+        stated = intelhex.IntelHex(io.StringIO(text)).start_addr or {}
+        if 'EIP' in stated:
+            return 5, stated['EIP'], 0
+        return (3, stated['CS'], stated['IP']) if stated else (0, 0, 0)
 
     def write(self, places):
         text = io.StringIO()

@@ -74,6 +74,12 @@ enum {
     TOP_ACROSS = 2048      /* across 2^32 */
 };
 
+/* a start: what a load says of it; the kind is IHEX_NO_START for none */
+struct start {
+    uint8_t kind;
+    uint64_t x, y;
+};
+
 struct window {
     uint32_t first;
     size_t places;
@@ -93,6 +99,9 @@ struct dump {
     size_t bad_line;           /* the number of the line that is refused; 0 for none */
     uint64_t bad_a, bad_b;     /* the refusal's values; 0 where there is none */
     unsigned has;              /* bits, above */
+    struct start wants;        /* the start that its start records state, but for one of refusal 21 */
+    struct start start;        /* the first start that it states before any line that is refused, and that line */
+    size_t start_line;
     unsigned ends;             /* its line ends: 0 LF, 1 CR LF, 2 both */
     struct base base;          /* in force after the lines so far */
     int16_t states[SEGMENT];   /* the byte at each place of the window, or NONE */
@@ -227,6 +236,81 @@ static void put_outside(struct dump *d, const struct window *w)
     note_across(d, offset, size);
 }
 
+/* ---- starts */
+
+static int same_start(const struct start *x, const struct start *y)
+{
+    return x->kind == y->kind && x->x == y->x && x->y == y->y;
+}
+
+/* whether both are stated, and are not the same */
+static int starts_differ(const struct start *x, const struct start *y)
+{
+    return x->kind && y->kind && !same_start(x, y);
+}
+
+/* a start of a kind, from the 32 bits of its payload */
+static struct start start_of(unsigned kind, uint32_t payload)
+{
+    struct start s = {(uint8_t)kind, payload, 0};
+    if (kind == IHEX_START_SEGMENT_ADDRESS)
+        s.x = payload >> 16, s.y = payload & 0xFFFF;
+    return s;
+}
+
+static uint32_t payload_of(const struct start *s)
+{
+    return s->kind == IHEX_START_SEGMENT_ADDRESS ? (uint32_t)(s->x << 16 | s->y) : (uint32_t)s->x;
+}
+
+static struct start some_start(void)
+{
+    static const uint32_t payloads[] = {0, 0x10000000, 0x0FFF0010, 0x10000, 0xABCDEF12, 0xFFFFFFFF};
+    unsigned kind = chance(2) ? IHEX_START_SEGMENT_ADDRESS : IHEX_START_LINEAR_ADDRESS;
+    return start_of(kind, payloads[chance(sizeof payloads / sizeof *payloads)]);
+}
+
+/* a start that differs: in one digit, in its type alone, or, of a type 03, in the segment and not in the address */
+static struct start other_start(const struct start *s)
+{
+    unsigned other = IHEX_START_SEGMENT_ADDRESS + IHEX_START_LINEAR_ADDRESS - s->kind, way = chance(4);
+    uint32_t payload = payload_of(s);
+    if (way == 0)
+        return start_of(other, payload);
+    if (way == 1)
+        return start_of(s->kind, payload - 0x10000 + 0x10);
+    return start_of(s->kind, payload ^ (uint32_t)(1 + chance(15)) << 4 * chance(8));
+}
+
+static void put_start_record(struct dump *d, const struct start *s)
+{
+    uint32_t payload = payload_of(s);
+    uint8_t bytes[] = {(uint8_t)(payload >> 24), (uint8_t)(payload >> 16), (uint8_t)(payload >> 8), (uint8_t)payload};
+    put_record(d, s->kind, chance(64) ? 0 : chance(SEGMENT), bytes, sizeof bytes);
+}
+
+/* the start that the dump wants, once more or for the first time */
+static void put_start(struct dump *d)
+{
+    if (!d->start.kind && !d->bad_line) {
+        d->start = d->wants;
+        d->start_line = line_feeds(&d->text, d->text.n) + 1;
+    }
+    put_start_record(d, &d->wants);
+}
+
+/* a start that differs from one before it */
+static void put_conflict(struct dump *d)
+{
+    struct start other = other_start(&d->wants);
+    if (!d->start.kind) {
+        put_start(d);
+        put_line_end(d);
+    }
+    d->bad_line = line_feeds(&d->text, d->text.n) + 1;
+    put_start_record(d, &other);
+}
+
 /* lines with a refusal from 1 to 9, each in three forms, and the refusal's values */
 static const struct {
     const char *line;
@@ -259,17 +343,28 @@ static void put_bad(struct dump *d)
     }
 }
 
-/* one line: an extension record, a start record or data */
+/* the line of a refusal that a line has */
+static void put_refused(struct dump *d, const struct window *w)
+{
+    if (d->refusal == IHEX_OUTSIDE_WINDOW)
+        put_outside(d, w);
+    else if (d->refusal == IHEX_START_CONFLICT)
+        put_conflict(d);
+    else
+        put_bad(d);
+    put_line_end(d);
+}
+
+/* one line: an extension record, data, or a start record if the dump wants one */
 static void put_some(struct dump *d, const struct window *w)
 {
-    static const uint8_t start[] = {0x12, 0x34, 0x56, 0x78};
     unsigned kind = chance(10);
     if (kind == 0)
         put_any_base(d);
     else if (kind == 1 || (!is_in_reach(d, w) && chance(8)))
         put_fit_base(d, w);
-    else if (kind == 2)
-        put_record(d, chance(2) ? IHEX_START_SEGMENT_ADDRESS : IHEX_START_LINEAR_ADDRESS, 0, start, sizeof start);
+    else if (kind <= 3 && d->wants.kind)
+        put_start(d);
     else
         put_data(d, w);
     put_line_end(d);
@@ -282,7 +377,8 @@ static void put_some(struct dump *d, const struct window *w)
 /* an end record, with or without an LF, and what an older dump may have left after it */
 static void put_end(struct dump *d)
 {
-    static const char *const tails[] = {"", "", ":0100000011EE\n:00000001FF\n", "old", ":00000001FF", "\n:00000001fe\r\n"};
+    static const char *const tails[] = {"", "", ":0100000011EE\n:00000001FF\n", "old", ":00000001FF", "\n:00000001fe\r\n",
+                                        ":0400000500001234B1\n"};
     const char *tail = tails[chance(sizeof tails / sizeof *tails)];
     d->head = d->text.n;
     if (d->base.address)
@@ -300,23 +396,19 @@ static void put_end(struct dump *d)
         d->has |= OLD_TAIL;
 }
 
-/* a dump for a window, with this refusal; 0 for none */
-static void make(struct dump *d, const struct window *w, unsigned refusal)
+/* a dump for a window, with this refusal, 0 for none, and with start records of this start, if it is one */
+static void make(struct dump *d, const struct window *w, unsigned refusal, const struct start *wants)
 {
     unsigned lines = chance(LINES), bad = chance(lines + 1);
     memset(d, 0, offsetof(struct dump, states));
+    d->wants = *wants;
     for (size_t p = 0; p < w->places; p++)
         d->states[p] = NONE;
     d->refusal = refusal;
     d->ends = chance(3);
     for (unsigned i = 0; i <= lines; i++) {
-        if (i == bad && refusal && refusal != IHEX_MISSING_END_OF_FILE_RECORD) {
-            if (refusal == IHEX_OUTSIDE_WINDOW)
-                put_outside(d, w);
-            else
-                put_bad(d);
-            put_line_end(d);
-        }
+        if (i == bad && refusal && refusal != IHEX_MISSING_END_OF_FILE_RECORD)
+            put_refused(d, w);
         if (i < lines)
             put_some(d, w);
     }

@@ -1242,7 +1242,7 @@ static void loads_in_windows(void)
 static int at_both_ends(void)
 {
     size_t i;
-    if (a.value != 1 || b.value != 0 || line.value != 0 || page_.len != IHEX_MAX_PAGE || marks_.len != IHEX_MAX_MARKS)
+    if (a.value != 1 || line.value != 0 || page_.len != IHEX_MAX_PAGE || marks_.len != IHEX_MAX_MARKS)
         return 0;
     for (i = 0; i < IHEX_MAX_PAGE; i++) {
         int stated = i == 0 || i == IHEX_MAX_PAGE - 1;
@@ -1259,21 +1259,23 @@ static void loads_across_segments(void)
         const char *text;
         uint32_t base;
         size_t line;
+        uint8_t start;
+        uint64_t ip;
     } wraps[] = {
-        {":02FFFF00AABB9B\n:00000001FF\n", 0, 1},
-        {":020000020000FC\n:02FFFF00AABB9B\n:00000001FF\n", 0, 2},
-        {":020000021200EA\n:02FFFF00AABB9B\n:00000001FF\n", 0x12000, 2},
-        {":02000002F0000C\n:02FFFF00AABB9B\n:00000001FF\n", 0xF0000, 2},
-        {":02000002FFFFFE\n:02FFFF00AABB9B\n:00000001FF\n", 0xFFFF0, 2},
-        {":020000040001F9\n:020000021200EA\n:02FFFF00AABB9B\n:00000001FF\n", 0x12000, 3},
-        {":020000021200EA\n:0400000300003800C1\n:02FFFF00AABB9B\n:00000001FF\n", 0x12000, 3},
+        {":02FFFF00AABB9B\n:00000001FF\n", 0, 1, IHEX_NO_START, 0},
+        {":020000020000FC\n:02FFFF00AABB9B\n:00000001FF\n", 0, 2, IHEX_NO_START, 0},
+        {":020000021200EA\n:02FFFF00AABB9B\n:00000001FF\n", 0x12000, 2, IHEX_NO_START, 0},
+        {":02000002F0000C\n:02FFFF00AABB9B\n:00000001FF\n", 0xF0000, 2, IHEX_NO_START, 0},
+        {":02000002FFFFFE\n:02FFFF00AABB9B\n:00000001FF\n", 0xFFFF0, 2, IHEX_NO_START, 0},
+        {":020000040001F9\n:020000021200EA\n:02FFFF00AABB9B\n:00000001FF\n", 0x12000, 3, IHEX_NO_START, 0},
+        {":020000021200EA\n:0400000300003800C1\n:02FFFF00AABB9B\n:00000001FF\n", 0x12000, 3, IHEX_START_SEGMENT_ADDRESS, 0x3800},
     };
     size_t i;
     for (i = 0; i < sizeof wraps / sizeof *wraps; i++) {
         const char *text = wraps[i].text;
         uint32_t base = wraps[i].base;
         CHECK(load(text, base, IHEX_MAX_PAGE) == IHEX_OK);
-        CHECK(at_both_ends());
+        CHECK(at_both_ends() && starts(wraps[i].start, 0, wraps[i].ip));
         CHECK(load(text, base + 0xFFFF, 2) == IHEX_REFUSED + IHEX_OUTSIDE_WINDOW);
         CHECK(not_loaded(base, 0, wraps[i].line));
         CHECK(load(text, base, 8) == IHEX_REFUSED + IHEX_OUTSIDE_WINDOW);
@@ -1335,6 +1337,103 @@ static void places_in_loads(void)
     CHECK(not_loaded(2, 0, 1));
 }
 
+/* ---- the start */
+
+/* starts that differ in one point each: CS and IP, another CS with the same address, that address, the digits of the first as an address, 0 by
+ * both types, and two addresses that differ in one digit */
+static const struct start {
+    const char *line, *small;
+    uint8_t kind;
+    uint64_t x, y;
+} all_starts[] = {
+    {":0400000310000000E9", ":0400000310000000e9", IHEX_START_SEGMENT_ADDRESS, 0x1000, 0},
+    {":040000030FFF0010DB", ":040000030fff0010db", IHEX_START_SEGMENT_ADDRESS, 0x0FFF, 0x10},
+    {":0400000500010000F6", ":0400000500010000f6", IHEX_START_LINEAR_ADDRESS, 0x10000, 0},
+    {":0400000510000000E7", ":0400000510000000e7", IHEX_START_LINEAR_ADDRESS, 0x10000000, 0},
+    {":0400000300000000F9", ":0400000300000000f9", IHEX_START_SEGMENT_ADDRESS, 0, 0},
+    {":0400000500000000F7", ":0400000500000000f7", IHEX_START_LINEAR_ADDRESS, 0, 0},
+    {":04000005ABCDEF127E", ":04000005aBcDeF127e", IHEX_START_LINEAR_ADDRESS, 0xABCDEF12, 0},
+    {":04000005ABCDEF028E", ":04000005abcdef028e", IHEX_START_LINEAR_ADDRESS, 0xABCDEF02, 0},
+    {":04000003FFFFFFFFFD", ":04000003ffffFFFFfd", IHEX_START_SEGMENT_ADDRESS, 0xFFFF, 0xFFFF},
+    {":04000005FFFFFFFFFB", ":04000005ffffffffFB", IHEX_START_LINEAR_ADDRESS, 0xFFFFFFFF, 0},
+};
+
+#define STARTS (sizeof all_starts / sizeof *all_starts)
+
+/* the text of up to four lines, null for none, with this line end */
+static const char *text_of(const char *end, const char *one, const char *two, const char *three, const char *four)
+{
+    static char text[200];
+    const char *lines[] = {one, two, three, four};
+    size_t i, n = 0;
+    text[0] = 0;
+    for (i = 0; i < 4; i++)
+        if (lines[i])
+            n += (size_t)sprintf(text + n, "%s%s", lines[i], end);
+    return text;
+}
+
+static int starts_as(const struct start *s)
+{
+    return starts(s->kind, s->x, s->y);
+}
+
+static const char one_byte[] = ":0100000011EE";
+
+/* a start by itself and more than once, in capitals and small letters; after the end record; and with no end record */
+static void is_started(const struct start *s)
+{
+    begin_case();
+    CHECK(load(text_of("\n", s->line, one_byte, end_line, NULL), 0, 2) == IHEX_OK && placed(1, "10", 0, "\x11") && starts_as(s));
+    CHECK(load(text_of("\r\n", one_byte, s->small, end_line, NULL), 0, 2) == IHEX_OK && placed(1, "10", 0, "\x11") && starts_as(s));
+    CHECK(load(text_of("\n", s->line, "", s->small, end_line), 0, 2) == IHEX_OK && placed(0, "00", 0, "") && starts_as(s));
+    CHECK(load(text_of("\n", s->small, s->line, s->line, end_line), 0, 2) == IHEX_OK && placed(0, "00", 0, "") && starts_as(s));
+    CHECK(load(text_of("\n", end_line, s->line, NULL, NULL), 0, 2) == IHEX_OK && loaded(0, "00", 0, ""));
+    CHECK(load(text_of("\n", s->line, s->line, NULL, NULL), 0, 2) == IHEX_REFUSED + IHEX_MISSING_END_OF_FILE_RECORD);
+    CHECK(not_loaded(0, 0, 0));
+    end_case();
+}
+
+/* a text that is refused with 21 at this line */
+static void conflicts(const char *text, size_t l)
+{
+    CHECK(load(text, 0, 2) == IHEX_REFUSED + IHEX_START_CONFLICT && not_loaded(0, 0, l));
+}
+
+/* two starts that differ, also on lines that do not touch; the second after the end record; and refusals 21, 6 and 17 in the order of the text */
+static void is_conflict(const struct start *s, const struct start *other)
+{
+    static const char refused[] = ":00000001FE", outside[] = ":0100020011EC";
+    begin_case();
+    conflicts(text_of("\n", s->line, other->line, end_line, NULL), 2);
+    conflicts(text_of("\n", s->line, one_byte, s->small, other->line), 4);
+    conflicts(text_of("\r\n", "", s->line, other->small, s->line), 3);
+    conflicts(text_of("\n", s->line, other->line, refused, end_line), 2);
+    conflicts(text_of("\n", s->line, other->line, outside, end_line), 2);
+    CHECK(load(text_of("\n", s->line, refused, other->line, end_line), 0, 2) == IHEX_REFUSED + IHEX_CHECKSUM_MISMATCH);
+    CHECK(not_loaded(0xFF, 0xFE, 2));
+    CHECK(load(text_of("\n", s->line, outside, other->line, end_line), 0, 2) == IHEX_REFUSED + IHEX_OUTSIDE_WINDOW);
+    CHECK(not_loaded(2, 0, 2));
+    CHECK(load(text_of("\n", s->line, end_line, other->line, NULL), 0, 2) == IHEX_OK && placed(0, "00", 0, "") && starts_as(s));
+    end_case();
+}
+
+static void starts_in_loads(void)
+{
+    size_t i, k;
+    CHECK(load(text_of("\n", one_byte, end_line, NULL, NULL), 0, 2) == IHEX_OK && loaded(1, "10", 0, "\x11"));
+    for (i = 0; i < STARTS; i++) {
+        is_started(&all_starts[i]);
+        for (k = 0; k < STARTS; k++)
+            if (k != i)
+                is_conflict(&all_starts[i], &all_starts[k]);
+    }
+    /* the address field of a start record is not part of the start */
+    CHECK(load(":04000005ABCDEF127E\n:04FACE05ABCDEF12B6\n:00000001FF", 0, 2) == IHEX_OK && starts(IHEX_START_LINEAR_ADDRESS, 0xABCDEF12, 0));
+    CHECK(load_with(text_of("\n", all_starts[0].line, all_starts[1].line, NULL, NULL), 0, 2, 2) == IHEX_REFUSED + IHEX_BAD_WINDOW);
+    CHECK(not_loaded(0, 0, 0));
+}
+
 static void windows(void)
 {
     CHECK(load_with(end_line, 0, 2, 2) == IHEX_REFUSED + IHEX_BAD_WINDOW);
@@ -1366,7 +1465,8 @@ static uint32_t write_full_page(size_t out_len, uint64_t *value)
 static void full_page(void)
 {
     size_t i, at_line;
-    uint64_t value, records, none;
+    uint8_t no_start;
+    uint64_t value, records, none, nothing;
     for (i = 0; i < IHEX_MAX_PAGE; i++)
         dump[i] = (uint8_t)(i * 7 + i / 256);
     for (i = 0; i < PAGE_RECORDS; i++) {
@@ -1382,8 +1482,8 @@ static void full_page(void)
     CHECK(i == sizeof written);
     CHECK(write_full_page(PAGE_TEXT, &value) == IHEX_OK && value == PAGE_TEXT);
     CHECK(written[PAGE_TEXT] == OLD && memcmp(written + PAGE_TEXT - 12, ":00000001FF\n", 12) == 0);
-    CHECK(ihex_load(written, PAGE_TEXT, 0, shown, sizeof shown, set, sizeof set, &at_line, &records, &none) == IHEX_OK);
-    CHECK(records == PAGE_RECORDS && none == 0 && at_line == 0);
+    CHECK(ihex_load(written, PAGE_TEXT, 0, shown, sizeof shown, set, sizeof set, &at_line, &no_start, &records, &none, &nothing) == IHEX_OK);
+    CHECK(records == PAGE_RECORDS && no_start == IHEX_NO_START && none == 0 && nothing == 0 && at_line == 0);
     CHECK(memcmp(shown, dump, sizeof dump) == 0);
     CHECK(all_are(0xFF, set, sizeof set));
 }
@@ -1473,15 +1573,16 @@ static uint64_t data_records(const char *text, size_t n)
     return count;
 }
 
-/* the file that was just written, loaded into the same window: all marks are stated anew, and unmarked bytes are kept */
+/* the file that was just written, loaded into the same window: all marks are stated anew, unmarked bytes are kept, and there is no start */
 static int loads_back(const char *text, size_t n)
 {
     size_t i, places = window.page_len, marks_len = window.marks_len;
     uint8_t *page = lend(&page_, places), *marks = lend(&marks_, marks_len);
     fresh();
-    if (ihex_load(file->all + EDGE, n, window.first, page, places, marks, marks_len, &line.value, &a.value, &b.value) != IHEX_OK)
+    if (ihex_load(file->all + EDGE, n, window.first, page, places, marks, marks_len, &line.value, &started.value, &a.value, &b.value,
+                  &c.value) != IHEX_OK)
         return 0;
-    if (a.value != data_records(text, n) || b.value != 0 || line.value != 0 || !fenced() || !same(&marks_, window.marks))
+    if (a.value != data_records(text, n) || !starts(IHEX_NO_START, 0, 0) || !fenced() || !same(&marks_, window.marks))
         return 0;
     for (i = 0; i < places; i++)
         if (page[i] != (window.marked[i] ? window.page[i] : OLD))
@@ -1870,7 +1971,7 @@ static int run_is_loaded(uint64_t count, size_t at, size_t n, char byte)
     for (p = 0; p < 8 * marks_.len; p++)
         if (unpacked(marks_.all + EDGE, p) != (at <= p && p < at + n))
             return 0;
-    return a.value == count && b.value == 0 && line.value == 0 && guarded(&marks_) && holds(&page_, at, bytes, n);
+    return a.value == count && starts(IHEX_NO_START, 0, 0) && guarded(&marks_) && holds(&page_, at, bytes, n);
 }
 
 /* whether the page is as it was, and the marks are what they were set to */
@@ -2027,6 +2128,7 @@ int main(void)
     loads_across_segments();
     refused_loads();
     places_in_loads();
+    starts_in_loads();
     windows();
     full_page();
     written_pages();

@@ -3,7 +3,8 @@
  * is made, so loads are compared with that too, and not only with each other. Joiners with a fault of their own must be found.
  *   joined          the last line is 'N passed, M failed'
  *   joined NUMBER   writes the pair of this number: a line with the first address (hexadecimal), the places and the lengths of three
- *                   texts; then A, B and the joined text. B of an even number is accepted. */
+ *                   texts; then A, B and the joined text. B of an even number is accepted, and so is the joined text, unless the number is
+ *                   6 modulo 8: only then and of odd numbers B may state another start than A. */
 #include "dumps.h"
 
 #define PAIRS 20000 /* of dumps by chance */
@@ -24,7 +25,8 @@ static void check(int holds, const char *what, const char *of)
 /* ---- the joined text, by a joiner that may have a fault */
 
 enum fault {
-    NO_FAULT, NO_LINE, LINEAR_LINE, CUTS_AT_SPELLING, KEEPS_END, KEEPS_TAIL, LATER_MARKS, LINE_LESS_ONE, SKIPS_EMPTY_LINES, FAULTS
+    NO_FAULT, NO_LINE, LINEAR_LINE, CUTS_AT_SPELLING, KEEPS_END, KEEPS_TAIL, LATER_MARKS, LINE_LESS_ONE, SKIPS_EMPTY_LINES, LATER_START,
+    NO_EARLIER_START, ADDRESSES_ALIKE, LINE_OF_A, FAULTS
 };
 
 static const char *const faults[FAULTS] = {
@@ -37,6 +39,10 @@ static const char *const faults[FAULTS] = {
     [LATER_MARKS] = "marks of the later load alone",
     [LINE_LESS_ONE] = "a line number less by one",
     [SKIPS_EMPTY_LINES] = "empty lines are not counted",
+    [LATER_START] = "B's start wins",
+    [NO_EARLIER_START] = "the start of B alone",
+    [ADDRESSES_ALIKE] = "starts of one address are taken for the same",
+    [LINE_OF_A] = "refusal 21 at the line of A's start",
 };
 
 static enum fault fault;
@@ -107,7 +113,8 @@ static size_t moved_by(const struct text *a)
 struct load {
     uint32_t code;
     size_t line;
-    uint64_t a, b;
+    uint8_t start;
+    uint64_t a, b, c;
     uint8_t page[IHEX_MAX_PAGE], marks[IHEX_MAX_MARKS];
 };
 
@@ -117,7 +124,7 @@ static void load(struct load *r, const struct text *t, const struct window *w, c
     size_t row = IHEX_MARKS(w->places);
     memcpy(r->page, over->page, w->places);
     memcpy(r->marks, over->marks, row);
-    r->code = ihex_load(t->bytes, t->n, w->first, r->page, w->places, r->marks, row, &r->line, &r->a, &r->b);
+    r->code = ihex_load(t->bytes, t->n, w->first, r->page, w->places, r->marks, row, &r->line, &r->start, &r->a, &r->b, &r->c);
 }
 
 static int same_page(const struct load *x, const struct load *y, const struct window *w)
@@ -130,9 +137,16 @@ static int same_marks(const struct load *x, const struct load *y, const struct w
     return memcmp(x->marks, y->marks, IHEX_MARKS(w->places)) == 0;
 }
 
-static int accepted(const struct load *r, uint64_t records)
+static const struct start no_start = {IHEX_NO_START, 0, 0};
+
+static int accepted(const struct load *r, uint64_t records, const struct start *s)
 {
-    return r->code == IHEX_OK && r->line == 0 && r->a == records && r->b == 0;
+    return r->code == IHEX_OK && r->line == 0 && r->a == records && r->start == s->kind && r->b == s->x && r->c == s->y;
+}
+
+static int refused(const struct load *r, unsigned refusal, size_t line, uint64_t x, uint64_t y)
+{
+    return r->code == IHEX_REFUSED + refusal && r->line == line && r->a == x && r->b == y && r->c == 0 && r->start == IHEX_NO_START;
 }
 
 /* adds the marks of an earlier load to those of a later one */
@@ -172,11 +186,12 @@ static void see(struct load *r, const struct dump *d, const struct window *w)
 
 /* ---- pairs and triples */
 
-enum claim { AS_MADE, ACCEPTED_ALIKE, LOADED_ALIKE, SEEN, NOTHING_STATED, GROUPED, CLAIMS };
+enum claim { AS_MADE, ACCEPTED_ALIKE, STARTED, LOADED_ALIKE, SEEN, NOTHING_STATED, GROUPED, CLAIMS };
 
 static const char *const claims[CLAIMS] = {
     [AS_MADE] = "a dump is loaded, or refused, as it was made",
-    [ACCEPTED_ALIKE] = "the joined text is accepted exactly when B is; counts add, and a refusal is B's at its line",
+    [ACCEPTED_ALIKE] = "the joined text is accepted exactly when B is, unless their starts differ; counts add, and a refusal is B's at its line",
+    [STARTED] = "the start of the joined text is A's, or else B's; if they differ, that is refused at B's line",
     [LOADED_ALIKE] = "A and then B leave the page of the joined text, whose marks are the union",
     [SEEN] = "a place shows B's byte, else A's, else the old one",
     [NOTHING_STATED] = "the end record alone changes no byte of the page, and clears the marks",
@@ -188,45 +203,80 @@ static struct dump a, b, c;
 static struct text joined;
 static struct load old, of_a, of_b, of_joined, after, united, seen;
 
+static const unsigned refusals[] = {
+    1, 2, 3, 4, 5, 6, 7, 8, 9, IHEX_MISSING_END_OF_FILE_RECORD, IHEX_OUTSIDE_WINDOW, IHEX_START_CONFLICT,
+};
+
+#define REFUSALS (sizeof refusals / sizeof *refusals)
+
 /* the pair of a number, with its window and its old page; B of an odd number has a refusal */
 static void make_pair(unsigned long number)
 {
-    static const unsigned refusals[] = {1, 2, 3, 4, 5, 6, 7, 8, 9, IHEX_MISSING_END_OF_FILE_RECORD, IHEX_OUTSIDE_WINDOW};
+    unsigned refusal = 0;
+    struct start first, second;
     chance_state = number * 0x9E3779B97F4A7C15u;
     chance(2);
     window = some_window();
     make_old(&old, &window);
-    make(&a, &window, 0);
-    make(&b, &window, number % 2 ? refusals[chance(sizeof refusals / sizeof *refusals)] : 0);
-    make(&c, &window, 0);
+    first = some_start();
+    second = number % 8 == 6 || (number % 2 && chance(2)) ? other_start(&first) : first;
+    if (number % 2)
+        refusal = refusals[chance(REFUSALS)];
+    make(&a, &window, 0, chance(3) ? &first : &no_start);
+    make(&b, &window, refusal, chance(3) || refusal == IHEX_START_CONFLICT ? &second : &no_start);
+    make(&c, &window, 0, chance(3) ? &first : &no_start);
+}
+
+/* whether the joiner takes the starts of A and B for two */
+static int differ(void)
+{
+    uint64_t of_a_start = a.start.kind == IHEX_START_SEGMENT_ADDRESS ? 16 * a.start.x + a.start.y : a.start.x;
+    uint64_t of_b_start = b.start.kind == IHEX_START_SEGMENT_ADDRESS ? 16 * b.start.x + b.start.y : b.start.x;
+    if (fault == LATER_START || fault == NO_EARLIER_START || (fault == ADDRESSES_ALIKE && of_a_start == of_b_start))
+        return 0;
+    return starts_differ(&a.start, &b.start);
 }
 
 /* whether a dump's load is what it was made for, what it states is seen, and the reader finds its end record */
 static int is_as_made(const struct dump *d, const struct load *r)
 {
     if (d->refusal)
-        return r->code == IHEX_REFUSED + d->refusal && r->line == d->bad_line && r->a == d->bad_a && r->b == d->bad_b &&
-               same_page(r, &old, &window) && same_marks(r, &old, &window);
+        return refused(r, d->refusal, d->bad_line, d->bad_a, d->bad_b) && same_page(r, &old, &window) && same_marks(r, &old, &window);
     see_nothing(&seen, &old, &window);
     see(&seen, d, &window);
-    return accepted(r, d->records) && same_page(r, &seen, &window) && same_marks(r, &seen, &window) &&
+    return accepted(r, d->records, &d->start) && same_page(r, &seen, &window) && same_marks(r, &seen, &window) &&
            begin_of(&d->text, end_line(&d->text)) == d->head;
 }
 
-/* whether the joined text is answered as B is, after A */
+/* whether the joined text is answered as B is, after A, unless their starts differ */
 static int is_accepted_alike(void)
 {
+    if (differ())
+        return of_joined.code != IHEX_OK;
     if (of_b.code == IHEX_OK)
-        return accepted(&of_joined, of_a.a + of_b.a);
-    return of_joined.code == of_b.code && of_joined.a == of_b.a && of_joined.b == of_b.b &&
-           of_joined.line == (of_b.line ? of_b.line + moved_by(&a.text) : 0) && same_page(&of_joined, &old, &window) &&
-           same_marks(&of_joined, &old, &window);
+        return of_joined.code == IHEX_OK && of_joined.line == 0 && of_joined.a == of_a.a + of_b.a;
+    return refused(&of_joined, of_b.code - IHEX_REFUSED, of_b.line ? of_b.line + moved_by(&a.text) : 0, of_b.a, of_b.b) &&
+           same_page(&of_joined, &old, &window) && same_marks(&of_joined, &old, &window);
+}
+
+/* whether the start of the joined text is A's, or else B's; if the two differ, whether that is refused at the line of B's, and no byte changes */
+static int is_started(void)
+{
+    const struct start *start = a.start.kind ? &a.start : &b.start;
+    if (differ())
+        return refused(&of_joined, IHEX_START_CONFLICT, fault == LINE_OF_A ? a.start_line : b.start_line + moved_by(&a.text), 0, 0) &&
+               same_page(&of_joined, &old, &window) && same_marks(&of_joined, &old, &window);
+    if (of_b.code != IHEX_OK)
+        return 1;
+    if (fault == NO_EARLIER_START || (fault == LATER_START && b.start.kind))
+        start = &b.start;
+    return accepted(&of_joined, of_a.a + of_b.a, start);
 }
 
 /* whether two loads are answered alike */
 static int same_answer(const struct load *x, const struct load *y)
 {
-    return x->code == y->code && x->line == y->line && x->a == y->a && x->b == y->b;
+    return x->code == y->code && x->line == y->line && x->start == y->start && x->a == y->a && x->b == y->b && x->c == y->c;
 }
 
 /* whether loading A and then B is loading the joined text; where B is refused, it is as without A, and A's page and marks stay */
@@ -237,8 +287,8 @@ static int is_loaded_alike(void)
         return same_answer(&after, &of_b) && same_page(&after, &of_a, &window) && same_marks(&after, &of_a, &window);
     memcpy(united.marks, of_b.marks, IHEX_MARKS(window.places));
     unite(&united, &of_a, &window);
-    return same_answer(&after, &of_b) && same_marks(&after, &of_b, &window) && same_page(&after, &of_joined, &window) &&
-           same_marks(&united, &of_joined, &window);
+    return same_answer(&after, &of_b) && same_marks(&after, &of_b, &window) &&
+           (differ() || (same_page(&after, &of_joined, &window) && same_marks(&united, &of_joined, &window)));
 }
 
 static int is_seen(void)
@@ -248,6 +298,8 @@ static int is_seen(void)
     see_nothing(&seen, &old, &window);
     see(&seen, &a, &window);
     see(&seen, &b, &window);
+    if (differ())
+        return same_page(&seen, &after, &window);
     return same_page(&seen, &of_joined, &window) && same_marks(&seen, &of_joined, &window);
 }
 
@@ -259,7 +311,7 @@ static int is_cleared_by(size_t n)
     put(&end, a.text.bytes + a.head, n);
     load(&after, &end, &window, &of_a);
     see_nothing(&seen, &of_a, &window);
-    return accepted(&after, 0) && same_page(&after, &of_a, &window) && same_marks(&after, &seen, &window);
+    return accepted(&after, 0, &no_start) && same_page(&after, &of_a, &window) && same_marks(&after, &seen, &window);
 }
 
 /* whether A's end record does so, as A spells it: without its line end, with it, and with all that comes after it */
@@ -279,9 +331,11 @@ static int is_grouped(struct text *left, struct text *right)
     return same_text(left, right);
 }
 
-/* whether three loads, one after the other, leave the page of the joined text, and show what the dumps state */
+/* whether three loads, one after the other, leave the page of the joined text, and show what the dumps state; if a start differs from the
+ * first, whether the joined text is refused for that */
 static int are_loaded_alike(const struct text *all)
 {
+    const struct start *start = a.start.kind ? &a.start : b.start.kind ? &b.start : &c.start;
     load(&of_a, &a.text, &window, &old);
     load(&of_b, &b.text, &window, &of_a);
     load(&after, &c.text, &window, &of_b);
@@ -290,7 +344,9 @@ static int are_loaded_alike(const struct text *all)
     see(&seen, &a, &window);
     see(&seen, &b, &window);
     see(&seen, &c, &window);
-    return accepted(&of_joined, a.records + b.records + c.records) && same_page(&of_joined, &after, &window) &&
+    if (starts_differ(start, &b.start) || starts_differ(start, &c.start))
+        return of_joined.code == IHEX_REFUSED + IHEX_START_CONFLICT && same_page(&after, &seen, &window);
+    return accepted(&of_joined, a.records + b.records + c.records, start) && same_page(&of_joined, &after, &window) &&
            same_page(&of_joined, &seen, &window) && same_marks(&of_joined, &seen, &window);
 }
 
@@ -311,6 +367,7 @@ static size_t try_pair(unsigned long number, int holds[CLAIMS])
     load(&of_joined, &joined, &window, &old);
     holds[AS_MADE] = is_as_made(&a, &of_a) && is_as_made(&b, &of_b);
     holds[ACCEPTED_ALIKE] = is_accepted_alike();
+    holds[STARTED] = is_started();
     holds[LOADED_ALIKE] = is_loaded_alike();
     holds[SEEN] = is_seen();
     holds[NOTHING_STATED] = is_nothing_stated();
@@ -347,10 +404,28 @@ static const struct thing {
 
 #define THINGS (sizeof things / sizeof *things)
 
-static unsigned long with_thing[THINGS], with_code[IHEX_REFUSED], with_unused_bits;
+/* which of A and B state a start, with B accepted, or refused after it */
+static const char *const start_pairs[] = {
+    "no start", "a start of A alone", "a start of B alone", "the same start twice", "two starts, B accepted", "two starts, B refused",
+    "a start of A, and another of B after a line that is refused",
+};
+
+#define START_PAIRS (sizeof start_pairs / sizeof *start_pairs)
+
+static unsigned long with_thing[THINGS], with_code[IHEX_REFUSED], with_starts[START_PAIRS], with_unused_bits;
+
+static size_t start_pair(void)
+{
+    if (starts_differ(&a.start, &b.start))
+        return b.refusal ? 5 : 4;
+    if (b.refusal && !b.start.kind && starts_differ(&a.start, &b.wants))
+        return 6;
+    return (a.start.kind ? 1 : 0) + (b.start.kind ? 2 : 0);
+}
 
 static void note_pair(void)
 {
+    with_starts[start_pair()]++;
     for (size_t k = 0; k < THINGS; k++) {
         unsigned has = things[k].of == OF_A ? a.has : b.has;
         with_thing[k] += (has & things[k].bits) && (b.refusal != 0) == things[k].refused;
@@ -362,16 +437,20 @@ static void note_pair(void)
 /* every kind of dump was there */
 static void check_things(void)
 {
-    static const unsigned codes[] = {0, 1, 2, 3, 4, 5, 6, 7, 8, 9, IHEX_MISSING_END_OF_FILE_RECORD, IHEX_OUTSIDE_WINDOW};
+    for (size_t k = 0; k < START_PAIRS; k++) {
+        check(with_starts[k] > 0, "no pair has this", start_pairs[k]);
+        printf("%s: %lu pairs\n", start_pairs[k], with_starts[k]);
+    }
     for (size_t k = 0; k < THINGS; k++) {
         check(with_thing[k] > 0, "no pair has this", things[k].name);
         printf("%s: %lu pairs\n", things[k].name, with_thing[k]);
     }
-    for (size_t k = 0; k < sizeof codes / sizeof *codes; k++) {
+    for (size_t k = 0; k <= REFUSALS; k++) {
+        unsigned code = k < REFUSALS ? refusals[k] : 0;
         char name[32];
-        sprintf(name, codes[k] ? "refusal %u" : "no refusal", codes[k]);
-        check(with_code[codes[k]] > 0, "no B has this", name);
-        printf("B with %s: %lu pairs\n", name, with_code[codes[k]]);
+        sprintf(name, code ? "refusal %u" : "no refusal", code);
+        check(with_code[code] > 0, "no B has this", name);
+        printf("B with %s: %lu pairs\n", name, with_code[code]);
     }
     check(with_unused_bits > 0, "no pair has this", "unused bits of the marks");
 }
@@ -438,6 +517,29 @@ static const struct example {
      ":020000020000FC\n:02000004FFFFFC\n:02FFFF00AABB9B\n:00000001FF", IHEX_OUTSIDE_WINDOW, 3, 0},
 };
 
+#define FAR "\n:0400000310000000E9\n"
+#define NEAR ":040000030FFF0010DB\n"
+#define FLAT ":0400000500010000F6\n"
+#define END ":00000001FF\n"
+
+/* joined texts with the line of refusal 21, 0 for none, and the start */
+static const struct started {
+    const char *name, *a, *b;
+    size_t conflict;
+    struct start start;
+} started[] = {
+    {"none", END FLAT, END FAR, 0, {IHEX_NO_START, 0, 0}},
+    {"A's alone", FAR END, END, 0, {IHEX_START_SEGMENT_ADDRESS, 0x1000, 0}},
+    {"B's alone", END, NEAR END, 0, {IHEX_START_SEGMENT_ADDRESS, 0xFFF, 0x10}},
+    {"the same", FLAT END, FLAT ":0400000500010000f6\n" END, 0, {IHEX_START_LINEAR_ADDRESS, 0x10000, 0}},
+    {"the same, and then another", FAR END, FAR NEAR END, 6, {IHEX_NO_START, 0, 0}},
+    {"of one address", FAR END, NEAR END, 4, {IHEX_NO_START, 0, 0}},
+    {"of two types", FLAT FLAT END FAR, FAR END, 5, {IHEX_NO_START, 0, 0}},
+    {"another, and no end record", NEAR END, FLAT, 3, {IHEX_NO_START, 0, 0}},
+    {"another, and then a bad line", NEAR END, FLAT "x", 3, {IHEX_NO_START, 0, 0}},
+    {"another after the end record", NEAR END, END FLAT, 0, {IHEX_START_SEGMENT_ADDRESS, 0xFFF, 0x10}},
+};
+
 static void set(struct text *t, const char *string)
 {
     t->n = 0;
@@ -455,6 +557,18 @@ static void check_example(const struct example *e)
     load(&of_joined, &a.text, &e->window, &old);
     check(of_joined.code == (e->refusal ? IHEX_REFUSED + e->refusal : IHEX_OK) && of_joined.line == e->line && of_joined.a == e->value,
           "another answer", e->name);
+}
+
+static void check_started(const struct started *s)
+{
+    static const struct window one = {0, 1};
+    static struct text small;
+    set(&joined, s->a);
+    set(&small, s->b);
+    join(&joined, &small, &a.text);
+    load(&of_joined, &a.text, &one, &old);
+    check(s->conflict ? refused(&of_joined, IHEX_START_CONFLICT, s->conflict, 0, 0) : accepted(&of_joined, 0, &s->start), "another start",
+          s->name);
 }
 
 /* loads a text after the line that stands between, and after the type 04 in its place */
@@ -476,7 +590,7 @@ static unsigned long told_apart_by_less(const struct window *w)
         a.text.n = 0;
         put_record(&a, IHEX_DATA, k / 2, (const uint8_t *)"\xAA", k % 2);
         load_both(&a.text, w);
-        apart += of_a.code != of_b.code || of_a.line != of_b.line || of_a.a != of_b.a || of_a.b != of_b.b;
+        apart += !same_answer(&of_a, &of_b);
     }
     return apart;
 }
@@ -515,6 +629,8 @@ int main(int argc, char **argv)
         return write_pair(strtoul(argv[1], NULL, 10));
     for (size_t k = 0; k < sizeof examples / sizeof *examples; k++)
         check_example(&examples[k]);
+    for (size_t k = 0; k < sizeof started / sizeof *started; k++)
+        check_started(&started[k]);
     check_shortest();
     check_claims();
     check_things();

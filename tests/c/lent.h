@@ -135,7 +135,7 @@ struct word {
 
 static struct number a, b, c;
 static struct size position, line, empties, used, from, len, start;
-static struct byte flags, lies;
+static struct byte flags, lies, started;
 static struct word skipped;
 
 static void fresh(void)
@@ -146,7 +146,7 @@ static void fresh(void)
     b = c = a;
     for (i = 0; i < sizeof sizes / sizeof sizes[0]; i++)
         sizes[i]->before = sizes[i]->after = EDGES;
-    flags.before = flags.after = lies.before = lies.after = GUARD;
+    flags.before = flags.after = lies.before = lies.after = started.before = started.after = GUARD;
     skipped.before = skipped.after = WORD_EDGE;
 }
 
@@ -155,7 +155,7 @@ static int fenced(void)
     return WITHIN(a, EDGES) && WITHIN(b, EDGES) && WITHIN(c, EDGES) && WITHIN(position, EDGES) &&
            WITHIN(line, EDGES) && WITHIN(empties, EDGES) && WITHIN(used, EDGES) && WITHIN(from, EDGES) &&
            WITHIN(len, EDGES) && WITHIN(start, EDGES) && WITHIN(flags, GUARD) && WITHIN(lies, GUARD) &&
-           WITHIN(skipped, WORD_EDGE);
+           WITHIN(started, GUARD) && WITHIN(skipped, WORD_EDGE);
 }
 
 static int values(uint64_t x, uint64_t y, uint64_t z)
@@ -218,7 +218,10 @@ static int unpacked(const uint8_t *marks, size_t place)
 
 /* what loads: ihex_load, or ihex_load_srecords */
 static uint32_t (*loader)(const uint8_t *text, size_t text_len, uint32_t first, uint8_t *page, size_t page_len, uint8_t *marks,
-                          size_t marks_len, size_t *line, uint64_t *a, uint64_t *b);
+                          size_t marks_len, size_t *line, uint8_t *start, uint64_t *a, uint64_t *b, uint64_t *c);
+
+/* the kind of start, with the value 0, that an accepted load is to return where a test names no other */
+static uint8_t usual_start = IHEX_NO_START;
 
 /* a load with the marks_len bytes of marks that marks_ has */
 static uint32_t load_upon(const char *text, uint32_t first, size_t page_len, size_t marks_len)
@@ -229,8 +232,9 @@ static uint32_t load_upon(const char *text, uint32_t first, size_t page_len, siz
     uint32_t r;
     fresh();
     line.value = 77;
-    r = loader(bytes, n, first, page, page_len, marks, marks_len, &line.value, &a.value, &b.value);
-    CHECK(same(&text_, text) && fenced() && c.value == EDGES);
+    started.value = 77;
+    r = loader(bytes, n, first, page, page_len, marks, marks_len, &line.value, &started.value, &a.value, &b.value, &c.value);
+    CHECK(same(&text_, text) && fenced());
     return r;
 }
 
@@ -258,14 +262,26 @@ static int marks_are(const char *marks, size_t places)
     return 1;
 }
 
-/* the count, the marks whole, and the bytes of the page from a place on */
+/* the kind of start of an accepted load, and its values */
+static int starts(uint8_t kind, uint64_t x, uint64_t y)
+{
+    return started.value == kind && b.value == x && c.value == y && line.value == 0;
+}
+
+/* the count, the marks whole, and the bytes of the page from a place on, whatever the start is */
+static int placed(uint64_t count, const char *marks, size_t at, const char *bytes)
+{
+    return a.value == count && marks_are(marks, strlen(marks)) && holds(&page_, at, bytes, strlen(bytes));
+}
+
+/* the same, with the usual start */
 static int loaded(uint64_t count, const char *marks, size_t at, const char *bytes)
 {
-    return a.value == count && b.value == 0 && line.value == 0 && marks_are(marks, strlen(marks)) &&
-           holds(&page_, at, bytes, strlen(bytes));
+    return placed(count, marks, at, bytes) && starts(usual_start, 0, 0);
 }
 
 static int not_loaded(uint64_t x, uint64_t y, size_t l)
 {
-    return a.value == x && b.value == y && line.value == l && untouched(&page_) && untouched(&marks_);
+    return a.value == x && b.value == y && c.value == 0 && started.value == IHEX_NO_START && line.value == l && untouched(&page_) &&
+           untouched(&marks_);
 }

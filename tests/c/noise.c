@@ -150,7 +150,8 @@ static void wrong_lines(void)
 struct load {
     uint32_t code;
     size_t line;
-    uint64_t a, b;
+    uint8_t start;
+    uint64_t a, b, c;
     uint8_t page[PLACES], marks[IHEX_MARKS(PLACES)];
 };
 
@@ -169,14 +170,14 @@ static struct load unloaded(void)
 static struct load load(const uint8_t *text, size_t n, uint32_t first)
 {
     struct load r = unloaded();
-    r.code = ihex_load(text, n, first, r.page, PLACES, r.marks, sizeof r.marks, &r.line, &r.a, &r.b);
+    r.code = ihex_load(text, n, first, r.page, PLACES, r.marks, sizeof r.marks, &r.line, &r.start, &r.a, &r.b, &r.c);
     return r;
 }
 
 static int same_load(const struct load *x, const struct load *y)
 {
-    return x->code == y->code && x->line == y->line && x->a == y->a && x->b == y->b && memcmp(x->page, y->page, PLACES) == 0 &&
-           memcmp(x->marks, y->marks, sizeof x->marks) == 0;
+    return x->code == y->code && x->line == y->line && x->start == y->start && x->a == y->a && x->b == y->b && x->c == y->c &&
+           memcmp(x->page, y->page, PLACES) == 0 && memcmp(x->marks, y->marks, sizeof x->marks) == 0;
 }
 
 static int untouched(const struct load *x)
@@ -213,6 +214,7 @@ static const struct dump {
     {"two of type 04", 0x08000000, ":020000040800F2\n:02000100D5E642\n:020000040800F2\n:00000001FF\n"},
     {"a type 03", 0, ":040000030000FA00FF\n:01002F001CB4\n:00000001FF"},
     {"a type 05", 0, ":01000000EE11\n:04000005080000CD22\n:00000001FF\n"},
+    {"the same start twice", 0, ":04000005ABCDEF127E\n:0100000011EE\n:04000005abcdef127e\n:00000001FF\n"},
     {"empty lines, small letters", 0, "\n\n:02000300abcd83\n\n:00123401B9\n"},
     {"an old dump after the end record", 0, ":0100000011EE\n:00000001FF\n:0100000022DD\n:00000001FF\n"},
 };
@@ -407,11 +409,26 @@ static int bytes_of(const uint8_t *line, size_t n, uint8_t *bytes)
     return (sum % BYTES == 0 || fault == NO_SUM) && bytes[0] == n / 2 - FRAME && bytes[TYPE] < TYPES ? bytes[0] : -1;
 }
 
-/* one good record: 1 at the end of the dump, 0 where it goes on, -1 where a byte lies outside */
+/* a start: whether none before it differs */
+static int take_start(struct load *r, int type, uint32_t high, uint32_t low)
+{
+    uint64_t b = type == IHEX_START_SEGMENT_ADDRESS ? high : high << 16 | low;
+    uint64_t c = type == IHEX_START_SEGMENT_ADDRESS ? low : 0;
+    int same = r->start == IHEX_NO_START || (r->start == type && r->b == b && r->c == c);
+    r->start = (uint8_t)type;
+    r->b = b;
+    r->c = c;
+    return same;
+}
+
+/* one good record: 1 at the end of the dump, 0 where it goes on, -1 where a byte lies outside or a start differs from the first */
 static int take_record(struct load *r, const uint8_t *bytes, int size, uint32_t first, uint32_t *base)
 {
     int type = bytes[TYPE];
     uint32_t number = (uint32_t)(bytes[TYPE + 1] * 256 + bytes[TYPE + 2]);
+    if ((type == IHEX_START_SEGMENT_ADDRESS || type == IHEX_START_LINEAR_ADDRESS) &&
+        !take_start(r, type, number, (uint32_t)(bytes[TYPE + 3] * 256 + bytes[TYPE + 4])))
+        return -1;
     if (type == IHEX_EXTENDED_SEGMENT_ADDRESS || type == IHEX_EXTENDED_LINEAR_ADDRESS)
         *base = type == IHEX_EXTENDED_SEGMENT_ADDRESS ? number * 16 : number << 16;
     for (int i = 0; type == IHEX_DATA && i < size; i++) {
@@ -429,6 +446,8 @@ static struct load refuse(const struct load *r)
 {
     struct load none = fault == KEEPS_WHAT_IT_READ ? *r : unloaded();
     none.code = IHEX_REFUSED;
+    none.start = IHEX_NO_START;
+    none.b = none.c = 0;
     return none;
 }
 

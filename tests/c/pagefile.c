@@ -4,6 +4,8 @@
  *   pagefile write-srecords FIRST PLACES TYPE BYTES
  *                                 the same as S-records: a header, data records S1 to S3 of at most so many bytes, their count and an end
  *   pagefile load-srecords FIRST PLACES
+ *   pagefile start FIRST PLACES   a file becomes a line with the kind of its start and the two values, in hexadecimal
+ *   pagefile start-srecords FIRST PLACES
  * A refusal is named on standard error, with the exit status 1. */
 #include <ihex.h>
 #include <stdio.h>
@@ -56,15 +58,18 @@ static int write_srecords(uint32_t first, size_t n, size_t places, uint8_t type,
 
 /* What loads: ihex_load, or ihex_load_srecords. */
 typedef uint32_t loads(const uint8_t *text, size_t text_len, uint32_t first, uint8_t *page, size_t page_len, uint8_t *marks,
-                       size_t marks_len, size_t *line, uint64_t *a, uint64_t *b);
+                       size_t marks_len, size_t *line, uint8_t *start, uint64_t *a, uint64_t *b, uint64_t *c);
 
-static int load_file(loads *load, uint32_t first, size_t n, size_t places)
+static int load_file(loads *load, uint32_t first, size_t n, size_t places, int with_start)
 {
     size_t line, row = IHEX_MARKS(places);
-    uint64_t a, b;
+    uint8_t start;
+    uint64_t a, b, c;
     memset(marks, 0xFF, sizeof marks);
-    if (places > IHEX_MAX_PAGE || refused(load(in, n, first, page, places, marks, row, &line, &a, &b)))
+    if (places > IHEX_MAX_PAGE || refused(load(in, n, first, page, places, marks, row, &line, &start, &a, &b, &c)))
         return 1;
+    if (with_start)
+        return printf("%u %lX %lX\n", start, (unsigned long)b, (unsigned long)c) < 0;
     return fwrite(page, 1, places, stdout) != places || fwrite(marks, 1, row, stdout) != row;
 }
 
@@ -75,12 +80,16 @@ int main(int argc, char **argv)
     if (argc == 4 && strcmp(argv[1], "write") == 0)
         return write_file(first, n, places);
     if (argc == 4 && strcmp(argv[1], "load") == 0)
-        return load_file(ihex_load, first, n, places);
+        return load_file(ihex_load, first, n, places, 0);
     if (argc == 6 && strcmp(argv[1], "write-srecords") == 0)
         return write_srecords(first, n, places, (uint8_t)strtoul(argv[4], NULL, 10), strtoul(argv[5], NULL, 10));
     if (argc == 4 && strcmp(argv[1], "load-srecords") == 0)
-        return load_file(ihex_load_srecords, first, n, places);
+        return load_file(ihex_load_srecords, first, n, places, 0);
+    if (argc == 4 && strcmp(argv[1], "start") == 0)
+        return load_file(ihex_load, first, n, places, 1);
+    if (argc == 4 && strcmp(argv[1], "start-srecords") == 0)
+        return load_file(ihex_load_srecords, first, n, places, 1);
     fprintf(stderr, "usage: pagefile write FIRST PLACES | load FIRST PLACES | write-srecords FIRST PLACES TYPE BYTES"
-                    " | load-srecords FIRST PLACES\n");
+                    " | load-srecords FIRST PLACES | start FIRST PLACES | start-srecords FIRST PLACES\n");
     return 2;
 }

@@ -368,22 +368,33 @@ static void loads_in_windows(void)
     CHECK(load("S104000011EA\nS9030000FC", 0, 0) == R(IHEX_OUTSIDE_WINDOW) && not_loaded(0, 0, 1));
 }
 
-/* any end ends any text, line ends and empty lines are as in Intel HEX, and what follows the end changes nothing */
+/* any end ends any text, and its address is the start; line ends and empty lines are as in Intel HEX, and what follows the end changes nothing */
 static void ends_of_texts(void)
 {
     static const char *const data[] = {"S104000011EA", "S20500000011E9", "S3060000000011E8"};
-    static const char *const ends[] = {"S9030000FC", "S903FFFFFE", "S804000000FB", "S70500000000FA"};
-    static const char *const behinds[] = {"", "\n", "\r\n", "\nS104000122D8\n", "\nx", "\nS5030009F3", "\n:00000001FF\n", "\nS9030000FD\n"};
+    static const struct {
+        const char *line;
+        uint64_t address;
+    } ends[] = {
+        {"S9030000FC", 0},           {"S903FFFFFE", 0xFFFF},   {"S9031234B6", 0x1234},         {"S804000000FB", 0},
+        {"S8041234565F", 0x123456},  {"S804ffffffFE", 0xFFFFFF}, {"S70500000000FA", 0},        {"S70512345678E6", 0x12345678},
+        {"S705FFFFFFFFFE", 0xFFFFFFFF},
+    };
+    static const char *const behinds[] = {
+        "", "\n", "\r\n", "\nS104000122D8\n", "\nx", "\nS5030009F3", "\n:00000001FF\n", "\nS9030000FD\n", "\nS9030001FB\n",
+    };
     char text[100];
     size_t i, k, m;
     for (i = 0; i < COUNT(data); i++)
         for (k = 0; k < COUNT(ends); k++)
             for (m = 0; m < COUNT(behinds); m++) {
                 begin_case();
-                sprintf(text, "%s\n%s%s", data[i], ends[k], behinds[m]);
-                CHECK(load(text, 0, 3) == IHEX_OK && loaded(1, "100", 0, "\x11"));
-                sprintf(text, "\r\n\n%s\r\n\r\n%s%s", data[i], ends[k], behinds[m]);
-                CHECK(load(text, 0, 3) == IHEX_OK && loaded(1, "100", 0, "\x11"));
+                sprintf(text, "%s\n%s%s", data[i], ends[k].line, behinds[m]);
+                CHECK(load(text, 0, 3) == IHEX_OK && placed(1, "100", 0, "\x11"));
+                CHECK(starts(IHEX_START_LINEAR_ADDRESS, ends[k].address, 0));
+                sprintf(text, "\r\n\n%s\r\n\r\n%s%s", data[i], ends[k].line, behinds[m]);
+                CHECK(load(text, 0, 3) == IHEX_OK && placed(1, "100", 0, "\x11"));
+                CHECK(starts(IHEX_START_LINEAR_ADDRESS, ends[k].address, 0));
                 end_case();
             }
     CHECK(load("S104000011EA\n", 0, 2) == R(IHEX_MISSING_END_OF_FILE_RECORD) && not_loaded(0, 0, 0));
@@ -432,7 +443,7 @@ static void counts_in_texts(void)
         text[0] = 0;
         for (k = 0; k < 6 && accepted[i].lines[k]; k++)
             strcat(strcat(text, accepted[i].lines[k]), "\n");
-        CHECK(load(text, 0, 3) == IHEX_OK && a.value == accepted[i].seen && b.value == 0 && line.value == 0);
+        CHECK(load(text, 0, 3) == IHEX_OK && a.value == accepted[i].seen && starts(IHEX_START_LINEAR_ADDRESS, 0, 0));
     }
     /* in the order of the text: a count, a line that is not a record, a byte outside */
     CHECK(load("S5030001FB\nx", 0, 2) == R(IHEX_COUNT_MISMATCH) && not_loaded(1, 0, 1));
@@ -452,7 +463,8 @@ static uint32_t load_many(size_t records, const char *last)
         memcpy(long_text + 11 * i, "S1030000FC\n", 11);
     strcpy(long_text + 11 * records, last);
     fresh();
-    return ihex_load_srecords((const uint8_t *)long_text, strlen(long_text), 0, page, 3, marks, 1, &line.value, &a.value, &b.value);
+    return ihex_load_srecords((const uint8_t *)long_text, strlen(long_text), 0, page, 3, marks, 1, &line.value, &started.value, &a.value,
+                              &b.value, &c.value);
 }
 
 static void counts_of_many(void)
@@ -519,12 +531,14 @@ static void old_contents(void)
         CHECK(ihex_read_srecord((const uint8_t *)"S105FFFFAABB97", 14, pool, 4, 1, &a.value, &b.value, &c.value) == IHEX_S1);
         CHECK(a.value == 0xFFFF && b.value == 1 && c.value == 2);
         CHECK(pool[0] == old && pool[1] == 0xAA && pool[2] == 0xBB && pool[3] == old);
-        CHECK(ihex_load_srecords((const uint8_t *)text, sizeof text - 1, 0xFFFE, page, 4, marks, 1, &line.value, &a.value, &b.value) == IHEX_OK);
-        CHECK(a.value == 1 && b.value == 0 && line.value == 0 && marks[0] == 6);
+        CHECK(ihex_load_srecords((const uint8_t *)text, sizeof text - 1, 0xFFFE, page, 4, marks, 1, &line.value, &started.value, &a.value,
+                                 &b.value, &c.value) == IHEX_OK);
+        CHECK(a.value == 1 && starts(IHEX_START_LINEAR_ADDRESS, 0, 0) && marks[0] == 6);
         CHECK(page[0] == old && page[1] == 0xAA && page[2] == 0xBB && page[3] == old);
         marks[0] = (uint8_t)old;
-        CHECK(ihex_load_srecords((const uint8_t *)text, 28, 0xFFFE, page, 4, marks, 1, &line.value, &a.value, &b.value) == R(IHEX_MISSING_END_OF_FILE_RECORD));
-        CHECK(page[0] == old && page[1] == 0xAA && marks[0] == old);
+        CHECK(ihex_load_srecords((const uint8_t *)text, 28, 0xFFFE, page, 4, marks, 1, &line.value, &started.value, &a.value, &b.value,
+                                 &c.value) == R(IHEX_MISSING_END_OF_FILE_RECORD));
+        CHECK(started.value == IHEX_NO_START && page[0] == old && page[1] == 0xAA && marks[0] == old);
         end_case();
     }
 }
@@ -534,7 +548,7 @@ static void old_contents(void)
 #define PLACES 300
 
 static struct {
-    uint32_t first;
+    uint32_t first, start;
     char intel[20000], srec[20000];
     uint8_t page[PLACES], marks[PLACES];
 } dump;
@@ -560,6 +574,16 @@ static void state_both(uint32_t at, size_t n)
     strcat(strcat(dump.srec, spell(address < 0x10000 ? 1 + draw(3) : address < 0x1000000 ? 2 + draw(2) : 3, address, data, n)), "\n");
 }
 
+/* the start of both kinds: a type 05, and an end of this type */
+static void state_start(unsigned type)
+{
+    uint32_t start = draw(4) ? draw(UINT32_MAX) >> (32 - 8 * width_of(type)) : 0;
+    unsigned sum = 9 + (start >> 24) + (start >> 16) + (start >> 8) + start;
+    sprintf(dump.intel + strlen(dump.intel), ":04000005%08lX%02X\n", (unsigned long)start, -sum & 255);
+    strcat(strcat(dump.srec, spell(type, start, NULL, 0)), "\n");
+    dump.start = start;
+}
+
 static void draw_dump(void)
 {
     static const uint32_t firsts[] = {0, 0xFFFF - 150, 0xFFFFFF - 150, UINT32_MAX - PLACES + 1, 0x12345678};
@@ -575,15 +599,15 @@ static void draw_dump(void)
         if (draw(4) == 0)
             strcat(strcat(dump.srec, spell(5, k, NULL, 0)), "\n");
     }
+    state_start(7 + draw(3));
     strcat(dump.intel, ":00000001FF\n");
-    strcat(strcat(dump.srec, spell(7 + draw(3), draw(0x10000), NULL, 0)), "\n");
 }
 
-/* whether page and marks are what the dump states over a page of OLD */
+/* whether the start, page and marks are what the dump states over a page of OLD */
 static int leaves_the_dump(void)
 {
     size_t p;
-    if (b.value != 0 || line.value != 0 || !guarded(&page_) || !guarded(&marks_))
+    if (!starts(IHEX_START_LINEAR_ADDRESS, dump.start, 0) || !guarded(&page_) || !guarded(&marks_))
         return 0;
     for (p = 0; p < PLACES; p++)
         if (page_.all[EDGE + p] != dump.page[p] || unpacked(marks_.all + EDGE, p) != dump.marks[p])
@@ -591,7 +615,7 @@ static int leaves_the_dump(void)
     return marks_.all[EDGE + PLACES / 8] >> PLACES % 8 == 0;
 }
 
-/* both kinds leave the same page and marks; text after the end, and what the marks held, changes nothing */
+/* both kinds leave the same start, page and marks; text after the end, and what the marks held, changes nothing */
 static void dumps_of_both_kinds(void)
 {
     int i;
@@ -645,6 +669,7 @@ int main(void)
 {
     reader = ihex_read_srecord;
     loader = ihex_load_srecords;
+    usual_start = IHEX_START_LINEAR_ADDRESS;
     lines_without_data();
     lines_with_data();
     longest_lines();

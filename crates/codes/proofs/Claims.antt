@@ -1,11 +1,14 @@
--- No second answer meets a contract: it says by equations what each number is.
+-- No second answer meets a contract: it says by equations what each number is. And a start is what its numbers say.
 -- Assumes nothing.
 use Prim.Native.Nat.{ℕ}
-use mathlib.Core.Path.{_≡_, sym, _∙_}
+use mathlib.Core.Path.{_≡_, refl, sym, _∙_}
+use mathlib.Core.Option.{none, some}
+use native.Mathlib.Omega.{arith}
+use Rattle.steps.specs.Steps.{cs-with-ip, linear-address}
 use Rattle.codes.specs.declared.Coded.{Coded}
 use Rattle.codes.specs.declared.Spot.{Spot}
 use Rattle.codes.specs.Codes.{Message, Coded-as}
-use Rattle.codes.specs.Claims.{Code-answer-unique, Code-sanswer-unique, Code-reply-unique, Code-chunk-reply-unique, Code-attempt-unique, Code-sattempt-unique, Code-loading-unique, Code-paged-unique, Line-at-unique, State-from-unique, Flags-from-unique, Chunks-from-unique, Chunk-flags-from-unique, Spot-of-unique, Place-from-unique}
+use Rattle.codes.specs.Claims.{Code-answer-unique, Code-sanswer-unique, Code-reply-unique, Code-chunk-reply-unique, Code-attempt-unique, Code-sattempt-unique, Code-loading-unique, Code-paged-unique, Line-at-unique, Start-kind-unique, Start-returns, State-from-unique, Flags-from-unique, Chunks-from-unique, Chunk-flags-from-unique, Spot-of-unique, Place-from-unique}
 
 one-coding : {m : Message} {r r′ : Coded} → Coded-as m r → Coded-as m r′ → r ≡ r′
 one-coding {r = r} {r′ = r′} x y =
@@ -46,6 +49,9 @@ code-paged-unique answer r r′ x y = one-coding x y
 pub line-at-unique : Line-at-unique
 line-at-unique answer r r′ x y = x .answer ∙ sym (y .answer)
 
+pub start-kind-unique : Start-kind-unique
+start-kind-unique answer r r′ x y = x .answer ∙ sym (y .answer)
+
 pub state-from-unique : State-from-unique
 state-from-unique position line flags r r′ x y = x .answer ∙ sym (y .answer)
 
@@ -66,3 +72,14 @@ spot-of-unique p r r′ x y = same (x .lies-is ∙ sym (y .lies-is)) (x .from-is
 
 pub place-from-unique : Place-from-unique
 place-from-unique lies from len r r′ x y = x .answer ∙ sym (y .answer)
+
+pub start-returns : Start-returns
+start-returns none none k v = refl
+start-returns none (some (cs-with-ip cs ip)) k v = absurd (omega arith)
+start-returns none (some (linear-address a)) k v = absurd (omega arith)
+start-returns (some (cs-with-ip cs ip)) none k v = absurd (omega arith)
+start-returns (some (cs-with-ip cs ip)) (some (cs-with-ip cs′ ip′)) k v = let c : cs ≡ cs′ = cc in let i : ip ≡ ip′ = cc in rw (c, i)
+start-returns (some (cs-with-ip cs ip)) (some (linear-address a)) k v = absurd (omega arith)
+start-returns (some (linear-address a)) none k v = absurd (omega arith)
+start-returns (some (linear-address a)) (some (cs-with-ip cs ip)) k v = absurd (omega arith)
+start-returns (some (linear-address a)) (some (linear-address a′)) k v = let e : a ≡ a′ = cc in rw e

@@ -2,7 +2,7 @@
 -- Assumes nothing.
 use Prim.Native.Nat.{ℕ, _%_}
 use mathlib.Core.Path.{_≡_}
-use mathlib.Core.Option.{some}
+use mathlib.Core.Option.{Option, some}
 use Rattle.reader.specs.declared.Answer.{Answer}
 use Rattle.reader.specs.declared.Reply.{Reply}
 use Rattle.reader.specs.declared.State.{State}
@@ -18,12 +18,13 @@ use Rattle.chunks.specs.declared.Chunks.{Chunks}
 use Rattle.chunks.specs.declared.Place.{Place}
 use Rattle.chunks.specs.Next.{word-of}
 use Rattle.steps.specs.declared.Loading.{Loading}
+use Rattle.steps.specs.Steps.{Start}
 use Rattle.steps.specs.Told.{told-loading}
 use Rattle.page.specs.declared.Paged.{Paged}
 use Rattle.page.specs.Told.{told-page}
 use Rattle.codes.specs.declared.Coded.{Coded}
 use Rattle.codes.specs.declared.Spot.{Spot}
-use Rattle.codes.specs.Codes.{Message, Coded-as, reading, reading-chunk, writing, loading, LineAt}
+use Rattle.codes.specs.Codes.{Message, Coded-as, reading, reading-chunk, writing, loading, LineAt, start-values, kind-of-start, StartKind}
 use Rattle.codes.specs.States.{state-of, flags-of, chunks-of, chunk-flags-of, lies-of, from-of, len-of, place-of, StateFrom, FlagsFrom, ChunksFrom, ChunkFlagsFrom, Spot-as, PlaceFrom}
 
 -- ---- no second answer meets a contract
@@ -59,6 +60,9 @@ Code-paged-unique = One-coding Paged (λ x. writing (some (told-page x)))
 abbrev pub Line-at-unique : Type 0
 Line-at-unique = (x : Loading) (r r′ : ℕ) → LineAt (told-loading x) r → LineAt (told-loading x) r′ → r ≡ r′
 
+abbrev pub Start-kind-unique : Type 0
+Start-kind-unique = (x : Loading) (r r′ : ℕ) → StartKind (told-loading x) r → StartKind (told-loading x) r′ → r ≡ r′
+
 abbrev pub State-from-unique : Type 0
 State-from-unique = (position line flags : ℕ) (r r′ : State) → StateFrom position line flags r → StateFrom position line flags r′ → r ≡ r′
 
@@ -78,6 +82,11 @@ Spot-of-unique = (p : Place) (r r′ : Spot) → Spot-as p r → Spot-as p r′ 
 
 abbrev pub Place-from-unique : Type 0
 Place-from-unique = (lies from len : ℕ) (r r′ : Place) → PlaceFrom lies from len r → PlaceFrom lies from len r′ → r ≡ r′
+
+-- ---- a start is what its numbers say
+
+abbrev pub Start-returns : Type 0
+Start-returns = (s s′ : Option Start) → kind-of-start s ≡ kind-of-start s′ → start-values s ≡ start-values s′ → s ≡ s′
 
 -- ---- a state and a place are what their numbers say: nothing is lost from one call to the next
 

@@ -9,7 +9,7 @@ use Rattle.record.specs.Refusals.{Refusal, refusal, pool-full, carry-too-small}
 use Rattle.reader.specs.Told.{Told, gives, refuses, done}
 use Rattle.writer.specs.Told.{Told-written, wrote, refuses as refuses-to-write}
 use Rattle.chunks.specs.Next.{Word, tells, used-up}
-use Rattle.steps.specs.Steps.{Verdict, accepted, refused}
+use Rattle.steps.specs.Steps.{Start, cs-with-ip, linear-address, Verdict, accepted, refused}
 use Rattle.codes.specs.declared.Coded.{Coded}
 
 -- a code, and values
@@ -68,9 +68,15 @@ writing none = message BAD-RECORD []
 writing (some (wrote place)) = message OK (place ∷ [])
 writing (some (refuses-to-write r)) = refused-with r
 
--- OK and the number of data records
+-- a start in numbers: CS and IP, or the linear address
+abbrev pub start-values : Option Start → List ℕ
+start-values none = []
+start-values (some (cs-with-ip cs ip)) = cs ∷ ip ∷ []
+start-values (some (linear-address address)) = address ∷ []
+
+-- OK, the number of data records, and the start
 abbrev pub loading : Verdict → Message
-loading (accepted tally) = message OK (tally .records ∷ [])
+loading (accepted tally) = message OK (tally .records ∷ start-values (tally .start))
 loading (refused r line) = refused-with r
 
 -- the number of the line that a refusal names, and 0 where it names none
@@ -80,6 +86,34 @@ line-at (refused r line) = line
 
 pub record LineAt (v : Verdict) (r : ℕ) : Type 0 where
   pub answer : r ≡ line-at v
+
+-- the kinds of starts: IHEX_NO_START, IHEX_START_SEGMENT_ADDRESS and IHEX_START_LINEAR_ADDRESS
+abbrev pub kind-of-start : Option Start → ℕ
+kind-of-start none = 0
+kind-of-start (some (cs-with-ip cs ip)) = 3
+kind-of-start (some (linear-address address)) = 5
+
+-- the kind of the start that a load reports, and 0 where it is refused
+abbrev pub start-kind : Verdict → ℕ
+start-kind (accepted tally) = kind-of-start (tally .start)
+start-kind (refused r line) = 0
+
+pub record StartKind (v : Verdict) (r : ℕ) : Type 0 where
+  pub answer : r ≡ start-kind v
+
+-- what a load returns in C: its code, the line that a refusal names, the kind of start, and three values
+pub record Load-numbers : Type 0 where
+  pub code : ℕ
+  pub line : ℕ
+  pub start : ℕ
+  pub a : ℕ
+  pub b : ℕ
+  pub c : ℕ
+
+abbrev pub load-numbers : Verdict → Load-numbers
+load-numbers v =
+    let m = loading v in
+    record { code = m .code; line = line-at v; start = start-kind v; a = value m 0; b = value m 1; c = value m 2 }
 
 -- an answer in four numbers
 pub record Numbers (m : Message) (r a b c : ℕ) : Type 0 where

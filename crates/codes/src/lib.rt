@@ -14,12 +14,15 @@ use reader::State;
 use reader::Values;
 use record::Record;
 use record::refusals;
+use record::types;
 use srec::SAnswer;
 use srec::SRecord;
 use srec::SWriterError;
 use srec::SWritten;
 use steps::LoaderError;
 use steps::Loading;
+use steps::Start;
+use steps::Tally;
 use writer::WriterError;
 use writer::Written;
 ghost use mathlib.Core.Path.{_≡_};
@@ -32,9 +35,10 @@ ghost use Rattle.srec.specs.Answer.{told-sanswer};
 ghost use Rattle.srec.specs.Writer.{told-swritten, swriter-refusal};
 ghost use Rattle.entries.specs.Attempts.{told-attempt, told-sattempt};
 ghost use Rattle.chunks.specs.Next.{word-of};
-ghost use Rattle.steps.specs.Told.{told-loading, loader-refusal};
+ghost use Rattle.steps.specs.Told.{told-loading, loader-refusal, tallied};
+ghost use Rattle.steps.specs.Steps.{accepted};
 ghost use Rattle.page.specs.Told.{told-page, page-refusal};
-ghost use Rattle.codes.specs.Codes.{Coded-as, refused-with, reading, reading-chunk, writing, loading, LineAt};
+ghost use Rattle.codes.specs.Codes.{Coded-as, refused-with, reading, reading-chunk, writing, loading, LineAt, StartKind};
 ghost use Rattle.codes.specs.States.{Flag, StateFrom, FlagsFrom, ChunksFrom, ChunkFlagsFrom, Spot-as, PlaceFrom};
 
 // The codes that are not the type of a record. A refusal's number is added to REFUSED.
@@ -47,6 +51,9 @@ const DONE: u32 = 512;
 const USED_UP: u32 = 513;
 
 const BAD_RECORD: u32 = 1024;
+
+// The kind of a start that no record states.
+const NO_START: u8 = 0;
 
 // An answer in numbers: its code, and up to three values, 0 where there is none.
 pub struct Coded {
@@ -236,6 +243,20 @@ fn code_loader_error(e: LoaderError) -> Coded
             stated as u64,
             seen as u64,
         ),
+        LoaderError::StartConflict => refused(refusals::START_CONFLICT, 0, 0),
+    }
+}
+
+// An accepted load: the number of data records, then CS and IP, or the linear address.
+fn code_tally(tally: Tally) -> Coded
+    ensures { λ r. ⌜ Coded-as (loading (accepted (tallied tally))) r ⌝ }
+{
+    let records = tally.records as u64;
+    let start = tally.start;
+    match start {
+        Start::Unstated => four(OK, records, 0, 0),
+        Start::Segment { cs, ip } => four(OK, records, cs as u64, ip as u64),
+        Start::Linear(address) => four(OK, records, address as u64, 0),
     }
 }
 
@@ -243,7 +264,7 @@ pub fn code_loading(answer: Loading) -> Coded
     ensures { λ r. ⌜ Coded-as (loading (told-loading answer)) r ⌝ }
 {
     match answer {
-        Loading::Accepted(tally) => four(OK, tally.records as u64, 0, 0),
+        Loading::Accepted(tally) => code_tally(tally),
         Loading::Refused(e, _) => code_loader_error(e),
     }
 }
@@ -255,6 +276,23 @@ pub fn line_at(answer: Loading) -> usize
     match answer {
         Loading::Accepted(_) => 0,
         Loading::Refused(_, line) => line,
+    }
+}
+
+// The kind of start that an accepted load reports: the type of the record that states it in Intel HEX, and 0 for none.
+pub fn start_kind(answer: Loading) -> u8
+    ensures { λ r. ⌜ StartKind (told-loading answer) r ⌝ }
+{
+    match answer {
+        Loading::Accepted(tally) => {
+            let start = tally.start;
+            match start {
+                Start::Unstated => NO_START,
+                Start::Segment { cs: _, ip: _ } => types::START_SEGMENT_ADDRESS,
+                Start::Linear(_) => types::START_LINEAR_ADDRESS,
+            }
+        }
+        Loading::Refused(_, _) => NO_START,
     }
 }
 

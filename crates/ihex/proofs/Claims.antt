@@ -69,11 +69,7 @@ pub ihex-create-object-file-representation-unique : Ihex-create-object-file-repr
 ihex-create-object-file-representation-unique list pool out = one-wrote-text _ out
 
 one-load : {S : Type 0} (src : Source S) → One-load src
-one-load src text first page marks r l a b p m r′ l′ a′ b′ p′ m′ x y = (
-  (x .code-is ∙ sym (y .code-is), x .line-is ∙ sym (y .line-is), x .a-is ∙ sym (y .a-is), x .b-is ∙ sym (y .b-is)),
-  x .page-is ∙ sym (y .page-is),
-  x .marks-is ∙ sym (y .marks-is),
-)
+one-load src text first page marks r p m r′ p′ m′ x y = (x .numbers ∙ sym (y .numbers), x .page-is ∙ sym (y .page-is), x .marks-is ∙ sym (y .marks-is))
 
 pub ihex-load-unique : Ihex-load-unique
 ihex-load-unique = one-load intel

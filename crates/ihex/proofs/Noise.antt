@@ -13,13 +13,14 @@ use Rattle.record.proofs.Noise.{one-wrong-character, answer-by}
 use Rattle.record.proofs.Standing.{Stands, stands, fault-few}
 use Rattle.reader.specs.Answer.{answered, poured}
 use Rattle.steps.specs.Steps.{Verdict}
+use Rattle.loader.specs.Placing.{intel}
 use Rattle.loader.specs.Load.{load}
 use Rattle.loader.specs.Noise.{Refused-or-same, is-refused, is-the-same}
 use Rattle.loader.proofs.Noise.{load-noticed}
-use Rattle.codes.specs.Codes.{OK, POOL-FULL, value, reading, loading, line-at}
+use Rattle.codes.specs.Codes.{OK, POOL-FULL, value, reading, loading, load-numbers}
 use Rattle.ihex.specs.Entries.{IhexReadRecord}
 use Rattle.ihex.specs.Noise.{Returned-record, returned, refuse, Ihex-one-wrong-character, Ihex-damage-is-noticed}
-use Rattle.codes.proofs.Says.{was-accepted}
+use Rattle.ihex.proofs.Loads.{accepts}
 
 -- a record, or a full pool, is returned only for a line that says a record
 given-is-said : (line pool : List ℕ) (at r a b c : ℕ) (p : List ℕ) → IhexReadRecord line pool at r a b c p → (r < 6) ⊎ (r ≡ POOL-FULL) → Says-a-record line
@@ -49,15 +50,13 @@ ihex-one-wrong-character before x y after pool at r a b c p r′ a′ b′ c′ 
     (answer-by (return-as pool at) (one-wrong-character before x y after kind address payload n e))
 
 pub ihex-damage-is-noticed : Ihex-damage-is-noticed
-ihex-damage-is-noticed text text′ d first page marks line a b p m l r′ line′ a′ b′ p′ m′ l′ =
-    let (tally, e) = was-accepted (load text first page marks .answer) (sym (l .code-is)) in
-    rw (l .line-is, l .a-is, l .b-is, l .page-is, l .marks-is, l′ .code-is, l′ .line-is, l′ .a-is, l′ .b-is, l′ .page-is, l′ .marks-is)
-    (go _ _ _ (load-noticed text text′ d first page marks tally e))
+ihex-damage-is-noticed text text′ d first page marks r p m l ok r′ p′ m′ l′ =
+    let (tally, e) = accepts intel text first page marks r p m l ok in
+    rw (l .numbers, l .page-is, l .marks-is, l′ .numbers, l′ .page-is, l′ .marks-is) (go _ _ _ (load-noticed text text′ d first page marks tally e))
   where
     go : (v : Verdict) (q k : List ℕ)
         → Refused-or-same page marks (load text first page marks .answer) (load text first page marks .page) (load text first page marks .marks) v q k
         → ((loading v .code ≢ OK) × (q ≡ page) × (k ≡ marks))
-        ⊎ ((loading v .code ≡ OK) × (line-at v ≡ line-at (load text first page marks .answer)) × (value (loading v) 0 ≡ value (loading (load text first page marks .answer)) 0)
-        × (value (loading v) 1 ≡ value (loading (load text first page marks .answer)) 1) × (q ≡ load text first page marks .page) × (k ≡ load text first page marks .marks))
+        ⊎ ((load-numbers v ≡ load-numbers (load text first page marks .answer)) × (q ≡ load text first page marks .page) × (k ≡ load text first page marks .marks))
     go v q k (is-refused (refusal number values) n) = inl (λ z. omega arith, refl, refl)
-    go v q k is-the-same = inr (sym (l .code-is), refl, refl, refl, refl, refl)
+    go v q k is-the-same = inr (refl, refl, refl)

@@ -26,7 +26,7 @@ use Rattle.page.specs.Claims.{Why}
 use Rattle.page.proofs.Calls.{restores-so, loaded-back, equal-answers, length-of-lengths}
 use Rattle.page.proofs.Claims.{none-to-name, text-cases, reasons, one-reason}
 use Rattle.page.proofs.Room.{room-enough}
-use Rattle.codes.specs.Codes.{OK, value, writing, loading}
+use Rattle.codes.specs.Codes.{OK, value, writing, load-numbers}
 use Rattle.ihex.specs.Entries.{IhexWritePage}
 use Rattle.ihex.specs.Claims.{Page-loads-back}
 use Rattle.ihex.specs.Pages.{OUTPUT-FULL, BAD-MARK, Ihex-write-page-reasons, Ihex-no-bad-mark, Ihex-length-as-written, Ihex-page-room, Ihex-length-of-lengths, Ihex-unmarked-bytes}
@@ -37,10 +37,9 @@ was-written first page marks out n out′ w =
     record { answer = wrote-it (if-room (place-behind (page-text first page marks) 0) (length out)) n (w .code-is) (w .value-is); left = w .left }
 
 pub page-loads-back : Page-loads-back
-page-loads-back first page marks out n out′ old-page old-marks r l a b page′ marks′ bytes bm lp lm w g =
+page-loads-back first page marks out n out′ old-page old-marks r page′ marks′ bytes bm lp lm w g =
     let (answer, restored) = loaded-back first page marks out n out′ old-page old-marks bytes bm lp lm (was-written first page marks out n out′ w) in (
-      g .code-is ∙ ap (λ (v : Verdict). loading v .code) answer,
-      g .a-is ∙ ap (λ (v : Verdict). value (loading v) 0) answer,
+      g .numbers ∙ ap load-numbers answer,
       restores-so page marks old-page page′ marks′ (load (take n out′) first old-page old-marks) _ (g .page-is) (g .marks-is) restored,
     )
 

@@ -27,6 +27,7 @@ use Rattle.entries.specs.Attempts.{record-text, srecord-text, list-text}
 use Rattle.page.specs.Pieces.{pieces}
 use Rattle.page.specs.File.{page-text}
 use Rattle.page.specs.Claims.{Restores}
+use Rattle.codes.specs.Codes.{Load-numbers, load-numbers}
 use Rattle.ihex.specs.Entries.{Read-line, IhexNext, Chunk-read, IhexShown, Wrote-text, IhexLoadBy, IhexLoad, IhexPageFileLength, IhexWritePage}
 
 -- ---- no second answer meets a contract
@@ -88,9 +89,8 @@ Ihex-create-object-file-representation-unique = (list pool out : List ℕ) → O
 -- of a load of any source
 abbrev pub One-load : {S : Type 0} → Source S → Type 0
 One-load src =
-    (text : List ℕ) (first : ℕ) (page marks : List ℕ) (r l a b : ℕ) (p m : List ℕ) (r′ l′ a′ b′ : ℕ) (p′ m′ : List ℕ)
-    → IhexLoadBy src text first page marks r l a b p m → IhexLoadBy src text first page marks r′ l′ a′ b′ p′ m′
-    → ((r ≡ r′) × (l ≡ l′) × (a ≡ a′) × (b ≡ b′)) × (p ≡ p′) × (m ≡ m′)
+    (text : List ℕ) (first : ℕ) (page marks : List ℕ) (r : Load-numbers) (p m : List ℕ) (r′ : Load-numbers) (p′ m′ : List ℕ)
+    → IhexLoadBy src text first page marks r p m → IhexLoadBy src text first page marks r′ p′ m′ → (r ≡ r′) × (p ≡ p′) × (m ≡ m′)
 
 abbrev pub Ihex-load-unique : Type 0
 Ihex-load-unique = One-load intel
@@ -107,12 +107,13 @@ Ihex-write-page-unique = (first : ℕ) (page marks out : List ℕ) → One-wrote
 
 -- ---- a page
 
--- what `ihex_write_page` wrote, loaded by `ihex_load` into the same window, whatever that held: accepted with all its data records, with the
--- same marks and the same bytes at them; every other place keeps its byte
+-- what `ihex_write_page` wrote, loaded by `ihex_load` into the same window, whatever that held: accepted with all its data records and no start, with
+-- the same marks and the same bytes at them; every other place keeps its byte
 abbrev pub Page-loads-back : Type 0
 Page-loads-back =
-    (first : ℕ) (page marks out : List ℕ) (n : ℕ) (out′ old-page old-marks : List ℕ) (r l a b : ℕ) (page′ marks′ : List ℕ)
+    (first : ℕ) (page marks out : List ℕ) (n : ℕ) (out′ old-page old-marks : List ℕ) (r : Load-numbers) (page′ marks′ : List ℕ)
     → Every Byte page → Bytes marks → length old-page ≡ length page → length old-marks ≡ length marks
-    → IhexWritePage first page marks out 0 n out′ → IhexLoad (take n out′) first old-page old-marks r l a b page′ marks′
+    → IhexWritePage first page marks out 0 n out′ → IhexLoad (take n out′) first old-page old-marks r page′ marks′
     → let k = length (pieces first 0 none (flags (length page) marks)) in
-    (r ≡ 0) × (a ≡ k) × Restores page marks old-page (record { answer = accepted (record { records = k }); page = page′; marks = marks′ })
+    let answer = accepted (record { records = k; start = none }) in
+    (r ≡ load-numbers answer) × Restores page marks old-page (record { answer = answer; page = page′; marks = marks′ })

@@ -26,7 +26,7 @@ use Rattle.loader.specs.Placing.{intel}
 use Rattle.srecload.specs.Placing.{s-records}
 use Rattle.page.specs.File.{page-text}
 use Rattle.entries.specs.Attempts.{told-of, output-with, record-text, srecord-text, list-text}
-use Rattle.codes.specs.Codes.{value, Numbers, reading, reading-chunk, writing, loading, line-at}
+use Rattle.codes.specs.Codes.{value, Numbers, Load-numbers, reading, reading-chunk, writing, load-numbers}
 use Rattle.codes.specs.States.{flags-of, chunk-flags-of, Spotted, place-of}
 
 -- what is returned for one line, in numbers, and the pool after it
@@ -116,20 +116,21 @@ abbrev pub IhexCreateObjectFileRepresentation : (list pool out : List ℕ) (r v 
 IhexCreateObjectFileRepresentation list pool out r v out′ =
     Wrote-text (list-text list pool) out r v out′
 
--- a text of any source was loaded: an answer in four numbers, and the page and the marks after it
-pub record IhexLoadBy {S : Type 0} (src : Source S) (text : List ℕ) (first : ℕ) (page marks : List ℕ) (r line a b : ℕ) (page′ marks′ : List ℕ) : Type 0 where
-  pub code-is : r ≡ loading (load-window src text first page marks .answer) .code
-  pub line-is : line ≡ line-at (load-window src text first page marks .answer)
-  pub a-is : a ≡ value (loading (load-window src text first page marks .answer)) 0
-  pub b-is : b ≡ value (loading (load-window src text first page marks .answer)) 1
+-- what a load returned, in six numbers: the code, and what line, start, a, b and c hold
+abbrev pub six : (r line start a b c : ℕ) → Load-numbers
+six r line start a b c = record { code = r; line = line; start = start; a = a; b = b; c = c }
+
+-- a text of any source was loaded: what was returned, and the page and the marks after it
+pub record IhexLoadBy {S : Type 0} (src : Source S) (text : List ℕ) (first : ℕ) (page marks : List ℕ) (r : Load-numbers) (page′ marks′ : List ℕ) : Type 0 where
+  pub numbers : r ≡ load-numbers (load-window src text first page marks .answer)
   pub page-is : page′ ≡ load-window src text first page marks .page
   pub marks-is : marks′ ≡ load-window src text first page marks .marks
 
-abbrev pub IhexLoad : (text : List ℕ) (first : ℕ) (page marks : List ℕ) (r line a b : ℕ) (page′ marks′ : List ℕ) → Type 0
-IhexLoad text first page marks r line a b page′ marks′ = IhexLoadBy intel text first page marks r line a b page′ marks′
+abbrev pub IhexLoad : (text : List ℕ) (first : ℕ) (page marks : List ℕ) (r : Load-numbers) (page′ marks′ : List ℕ) → Type 0
+IhexLoad text first page marks r page′ marks′ = IhexLoadBy intel text first page marks r page′ marks′
 
-abbrev pub IhexLoadSrecords : (text : List ℕ) (first : ℕ) (page marks : List ℕ) (r line a b : ℕ) (page′ marks′ : List ℕ) → Type 0
-IhexLoadSrecords text first page marks r line a b page′ marks′ = IhexLoadBy s-records text first page marks r line a b page′ marks′
+abbrev pub IhexLoadSrecords : (text : List ℕ) (first : ℕ) (page marks : List ℕ) (r : Load-numbers) (page′ marks′ : List ℕ) → Type 0
+IhexLoadSrecords text first page marks r page′ marks′ = IhexLoadBy s-records text first page marks r page′ marks′
 
 -- how long the file of a page is: an answer in two numbers
 pub record IhexPageFileLength (first : ℕ) (page marks : List ℕ) (r v : ℕ) : Type 0 where

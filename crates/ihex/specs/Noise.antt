@@ -8,7 +8,7 @@ use lib.ListN.{length}
 use Rattle.record.specs.Refusals.{Refusal}
 use Rattle.record.specs.Noise.{Answer-to-wrong}
 use Rattle.loader.specs.Noise.{Damaged}
-use Rattle.codes.specs.Codes.{OK, POOL-FULL, value, refused-with}
+use Rattle.codes.specs.Codes.{OK, POOL-FULL, Load-numbers, value, refused-with}
 use Rattle.ihex.specs.Entries.{IhexReadRecord, IhexLoad}
 
 -- what `ihex_read_record` returns, and what the pool holds then
@@ -40,6 +40,6 @@ Ihex-one-wrong-character =
 abbrev pub Ihex-damage-is-noticed : Type 0
 Ihex-damage-is-noticed =
     (text text′ : List ℕ) → Damaged text text′
-    → (first : ℕ) (page marks : List ℕ) (line a b : ℕ) (p m : List ℕ) → IhexLoad text first page marks OK line a b p m
-    → (r′ line′ a′ b′ : ℕ) (p′ m′ : List ℕ) → IhexLoad text′ first page marks r′ line′ a′ b′ p′ m′
-    → ((r′ ≢ OK) × (p′ ≡ page) × (m′ ≡ marks)) ⊎ ((r′ ≡ OK) × (line′ ≡ line) × (a′ ≡ a) × (b′ ≡ b) × (p′ ≡ p) × (m′ ≡ m))
+    → (first : ℕ) (page marks : List ℕ) (r : Load-numbers) (p m : List ℕ) → IhexLoad text first page marks r p m → r .code ≡ OK
+    → (r′ : Load-numbers) (p′ m′ : List ℕ) → IhexLoad text′ first page marks r′ p′ m′
+    → ((r′ .code ≢ OK) × (p′ ≡ page) × (m′ ≡ marks)) ⊎ ((r′ ≡ r) × (p′ ≡ p) × (m′ ≡ m))

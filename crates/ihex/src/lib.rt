@@ -4,7 +4,7 @@ use chunks::Place;
 ghost use mathlib.Core.Path.{_≡_};
 ghost use Rattle.checksum.specs.Checksum.{Checksum};
 ghost use Rattle.codes.specs.States.{state-of, chunks-of, place-of};
-ghost use Rattle.ihex.specs.Entries.{start-of, TellStep, IhexReadRecord, IhexReadSrecord, IhexNext, IhexNextChunk, IhexFinish, IhexShown, IhexToRecordString, IhexToSrecordString, IhexCreateObjectFileRepresentation, IhexLoad, IhexLoadSrecords, IhexPageFileLength, IhexWritePage};
+ghost use Rattle.ihex.specs.Entries.{start-of, six, TellStep, IhexReadRecord, IhexReadSrecord, IhexNext, IhexNextChunk, IhexFinish, IhexShown, IhexToRecordString, IhexToSrecordString, IhexCreateObjectFileRepresentation, IhexLoad, IhexLoadSrecords, IhexPageFileLength, IhexWritePage};
 
 // The checksum of the bytes.
 #[no_mangle]
@@ -293,16 +293,20 @@ pub extern "C" fn ihex_load(
     page: &mut [u8],
     marks: &mut [u8],
     line: &mut usize,
+    start: &mut u8,
     a: &mut u64,
     b: &mut u64,
+    c: &mut u64,
 ) -> u32
-    ensures { λ r. ⌜ IhexLoad (now (text .entry)) first (now (page .entry)) (now (marks .entry)) r (now (line .exit)) (now (a .exit)) (now (b .exit)) (now (page .exit)) (now (marks .exit)) ⌝ }
+    ensures { λ r. ⌜ IhexLoad (now (text .entry)) first (now (page .entry)) (now (marks .entry)) (six r (now (line .exit)) (now (start .exit)) (now (a .exit)) (now (b .exit)) (now (c .exit))) (now (page .exit)) (now (marks .exit)) ⌝ }
 {
     let answer = loader::load(text, first, page, marks);
     let told = codes::code_loading(answer);
     *line = codes::line_at(answer);
+    *start = codes::start_kind(answer);
     *a = told.a;
     *b = told.b;
+    *c = told.c;
     told.code
 }
 
@@ -314,16 +318,20 @@ pub extern "C" fn ihex_load_srecords(
     page: &mut [u8],
     marks: &mut [u8],
     line: &mut usize,
+    start: &mut u8,
     a: &mut u64,
     b: &mut u64,
+    c: &mut u64,
 ) -> u32
-    ensures { λ r. ⌜ IhexLoadSrecords (now (text .entry)) first (now (page .entry)) (now (marks .entry)) r (now (line .exit)) (now (a .exit)) (now (b .exit)) (now (page .exit)) (now (marks .exit)) ⌝ }
+    ensures { λ r. ⌜ IhexLoadSrecords (now (text .entry)) first (now (page .entry)) (now (marks .entry)) (six r (now (line .exit)) (now (start .exit)) (now (a .exit)) (now (b .exit)) (now (c .exit))) (now (page .exit)) (now (marks .exit)) ⌝ }
 {
     let answer = srecload::load_srecords(text, first, page, marks);
     let told = codes::code_loading(answer);
     *line = codes::line_at(answer);
+    *start = codes::start_kind(answer);
     *a = told.a;
     *b = told.b;
+    *c = told.c;
     told.code
 }
 

@@ -9,10 +9,10 @@ use mathlib.Core.Option.{Option, none, some}
 use mathlib.Core.List.{List, [], _∷_, _++_, map}
 use lib.Dec.{eqb}
 use Rattle.digits.specs.Common.{if_then_else_}
-use Rattle.record.specs.Refusals.{count-mismatch}
+use Rattle.record.specs.Refusals.{count-mismatch, start-conflict}
 use Rattle.record.specs.Line.{Said, says, wrong, judge}
 use Rattle.record.specs.Noise.{Says-a-record}
-use Rattle.steps.specs.Steps.{Placement, Action, places, counts, finishes, fails, Step, step, Tally, one-more, accepted, refused, by, outside, on, stop, at-data, turn, onward, decision, stated}
+use Rattle.steps.specs.Steps.{Placement, Action, places, starts, counts, finishes, fails, Step, step, Tally, one-more, started, accepted, refused, by, outside, differ, on, stop, at-data, turn, onward, decision, stated}
 use Rattle.steps.specs.Source.{steps}
 use Rattle.loader.specs.Placing.{Base, act, base-after, intel, intel-by}
 
@@ -37,6 +37,14 @@ module _ (inside : ℕ → Bool) where
           → (t ≡ t′) × (what ++ stated s ≡ what ++ stated s′)
       go none e e′ = let (p, q) = g (one-more tally) m m′ t t′ e e′ in (p, ap (λ (ps : List Placement). what ++ ps) q)
       go (some a) e e′ = (cc, cc)
+  agreed-step n n′ (starts x) s s′ g tally m m′ t t′ = go (differ (tally .start) (some x))
+    where
+      go : (b : Bool)
+          → onward n (if b then stop (refused start-conflict n) else on (started x tally)) (λ k. decision inside k s) ≡ some (by m (accepted t))
+          → onward n′ (if b then stop (refused start-conflict n′) else on (started x tally)) (λ k. decision inside k s′) ≡ some (by m′ (accepted t′))
+          → (t ≡ t′) × (stated s ≡ stated s′)
+      go true e e′ = (cc, cc)
+      go false e e′ = g (started x tally) m m′ t t′ e e′
   agreed-step n n′ (counts c) s s′ g tally m m′ t t′ = go (eqb c (tally .records))
     where
       go : (b : Bool)

@@ -12,14 +12,14 @@ use lib.Dec.{ltb}
 use lib.ListN.{length}
 use borrow.Author.Tests.{ltb-true, ltb-false}
 use Rattle.digits.specs.Common.{if_then_else_}
-use Rattle.record.specs.Refusals.{bad-window}
+use Rattle.record.specs.Refusals.{bad-window, start-conflict}
 use Rattle.record.specs.Line.{says}
 use Rattle.record.specs.Meaning.{Meaning, data-at, end-of-file, extended-segment, start-segment, extended-linear, start-linear, meaning}
 use Rattle.record.specs.Written.{Sayable}
 use Rattle.reader.specs.Lines.{lines}
 use Rattle.reader.specs.Row.{Numbered, on, is-end, row}
 use Rattle.reader.specs.Text.{default-options}
-use Rattle.steps.specs.Steps.{Placement, places, Step, step, Tally, nothing-yet, one-more, Verdict, Decision, accepted, outside, at-data as met, turn, onward, decision, verdict, stated}
+use Rattle.steps.specs.Steps.{Placement, Start, cs-with-ip, linear-address, places, starts, Step, step, Tally, nothing-yet, one-more, started, Verdict, Decision, accepted, refused, outside, differ, Turn, on as on-with, stop, at-data as met, turn, onward, decision, verdict, stated}
 use Rattle.steps.specs.Sites as sites
 use Rattle.steps.specs.Sites.{Loaded, store, stopping-by, stopping-in, load-steps}
 use Rattle.steps.proofs.Sites.{stored-answer}
@@ -42,9 +42,9 @@ module _ (first size : ℕ) (small : size ≤ 65536) where
   abbrev inside : ℕ → Bool
   inside = within first size
 
-  -- two rows of steps come to the same decision and placements
+  -- two rows of steps come to the same decision and, if it accepts, to the same placements
   abbrev Alike : Tally → (s₁ s₂ : List Step) → Type 0
-  Alike tally s₁ s₂ = (decision inside tally s₁ ≡ decision inside tally s₂) × (stated s₁ ≡ stated s₂)
+  Alike tally s₁ s₂ = (decision inside tally s₁ ≡ decision inside tally s₂) × ((t : Tally) → verdict (decision inside tally s₁) ≡ accepted t → stated s₁ ≡ stated s₂)
 
   -- or one of them is refused with 17
   abbrev Sides : Tally → (s₁ s₂ : List Step) → Type 0
@@ -73,11 +73,23 @@ module _ (first size : ℕ) (small : size ≤ 65536) where
   ahead n what s₁ s₂ h tally = go (outside inside what) (h (one-more tally))
     where
       go : (o : Option ℕ) → Sides (one-more tally) s₁ s₂
-          → ((onward n (met n o tally) (λ t′. decision inside t′ s₁) ≡ onward n (met n o tally) (λ t′. decision inside t′ s₂)) × (what ++ stated s₁ ≡ what ++ stated s₂))
+          → ((onward n (met n o tally) (λ t′. decision inside t′ s₁) ≡ onward n (met n o tally) (λ t′. decision inside t′ s₂))
+          × ((t : Tally) → verdict (onward n (met n o tally) (λ t′. decision inside t′ s₁)) ≡ accepted t → what ++ stated s₁ ≡ what ++ stated s₂))
           ⊎ (Outside (verdict (onward n (met n o tally) (λ t′. decision inside t′ s₁))) ⊎ Outside (verdict (onward n (met n o tally) (λ t′. decision inside t′ s₂))))
       go (some a) x = inr (inl (a, n, refl))
-      go none (inl (d, e)) = inl (d, ap (λ (ps : List Placement). what ++ ps) e)
+      go none (inl (d, e)) = inl (d, λ t a. ap (λ (ps : List Placement). what ++ ps) (e t a))
       go none (inr x) = inr x
+
+  ahead-start : (n : ℕ) (s : Start) (s₁ s₂ : List Step) → ((t : Tally) → Sides t s₁ s₂) → (tally : Tally) → Sides tally (step n (starts s) ∷ s₁) (step n (starts s) ∷ s₂)
+  unfolding decision turn verdict stated
+  ahead-start n s s₁ s₂ h tally = go (differ (tally .start) (some s)) (h (started s tally))
+    where
+      go : (b : Bool) → Sides (started s tally) s₁ s₂ → let x : Turn = if b then stop (refused start-conflict n) else on-with (started s tally) in
+          ((onward n x (λ t′. decision inside t′ s₁) ≡ onward n x (λ t′. decision inside t′ s₂))
+          × ((t : Tally) → verdict (onward n x (λ t′. decision inside t′ s₁)) ≡ accepted t → stated s₁ ≡ stated s₂))
+          ⊎ (Outside (verdict (onward n x (λ t′. decision inside t′ s₁))) ⊎ Outside (verdict (onward n x (λ t′. decision inside t′ s₂))))
+      go true y = inl (refl, λ t a. let z : _≡_ {A = ℕ} 0 1 = cc in absurd (omega arith))
+      go false y = y
 
   -- the steps of a record that passes its segment's end
   parted : (n base offset : ℕ) (bytes : List ℕ) (s₁ s₂ : List Step) → base + 65536 ≤ 2 ^ 32 → offset < 65536 → 65536 < offset + length bytes
@@ -105,11 +117,11 @@ module _ (first size : ℕ) (small : size ≤ 65536) where
       go true e = parted n base offset bytes s₁ s₂ h (s .0) (ltb-true 65536 (offset + length bytes) e) tally
       go false e =
           rw (unwrapped base offset 0 bytes h (omega (arith, ltb-false 65536 (offset + length bytes) e))) (ahead n (placed (from-segment base) offset 0 bytes) s₁ s₂ f tally)
-  step-parts n base end-of-file s₁ s₂ s h f tally = inl (refl, refl)
+  step-parts n base end-of-file s₁ s₂ s h f tally = inl (refl, λ t a. refl)
   step-parts n base (extended-segment x) s₁ s₂ s h f tally = f tally
-  step-parts n base (start-segment cs ip) s₁ s₂ s h f tally = f tally
+  step-parts n base (start-segment cs ip) s₁ s₂ s h f tally = ahead-start n (cs-with-ip cs ip) s₁ s₂ f tally
   step-parts n base (extended-linear x) s₁ s₂ s h f tally = f tally
-  step-parts n base (start-linear x) s₁ s₂ s h f tally = f tally
+  step-parts n base (start-linear x) s₁ s₂ s h f tally = ahead-start n (linear-address x) s₁ s₂ f tally
 
   record-parts : (n : ℕ) (base : Base) (kind address : ℕ) (payload : List ℕ) (row : List Numbered) → let m = meaning kind address payload in
       Sayable m → Low base → (is-end m ≡ true → row ≡ []) → Parts (base-behind base m) row → Parts base (on n (says kind address payload) ∷ row)
@@ -118,7 +130,7 @@ module _ (first size : ℕ) (small : size ≤ 65536) where
 
   parts : (text : List ℕ) → Parts from-start (row default-options text)
   unfolding row along act decision turn stated
-  parts text = by-rows Parts (λ base tally. inl (refl, refl)) (λ n base r tally. inl (refl, refl)) record-parts 1 (lines text) from-start low-start
+  parts text = by-rows Parts (λ base tally. inl (refl, λ t a. refl)) (λ n base r tally. inl (refl, λ t a. refl)) record-parts 1 (lines text) from-start low-start
 
   -- a decision that accepts
   abbrev Accept : Option Decision → Type 0
@@ -133,6 +145,20 @@ module _ (first size : ℕ) (small : size ≤ 65536) where
   unfolding verdict
   passed n none s t x = (refl, x)
   passed n (some a) s t′ (t, e) = let z : _≡_ {A = ℕ} 0 1 = cc in absurd (omega arith)
+
+  -- so is what is after a start that is passed
+  passed-start : (n : ℕ) (b : Bool) (t : Tally) (s : List Step) → Accept (onward n (if b then stop (refused start-conflict n) else on-with t) (λ t′. decision inside t′ s))
+      → Accept (decision inside t s)
+  unfolding verdict
+  passed-start n true t s (k, e) = let z : _≡_ {A = ℕ} 0 1 = cc in absurd (omega arith)
+  passed-start n false t s x = x
+
+  whole-start : (n : ℕ) (s : Start) (s₁ s₂ : List Step) (K : Type 0) → ((t : Tally) → Accept (decision inside t s₁) → Accept (decision inside t s₂) → K)
+      → (tally : Tally) → Accept (decision inside tally (step n (starts s) ∷ s₁)) → Accept (decision inside tally (step n (starts s) ∷ s₂)) → K
+  unfolding decision turn
+  whole-start n s s₁ s₂ K f tally = λ x y.
+      let b = differ (tally .start) (some s) in
+      f (started s tally) (passed-start n b (started s tally) s₁ x) (passed-start n b (started s tally) s₂ y)
 
   step-whole : (n : ℕ) (base : Base) (m : Meaning) (s₁ s₂ : List Step) (K : Type 0) → Sayable m → Low base → (is-end m ≡ true → K)
       → ((t : Tally) → Accept (decision inside t s₁) → Accept (decision inside t s₂) → K)
@@ -149,9 +175,9 @@ module _ (first size : ℕ) (small : size ≤ 65536) where
       (omega arith, f (one-more tally) (p .1) (q .1))
   step-whole n base end-of-file s₁ s₂ K s h k f tally = λ x y. (tt, k refl)
   step-whole n base (extended-segment x) s₁ s₂ K s h k f tally = λ p q. (tt, f tally p q)
-  step-whole n base (start-segment cs ip) s₁ s₂ K s h k f tally = λ p q. (tt, f tally p q)
+  step-whole n base (start-segment cs ip) s₁ s₂ K s h k f tally = λ p q. (tt, whole-start n (cs-with-ip cs ip) s₁ s₂ K f tally p q)
   step-whole n base (extended-linear x) s₁ s₂ K s h k f tally = λ p q. (tt, f tally p q)
-  step-whole n base (start-linear x) s₁ s₂ K s h k f tally = λ p q. (tt, f tally p q)
+  step-whole n base (start-linear x) s₁ s₂ K s h k f tally = λ p q. (tt, whole-start n (linear-address x) s₁ s₂ K f tally p q)
 
   record-whole : (n : ℕ) (base : Base) (kind address : ℕ) (payload : List ℕ) (row : List Numbered) → let m = meaning kind address payload in
       Sayable m → Low base → (is-end m ≡ true → row ≡ []) → Whole (base-behind base m) row → Whole base (on n (says kind address payload) ∷ row)
@@ -227,8 +253,14 @@ same-or-outside text first page marks =
     answers : (s : List Step) → Outside (verdict (stopping-by none inside-it s)) → Outside ((kept false s) .answer)
     answers s (a, n, e) = (a, n, stored-answer (window first (length page)) (stated s) page m (verdict (stopping-by none inside-it s)) ∙ e)
 
+    -- what is stated matters only to a load that accepts
+    same-store : (v v′ : Verdict) → v ≡ v′ → ((t : Tally) → v ≡ accepted t → stated s₁ ≡ stated s₂)
+        → store (window first (length page)) (stated s₁) page m v ≡ store (window first (length page)) (stated s₂) page m v′
+    same-store (accepted t) v′ e h = ap₂ (λ (ps : List Placement) (w : Verdict). store (window first (length page)) ps page m w) (h t refl) e
+    same-store (refused r n) v′ e h = rw (← e)
+
     sides : (small : length page ≤ 65536) → Sides first (length page) small nothing-yet s₁ s₂ → (kept false s₁ ≡ kept false s₂) ⊎ (Outside ((kept false s₁) .answer) ⊎ Outside ((kept false s₂) .answer))
-    sides small (inl (d, q)) = inl (ap₂ (λ (ps : List Placement) (o : Option Decision). store (window first (length page)) ps page m (verdict o)) q d)
+    sides small (inl (d, q)) = inl (same-store (verdict (decision inside-it nothing-yet s₁)) (verdict (decision inside-it nothing-yet s₂)) (ap verdict d) q)
     sides small (inr (inl o)) = inr (inl (answers s₁ o))
     sides small (inr (inr o)) = inr (inr (answers s₂ o))
 

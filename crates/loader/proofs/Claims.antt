@@ -5,7 +5,7 @@ use Prim.Native.Nat.{ℕ}
 use native.Mathlib.Omega.{arith}
 use mathlib.Core.Bool.{Bool}
 use mathlib.Core.List.{List, []}
-use Rattle.record.specs.Refusals.{Refusal, number-of, contains-invalid-characters, missing-end-of-file-record, bad-window, outside-window}
+use Rattle.record.specs.Refusals.{Refusal, number-of, contains-invalid-characters, missing-end-of-file-record, bad-window, outside-window, start-conflict}
 use Rattle.digits.specs.Digits.{number-after}
 use Rattle.record.specs.Line.{wrong, judge}
 use Rattle.digits.specs.Reading.{named}
@@ -22,18 +22,18 @@ use Rattle.window.specs.Reasons.{bad-one, no-end, at-line, Among}
 use Rattle.window.proofs.Reasons.{load-reasons}
 use Rattle.loader.specs.Placing.{intel, intel-by}
 use Rattle.window.specs.Load.{stopping-by-window, load-window}
-use Rattle.loader.specs.Claims.{in-force, data-records, Stops, the-end, no-record, first-outside, account, Why, Reasons, Load-names-the-offender, refusal-numbers, Total, Examples}
-use Rattle.loader.proofs.Reasons.{walked}
+use Rattle.loader.specs.Claims.{in-force, data-records, Stops, the-end, no-record, first-outside, start-differs, account, Why, Reasons, Load-names-the-offender, refusal-numbers, Total, Examples}
+use Rattle.loader.proofs.Reasons.{counted-none, walked}
 
 pub examples : Examples
 unfolding load-window stopping-by-window source.steps-of stated intel-by judge meaning number-after
-examples = record { sixth-place = refl; unused-bits = refl; below-it = refl; wraps = refl }
+examples = record { sixth-place = refl; unused-bits = refl; below-it = refl; same-twice = refl; two-kinds = refl; two-segments = refl; wraps = refl }
 
 -- ---- reasons
 
 pub reasons : Reasons
 unfolding source.steps-of in-force data-records intel-by
-reasons = load-reasons intel account (λ inside text. walked inside (lines text) 1 [] nothing-yet (record { records = refl }))
+reasons = load-reasons intel account (λ inside text. walked inside (lines text) 1 [] nothing-yet counted-none)
 
 -- ---- totality
 
@@ -52,6 +52,7 @@ stops-among : {inside : ℕ → Bool} {ahead : List (List ℕ)} {line : List ℕ
 stops-among (the-end tally e c) = tt
 stops-among {line} {n} (no-record r b e) = refused-line n (subst (Stands line) e (stands line))
 stops-among (first-outside before after p e i o) = refl
+stops-among (start-differs s first e a d) = refl
 
 why-among : {text : List ℕ} {first : ℕ} {page marks : List ℕ} {v : Verdict} → Why text first page marks v → Among refusal-numbers v
 why-among (bad-one w) = refl
@@ -76,6 +77,7 @@ named-by {text} {inside} {ps} {n} {m} {v} {r} d = go (d .stops) refl
         let (place, f, said) = names-the-offender (d .line) r .0 (e ∙ ap wrong is, two) in
         (place, record { line = d .line; before = d .ahead; after = d .later; stands = d .whole; number = sym at-m ∙ same ∙ d .number; first = f }, said)
     go (first-outside before after p e i o) k q two = let is : outside-window (p .address) ≡ r = cc in absurd (omega (arith, ap number-of is))
+    go (start-differs s first e a d) k q two = let is : start-conflict ≡ r = cc in absurd (omega (arith, ap number-of is))
 
 pub load-names-the-offender : Load-names-the-offender
 load-names-the-offender text first page marks r n e two = go (reasons text first page marks) e

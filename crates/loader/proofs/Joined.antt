@@ -6,8 +6,8 @@ use mathlib.Core.Logic.{_⊎_, inl, inr}
 use Prim.Native.Nat.{ℕ, suc, _+_, _<_, max}
 use native.Mathlib.Omega.{arith}
 use mathlib.Core.Bool.{Bool, true, false}
-use mathlib.Core.Option.{some}
-use mathlib.Core.List.{List, [], _∷_, _++_, List·Memᴰ, List·Memᴰ·head, List·Memᴰ·cases-cons, List·Memᴰ·not-nil, Memᴰ·append-right}
+use mathlib.Core.Option.{none, some}
+use mathlib.Core.List.{List, [], _∷_, _++_, map, List·Memᴰ, List·Memᴰ·head, List·Memᴰ·tail, List·Memᴰ·cases-cons, List·Memᴰ·not-nil, Memᴰ·append-right}
 use lib.ListN.{length, replicate, length-replicate}
 use Rattle.digits.specs.Common.{Every}
 use Rattle.digits.specs.Digits.{number-after}
@@ -18,17 +18,16 @@ use Rattle.marks.specs.Marks.{row-length, mark-at, flags}
 use Rattle.marks.proofs.Below.{split}
 use Rattle.marks.proofs.Rows.{flags-length, zeros-none, zeros-bytes}
 use Rattle.marks.proofs.Claims.{same-row}
-use Rattle.steps.specs.Steps.{Placement, Action, places, counts, finishes, fails, Tally, nothing-yet, accepted, decision, verdict, stated}
+use Rattle.steps.specs.Steps.{Placement, Start, cs-with-ip, linear-address, Action, places, starts, counts, finishes, fails, Step, step, Tally, nothing-yet, accepted, decision, verdict, stated}
 use Rattle.steps.specs.Sites as sites
 use Rattle.steps.specs.Sites.{Loaded, Room, Stated, Owed-at}
 use Rattle.steps.specs.Packed.{load-packed}
 use Rattle.steps.specs.Join as join
-use Rattle.steps.specs.Join.{Ends, None-ends, Has-end, state-after, together}
+use Rattle.steps.specs.Join.{Ends, None-ends, Has-end, state-after, together, Agreeing, No-start}
 use Rattle.steps.proofs.Sites as sites-proved
 use Rattle.steps.proofs.Sites.{judged}
 use Rattle.steps.specs.Source as source
 use Rattle.steps.proofs.Cut as general
-use Rattle.steps.proofs.Join.{after-verdict}
 use Rattle.steps.proofs.Joined as general-joined
 use Rattle.window.specs.Window.{within, unfit, one-window}
 use Rattle.window.specs.Claims.{Window}
@@ -37,8 +36,8 @@ use Rattle.window.proofs.Storing.{shows}
 use Rattle.loader.specs.Placing.{Base, base-behind, placed, does, act, intel, intel-by}
 use Rattle.window.specs.Load.{room-of, stopping-by-window, load-window}
 use Rattle.loader.specs.Load.{steps-of, placements, stopping, load}
-use Rattle.loader.specs.Claims.{said-record}
-use Rattle.loader.specs.Joined.{before-end, reset, joined, May-be-joined, End-record, Before-end-made-so, Before-end-only-so, Accepted-has-end, Answer-by-lengths, Joined-accepted, Joined-refused, Joined-states, Upon, One-upon-another, Seen, from-B, from-A, as-before, What-a-panel-sees, Either-grouping, Nothing-stated, end-record, End-alone, Examples}
+use Rattle.loader.specs.Claims.{said-record, starts as line-starts, start-on}
+use Rattle.loader.specs.Joined.{before-end, reset, joined, May-be-joined, End-record, Before-end-made-so, Before-end-only-so, Accepted-has-end, Answer-by-lengths, Joined-accepted, Joined-answered, Joined-one-answer, Joined-with-one-start, Joined-states, Upon, One-upon-another, Seen, from-B, from-A, as-before, What-a-panel-sees, Either-grouping, Nothing-stated, end-record, End-alone, Examples}
 use Rattle.window.proofs.Loads.{load-answer, fit-stopping, plain, as-plain, plain-sizes, row, mark-of, fit-window}
 use Rattle.loader.proofs.Demand3.{what-is-stored, sizes-kept}
 
@@ -57,9 +56,9 @@ unfolding does
 ends-so base (data-at offset bytes) e = let q = only-one finishes (places (placed base offset 0 bytes)) e in let z : _≡_ {A = ℕ} 0 1 = cc in absurd (omega arith)
 ends-so base end-of-file e = refl
 ends-so base (extended-segment x) e = absurd (List·Memᴰ·not-nil e)
-ends-so base (start-segment cs ip) e = absurd (List·Memᴰ·not-nil e)
+ends-so base (start-segment cs ip) e = let q = only-one finishes (starts (cs-with-ip cs ip)) e in let z : _≡_ {A = ℕ} 0 1 = cc in absurd (omega arith)
 ends-so base (extended-linear x) e = absurd (List·Memᴰ·not-nil e)
-ends-so base (start-linear x) e = absurd (List·Memᴰ·not-nil e)
+ends-so base (start-linear x) e = let q = only-one finishes (starts (linear-address x)) e in let z : _≡_ {A = ℕ} 0 1 = cc in absurd (omega arith)
 
 said-end : (base : Base) (said : Said) → List·Memᴰ finishes (act base said) → said-record said ≡ some end-of-file
 unfolding act said-record
@@ -77,9 +76,9 @@ unfolding does
 none-counts base (data-at offset bytes) c e = let q = only-one (counts c) (places (placed base offset 0 bytes)) e in let z : _≡_ {A = ℕ} 0 1 = cc in omega arith
 none-counts base end-of-file c e = let q = only-one (counts c) finishes e in let z : _≡_ {A = ℕ} 0 1 = cc in omega arith
 none-counts base (extended-segment x) c e = List·Memᴰ·not-nil e
-none-counts base (start-segment cs ip) c e = List·Memᴰ·not-nil e
+none-counts base (start-segment cs ip) c e = let q = only-one (counts c) (starts (cs-with-ip cs ip)) e in let z : _≡_ {A = ℕ} 0 1 = cc in omega arith
 none-counts base (extended-linear x) c e = List·Memᴰ·not-nil e
-none-counts base (start-linear x) c e = List·Memᴰ·not-nil e
+none-counts base (start-linear x) c e = let q = only-one (counts c) (starts (linear-address x)) e in let z : _≡_ {A = ℕ} 0 1 = cc in omega arith
 
 no-count : (base : Base) (said : Said) (c : ℕ) → ¬ List·Memᴰ (counts c) (act base said)
 unfolding act
@@ -190,17 +189,56 @@ unfolding load-window load-packed join.joined
 joined-accepted first a b page marks ta tj =
     general-joined.joined-accepted _ intel reset may-be-joined (room-of first page marks) a b page (flags (length page) marks) ta tj
 
--- the answer to the joined text, from B's
-pub joined-answer : (first : ℕ) (a b page marks : List ℕ) (ta : Tally) → (load a first page marks) .answer ≡ accepted ta
-    → (load (joined a b) first page marks) .answer ≡ after-verdict (suc (length (lines (before-end a)))) ta ((load b first page marks) .answer)
+pub joined-answered : Joined-answered
 unfolding load-window load-packed join.joined
-joined-answer first a b page marks ta e =
+joined-answered first a b page marks ta e =
     rw (← general.lines-ahead-counts _ intel a (has-end a first page marks ta e))
-    (general-joined.joined-answer _ intel reset may-be-joined (room-of first page marks) a b page (flags (length page) marks) ta e)
+    (general-joined.joined-answered _ intel reset may-be-joined (room-of first page marks) a b page (flags (length page) marks) ta e)
 
-pub joined-refused : Joined-refused
-joined-refused first a b page marks ta r line ea eb =
-    joined-answer first a b page marks ta ea ∙ ap (after-verdict (suc (length (lines (before-end a)))) ta) eb
+pub joined-one-answer : Joined-one-answer
+unfolding load-window load-packed join.joined
+joined-one-answer first a b page marks ta v e w =
+    general-joined.joined-one-answer _ intel reset may-be-joined (room-of first page marks) a b page (flags (length page) marks) ta v e
+    (rw (general.lines-ahead-counts _ intel a (has-end a first page marks ta e)) w)
+
+-- lines that state no start have steps that state none
+no-start-steps : (n : ℕ) (acts : List Action) (s : List Step) → ((x : Start) → ¬ List·Memᴰ (starts x) acts) → No-start s → No-start (map (step n) acts ++ s)
+no-start-steps n [] s h k = k
+no-start-steps n (a ∷ acts) s h k = (λ m x e. h x (List·Memᴰ·head (cc)), no-start-steps n acts s (λ x m. h x (List·Memᴰ·tail m)) k)
+
+none-starts : (base : Base) (m : Meaning) → line-starts (some m) ≡ none → (x : Start) → ¬ List·Memᴰ (starts x) (does base m)
+unfolding does line-starts
+none-starts base (data-at offset bytes) q x e = let p = only-one (starts x) (places (placed base offset 0 bytes)) e in let z : _≡_ {A = ℕ} 0 1 = cc in omega arith
+none-starts base end-of-file q x e = let p = only-one (starts x) finishes e in let z : _≡_ {A = ℕ} 0 1 = cc in omega arith
+none-starts base (extended-segment n) q x e = List·Memᴰ·not-nil e
+none-starts base (start-segment cs ip) q x e = let z : _≡_ {A = ℕ} 0 1 = cc in omega arith
+none-starts base (extended-linear n) q x e = List·Memᴰ·not-nil e
+none-starts base (start-linear n) q x e = let z : _≡_ {A = ℕ} 0 1 = cc in omega arith
+
+said-starts : (base : Base) (said : Said) → line-starts (said-record said) ≡ none → (x : Start) → ¬ List·Memᴰ (starts x) (act base said)
+unfolding act said-record
+said-starts base (says kind address payload) q x e = none-starts base (meaning kind address payload) q x e
+said-starts base (wrong r) q x e = let p = only-one (starts x) (fails r) e in let z : _≡_ {A = ℕ} 0 1 = cc in omega arith
+
+no-start-lines : (base : Base) (n : ℕ) (ls : List (List ℕ)) → Every (λ (line : List ℕ). start-on line ≡ none) ls → No-start (source.steps intel base n ls)
+unfolding source.steps intel-by
+no-start-lines base n [] h = tt
+no-start-lines base n ([] ∷ ls) (e, h) = no-start-lines base (suc n) ls h
+no-start-lines base n ((c ∷ l) ∷ ls) (e, h) = no-start-steps n (act base (judge (c ∷ l))) _ (said-starts base (judge (c ∷ l)) e) (no-start-lines _ (suc n) ls h)
+
+from-beginning : (b : List ℕ) → Every (λ (line : List ℕ). start-on line ≡ none) (lines b) → No-start (source.steps-of intel b)
+unfolding source.steps-of
+from-beginning b h = no-start-lines (intel .beginning) 1 (lines b) h
+
+pub joined-with-one-start : Joined-with-one-start
+unfolding load-window load-packed join.joined
+joined-with-one-start first a b page marks ta e one =
+    rw (← general.lines-ahead-counts _ intel a (has-end a first page marks ta e))
+    (general-joined.joined-with-one-start _ intel reset may-be-joined (room-of first page marks) a b page (flags (length page) marks) ta e (as-steps one))
+  where
+    as-steps : (ta .start ≡ none) ⊎ Every (λ (line : List ℕ). start-on line ≡ none) (lines b) → (ta .start ≡ none) ⊎ No-start (source.steps-of intel b)
+    as-steps (inl q) = inl q
+    as-steps (inr h) = inr (from-beginning b h)
 
 pub joined-states : Joined-states
 unfolding load-window load-packed join.joined
@@ -215,7 +253,7 @@ either-grouping a b c first page marks ta first′ page′ marks′ tb ea eb =
 -- ---- page and marks
 
 module _ (first : ℕ) (a b page ma mb mj : List ℕ) (ta tb : Tally) (lm : length mj ≡ length ma)
-    (ea : (load a first page ma) .answer ≡ accepted ta) (eb : (load b first ((load a first page ma) .page) mb) .answer ≡ accepted tb) where
+    (ea : (load a first page ma) .answer ≡ accepted ta) (eb : (load b first ((load a first page ma) .page) mb) .answer ≡ accepted tb) (agree : Agreeing (ta .start) (tb .start)) where
   abbrev la : Loaded
   la = load a first page ma
 
@@ -235,7 +273,7 @@ module _ (first : ℕ) (a b page ma mb mj : List ℕ) (ta tb : Tally) (lm : leng
   accepted-both : lj .answer ≡ accepted (together ta tb)
   accepted-both =
       joined-accepted first a b page mj ta (together ta tb) (answer-by-lengths a first page mj page ma refl lm ∙ ea)
-      .1 (tb, answer-by-lengths b first page mj (la .page) mb (sym pages-same) (sym rows-same) ∙ eb, refl)
+      .1 (tb, answer-by-lengths b first page mj (la .page) mb (sym pages-same) (sym rows-same) ∙ eb, agree, refl)
 
   -- the loads with their marks unpacked, in one room
   plain-a : sites.load intel (room-of first page mj) a page (flags (length page) ma) ≡ plain intel a first page ma
@@ -257,7 +295,7 @@ module _ (first : ℕ) (a b page ma mb mj : List ℕ) (ta tb : Tally) (lm : leng
       (general-joined.one-upon-another _ intel reset may-be-joined (room-of first page mj) a b page (flags (length page) ma) (flags (length page) mb) (flags (length page) mj) ta tb
       (flags-length (length page) ma ∙ sym (flags-length (length page) mj)) (flags-length (length page) mb ∙ sym (flags-length (length page) mj))
       (ap (λ (l : Loaded). l .answer) plain-a ∙ sym (as-plain intel a first page ma .answers) ∙ ea)
-      (ap (λ (l : Loaded). l .answer) plain-b ∙ sym (as-plain intel b first (la .page) mb .answers) ∙ eb))
+      (ap (λ (l : Loaded). l .answer) plain-b ∙ sym (as-plain intel b first (la .page) mb .answers) ∙ eb) agree)
 
   shown : (p : ℕ) → p < length page → room-of first page mj .site p ≡ some (first + p)
   unfolding one-window
@@ -280,7 +318,7 @@ module _ (first : ℕ) (a b page ma mb mj : List ℕ) (ta tb : Tally) (lm : leng
       (accepted-both, record { pages = as-plain intel (joined a b) first page mj .pages ∙ upon .pages ∙ sym (as-plain intel b first (la .page) mb .pages); marks = union })
 
 pub one-upon-another : One-upon-another
-one-upon-another first a b page ma mb mj ta tb lm ea eb = upon-another first a b page ma mb mj ta tb lm ea eb
+one-upon-another first a b page ma mb mj ta tb lm ea eb agree = upon-another first a b page ma mb mj ta tb lm ea eb agree
 
 -- ---- what a panel sees
 
@@ -299,7 +337,7 @@ pub what-a-panel-sees : What-a-panel-sees
 what-a-panel-sees first a b page ma mb mj ta tb lm ea eb i h =
     let pa = (load a first page ma) .page in
     let seen = see (what-is-stored a first page ma ta ea i h) (what-is-stored b first pa mb tb eb i (omega (arith, sizes-kept a first page ma .0))) in
-    (seen, rw (one-upon-another first a b page ma mb mj ta tb lm ea eb .1 .pages) seen)
+    (seen, λ agree. rw (one-upon-another first a b page ma mb mj ta tb lm ea eb agree .1 .pages) seen)
 
 -- ---- nothing stated
 
@@ -320,17 +358,17 @@ nothing-stated text first page marks k e s =
     )
 
 -- a text that is accepted with no data record wherever the window is fit, and states nothing
-alone : (text : List ℕ) → ((inside : ℕ → Bool) → verdict (decision inside nothing-yet (steps-of text)) ≡ accepted (record { records = 0 })) → placements text ≡ []
+alone : (text : List ℕ) → ((inside : ℕ → Bool) → verdict (decision inside nothing-yet (steps-of text)) ≡ accepted (record { records = 0; start = none })) → placements text ≡ []
     → (first : ℕ) (page marks : List ℕ) → Window first page marks
-    → load text first page marks ≡ record { answer = accepted (record { records = 0 }); page = page; marks = replicate (length marks) 0 }
+    → load text first page marks ≡ record { answer = accepted (record { records = 0; start = none }); page = page; marks = replicate (length marks) 0 }
 unfolding sites.stopping-by stopping-by-window
 alone text d s first page marks w = go (unfit first (length page) (length marks)) refl
   where
-    go : (b : Bool) → unfit first (length page) (length marks) ≡ b → load text first page marks ≡ record { answer = accepted (record { records = 0 }); page = page; marks = replicate (length marks) 0 }
+    go : (b : Bool) → unfit first (length page) (length marks) ≡ b → load text first page marks ≡ record { answer = accepted (record { records = 0; start = none }); page = page; marks = replicate (length marks) 0 }
     go true e = absurd (no-window first page marks e w)
     go false e =
         let answer = load-answer intel text first page marks ∙ ap verdict (fit-stopping first page marks (steps-of text) e) ∙ d (within first (length page)) in
-        let (p, m) = nothing-stated text first page marks (record { records = 0 }) answer s in
+        let (p, m) = nothing-stated text first page marks (record { records = 0; start = none }) answer s in
         λ i. record { answer = answer i; page = p i; marks = m i }
 
 pub end-alone : End-alone
@@ -341,4 +379,4 @@ end-alone first page marks w = (alone end-record (λ inside. refl) refl first pa
 
 pub examples : Examples
 unfolding load-window source.steps-of stated intel-by judge meaning number-after join.joined
-examples = record { ends-by-the-judge = refl; text-is = refl; one-load = refl; the-first = refl; the-second = refl; later-line = refl; no-line = refl; with-the-line = refl; without-it = refl; in-a-segment = refl; under-type-04 = refl }
+examples = record { ends-by-the-judge = refl; text-is = refl; one-load = refl; the-first = refl; the-second = refl; later-line = refl; other-start = refl; one-start = refl; no-line = refl; with-the-line = refl; without-it = refl; in-a-segment = refl; under-type-04 = refl }

@@ -22,6 +22,7 @@ use Rattle.steps.specs.declared.LoaderError.{LoaderError}
 use Rattle.steps.specs.declared.LoaderError.the-variants.{BadWindow}
 use Rattle.steps.specs.declared.Loading.{Loading}
 use Rattle.steps.specs.declared.Loading.the-variants.{Accepted, Refused}
+use Rattle.steps.specs.declared.Start.the-variants.{Unstated}
 use Rattle.steps.specs.declared.Tally.{Tally as CodeTally}
 use Rattle.loader.specs.declared.Turn.{Turn}
 use Rattle.loader.specs.declared.Turn.the-variants.{On, Stop}
@@ -45,7 +46,7 @@ pub record Judging (inside : ℕ → Bool) (text pool : List ℕ) (w : Walk) (ta
   pub same : decision inside (tallied tally) (ahead-of w text) ≡ decision inside nothing-yet (steps-of text)
 
 module _ (inside : ℕ → Bool) (text pool : List ℕ) where
-  pub judging-start : length text < 2 ^ 64 → length pool ≡ 255 → (w : Walk) → w ≡ start → Judging inside text pool w (record { records = 0 })
+  pub judging-start : length text < 2 ^ 64 → length pool ≡ 255 → (w : Walk) → w ≡ start → Judging inside text pool w (record { records = 0; start = Unstated })
   judging-start h l w e =
       rw e (record { under-way = start-under-way text h; few = start-few text; room = l; same = ap (decision inside nothing-yet) (start-ahead text) })
 

@@ -1,22 +1,24 @@
 -- What a record comes to: in the first pass it passes or decides, whatever stands behind it; and the base behind it. Once its type is
 -- known its step computes, and a data record goes by the part of the pool that holds its bytes.
 -- Assumes nothing.
-use mathlib.Core.Path.{_≡_, refl, sym}
-use Prim.Native.Nat.{ℕ, _+_, _-_, _≤_}
+use mathlib.Core.Path.{_≡_, refl, sym, ap}
+use Prim.Native.Nat.{ℕ, suc, _+_, _-_, _≤_}
 use native.Mathlib.Numerals.{add-one}
 use native.Mathlib.Omega.{arith}
-use mathlib.Core.Bool.{Bool, false}
-use mathlib.Core.Option.{Option·map}
-use mathlib.Core.List.{List, [], _++_}
+use mathlib.Core.Bool.{Bool, true, false}
+use mathlib.Core.Option.{Option, none, some, Option·map}
+use mathlib.Core.List.{List, [], _∷_, _++_}
 use lib.ListN.{length, take, drop, length-drop}
 use lib.Seq.{length-take-le}
-use Rattle.record.specs.Refusals.{outside-window}
+use Rattle.digits.specs.Common.{if_then_else_, or-else}
+use Rattle.record.specs.Refusals.{outside-window, start-conflict}
 use Rattle.record.specs.Record.{meant}
 use Rattle.record.specs.declared.Record.{Record}
 use Rattle.record.specs.declared.Record.the-variants.{Data, EndOfFile, ExtendedSegmentAddress, StartSegmentAddress, ExtendedLinearAddress, StartLinearAddress}
 use Rattle.digits.proofs.Parts.{part-is}
 use Rattle.reader.specs.Row.{is-end}
-use Rattle.steps.specs.Steps.{Step, accepted, refused, outside, turn, decision, verdict}
+use Rattle.steps.specs.Steps.{Start, starts, Step, Tally, started, accepted, refused, outside, differ, on, stop, turn, decision, verdict}
+use Rattle.steps.proofs.Starts.{agreed}
 use Rattle.window.specs.declared.Reach.{Reach}
 use Rattle.window.specs.declared.Reach.the-variants.{Inside, Outside}
 use Rattle.window.specs.Window.{within}
@@ -24,11 +26,16 @@ use Rattle.window.specs.Contracts.{first-byte, Surveyed, Painted}
 use Rattle.window.proofs.Loads.{painted-nothing}
 use Rattle.loader.specs.declared.Base.{Base as CodeBase}
 use Rattle.loader.specs.declared.Base.the-variants.{Segment, Linear}
+use Rattle.steps.specs.declared.LoaderError.the-variants.{StartConflict}
+use Rattle.steps.specs.declared.Loading.the-variants.{Refused}
+use Rattle.steps.specs.declared.Start.{Start as CodeStart}
 use Rattle.steps.specs.declared.Tally.{Tally as CodeTally}
+use Rattle.loader.specs.declared.Turn.{Turn}
+use Rattle.loader.specs.declared.Turn.the-variants.{On, Stop}
 use Rattle.loader.specs.declared.Walk.{Walk}
 use Rattle.loader.specs.Placing.{Base, base-behind, byte-address, placed, does}
-use Rattle.steps.specs.Told.{tallied}
-use Rattle.loader.specs.Helpers.{based, stated-by, Short, Lies-in, Behind, does-on, Passed}
+use Rattle.steps.specs.Told.{told-start, tallied}
+use Rattle.loader.specs.Helpers.{based, stated-by, Short, Lies-in, Behind, does-on, Passed, Met, MeetsStart}
 
 -- ---- the base behind a record
 
@@ -89,7 +96,7 @@ module _ (first size : ℕ) (w : Walk) (tally : CodeTally) (x : Record) (pool : 
   there b = record { state = w .state; base = b }
 
   pub met-inside : (offset at len : ℕ) → x ≡ Data offset at len → Surveyed (byte-address (based (w .base)) offset) len first size Inside
-      → (b : CodeBase) → Behind (w .base) x b → Passed inside w tally (meant x pool) (there b) (record { records = tally .records + 1 })
+      → (b : CodeBase) → Behind (w .base) x b → Passed inside w tally (meant x pool) (there b) (record { records = tally .records + 1; start = tally .start })
   unfolding decision turn does is-end
   met-inside offset at len e s b k =
       let o = surveyed offset at len e Inside s in
@@ -100,6 +107,21 @@ module _ (first size : ℕ) (w : Walk) (tally : CodeTally) (x : Record) (pool : 
       → (b : CodeBase) → Behind (w .base) x b → Passed inside w tally (meant x pool) (there b) tally
   met-quiet e q b k = record { state = refl; base = k .base-is pool; goes-on = e; counted = omega arith; same = λ rest. rw (q (based (w .base))) }
 
+  -- a start that the record states, kept or refused
+  pub met-start : (s : Start) (stated : CodeStart) → told-start stated ≡ some s → is-end (meant x pool) ≡ false → ((base : Base) → does base (meant x pool) ≡ starts s ∷ [])
+      → (b : CodeBase) → Behind (w .base) x b → (t : Turn) → MeetsStart (there b) tally stated t → Met inside w tally (meant x pool) t
+  unfolding decision turn verdict
+  met-start s stated e n d b k (On tally′ w′) m =
+      let c = m .comes-to s e in
+      let same : (rest : List Step) → decision inside (tallied tally′) rest ≡ decision inside (tallied tally) (does-on (w .state .line) (based (w .base)) (meant x pool) ++ rest) =
+      λ rest. rw (d (based (w .base)), ← c) in
+      rw (m .stays tally′ w′ refl) (record { state = refl; base = k .base-is pool; goes-on = n; counted = kept (differ (told-start (tally .start)) (some s)) c; same = same })
+    where
+      kept : (b : Bool) → on (tallied tally′) ≡ (if b then stop (refused start-conflict (w .state .line)) else on (started s (tallied tally))) → tally′ .records ≤ suc (tally .records)
+      kept true q = let z : _≡_ {A = ℕ} 0 1 = cc in absurd (omega arith)
+      kept false q = let r : tallied tally′ ≡ started s (tallied tally) = cc in omega (arith, ap (λ (u : Tally). u .records) r)
+  met-start s stated e n d b k (Stop l) m = λ rest. rw (d (based (w .base)), ← (m .comes-to s e))
+
   pub met-outside : (offset at len i : ℕ) → x ≡ Data offset at len → Surveyed (byte-address (based (w .base)) offset) len first size (Outside i)
       → (rest : List Step) → refused (outside-window (byte-address (based (w .base)) offset i)) (w .state .line) ≡ verdict (decision inside (tallied tally) (does-on (w .state .line) (based (w .base)) (meant x pool) ++ rest))
   unfolding decision turn does verdict
@@ -109,6 +131,30 @@ module _ (first size : ℕ) (w : Walk) (tally : CodeTally) (x : Record) (pool : 
       → (rest : List Step) → accepted (tallied tally) ≡ verdict (decision inside (tallied tally) (does-on (w .state .line) (based (w .base)) (meant x pool) ++ rest))
   unfolding decision turn does verdict
   met-end e rest = rw e
+
+-- ---- a start
+
+-- a start that does not differ from the first is the one that is kept
+kept-so : (o : Option Start) (s : Start) → differ o (some s) ≡ false → some s ≡ or-else o (some s)
+kept-so none s d = refl
+kept-so (some x) s d = ap some (agreed x s d)
+
+module _ (there : Walk) (tally : CodeTally) (stated : CodeStart) where
+  pub start-refused : differ (told-start (tally .start)) (told-start stated) ≡ true → MeetsStart there tally stated (Stop (Refused StartConflict (there .state .line)))
+  start-refused d =
+      record {
+        comes-to = λ s e. let h : differ (told-start (tally .start)) (some s) ≡ true = rw e at d in rw h;
+        stays = λ tally′ w′ q. let z : _≡_ {A = ℕ} 0 1 = cc in absurd (omega arith);
+      }
+
+  pub start-kept : differ (told-start (tally .start)) (told-start stated) ≡ false → MeetsStart there tally stated (On (record { records = tally .records; start = stated }) there)
+  start-kept d =
+      record {
+        comes-to = λ s e.
+            let h : differ (told-start (tally .start)) (some s) ≡ false = rw e at d in
+            rw (h, e) (ap (λ (o : Option Start). on (record { records = tally .records; start = o })) (kept-so (told-start (tally .start)) s h));
+        stays = λ tally′ w′ q. cc;
+      }
 
 -- ---- the second pass
 

@@ -33,6 +33,7 @@ use Rattle.window.proofs.Loads.{painting-step}
 use Rattle.marks.specs.Marks.{bits}
 use Rattle.loader.specs.declared.Base.{Base as CodeBase}
 use Rattle.loader.specs.declared.Base.the-variants.{Segment}
+use Rattle.steps.specs.declared.Start.the-variants.{Unstated}
 use Rattle.steps.specs.declared.Tally.{Tally as CodeTally}
 use Rattle.loader.specs.declared.Turn.{Turn}
 use Rattle.loader.specs.declared.Turn.the-variants.{On, Stop}
@@ -53,7 +54,7 @@ start = record { state = new-state default-options; base = Segment 0 }
 pub start-under-way : (text : List ℕ) → length text < 2 ^ 64 → Under-way text start
 start-under-way text h = record { options = refl; countable = omega (arith, lines-few text .0) }
 
-pub start-few : (text : List ℕ) → Few text start (record { records = 0 })
+pub start-few : (text : List ℕ) → Few text start (record { records = 0; start = Unstated })
 unfolding unread
 start-few text = omega (arith, lines-few text .0, sayings-few 1 (lines text))
 

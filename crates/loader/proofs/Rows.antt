@@ -11,8 +11,8 @@ use Rattle.record.specs.Meaning.{Meaning, data-at, end-of-file, extended-segmen
 use Rattle.reader.specs.Lines.{lines}
 use Rattle.reader.specs.Row.{Numbered, on, sayings, is-end, through-stop, row}
 use Rattle.reader.specs.Text.{default-options}
-use Rattle.record.specs.Refusals.{Refusal}
-use Rattle.steps.specs.Steps.{Placement, Step, step, Tally, nothing-yet, one-more, Verdict, outside, at-data, turn, onward, decision, verdict, stated}
+use Rattle.record.specs.Refusals.{Refusal, start-conflict}
+use Rattle.steps.specs.Steps.{Placement, Start, cs-with-ip, linear-address, starts, Step, step, Tally, nothing-yet, one-more, started, Verdict, refused, outside, differ, Turn, on as on-with, stop, at-data, turn, onward, decision, verdict, stated}
 use Rattle.steps.specs.Source as source
 use Rattle.steps.specs.Sites.{Room, store, stopping-by, load-steps, load}
 use Rattle.loader.specs.Placing.{Base, from-start, base-behind, placed, does, act, base-after, intel-by, along}
@@ -42,6 +42,16 @@ module _ (f : Base → Base) where
   abbrev Alike : (s₁ s₂ : List Step) → Type 0
   Alike s₁ s₂ = ((inside : ℕ → Bool) (t : Tally) → decision inside t s₁ ≡ decision inside t s₂) × (stated s₁ ≡ stated s₂)
 
+  cut-start : (n : ℕ) (base : Base) (s : Start) (row row′ : List Numbered) → Alike (along f base row) (along f base row′)
+      → Alike (step n (starts s) ∷ along f base row) (step n (starts s) ∷ along f base row′)
+  unfolding decision turn stated
+  cut-start n base s row row′ h = (λ inside t. go inside t (differ (t .start) (some s)), h .1)
+    where
+      go : (inside : ℕ → Bool) (t : Tally) (b : Bool) → let x : Turn = if b then stop (refused start-conflict n) else on-with (started s t) in
+          onward n x (λ t′. decision inside t′ (along f base row)) ≡ onward n x (λ t′. decision inside t′ (along f base row′))
+      go inside t true = refl
+      go inside t false = h .0 inside (started s t)
+
   cut-record : (n : ℕ) (base : Base) (m : Meaning) (row row′ : List Numbered) → (is-end m ≡ false → (b : Base) → Alike (along f b row) (along f b row′))
       → Alike (then-row n base m row) (then-row n base m row′)
   unfolding does base-behind decision turn stated is-end
@@ -56,9 +66,9 @@ module _ (f : Base → Base) where
       go inside t (some a) = refl
   cut-record n base end-of-file row row′ h = (λ inside t. refl, refl)
   cut-record n base (extended-segment x) row row′ h = h refl _
-  cut-record n base (start-segment cs ip) row row′ h = h refl _
+  cut-record n base (start-segment cs ip) row row′ h = cut-start n base (cs-with-ip cs ip) row row′ (h refl base)
   cut-record n base (extended-linear x) row row′ h = h refl _
-  cut-record n base (start-linear x) row row′ h = h refl _
+  cut-record n base (start-linear x) row row′ h = cut-start n base (linear-address x) row row′ (h refl base)
 
   -- a reader that stops at the first end record and at the first refusal
   pub cut-row : (rest : List Numbered) (base : Base) → Alike (along f base (through-stop default-options rest)) (along f base rest)

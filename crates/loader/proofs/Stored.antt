@@ -9,7 +9,7 @@ use mathlib.Core.Option.{Option, none, some}
 use mathlib.Core.List.{List, [], _∷_, _++_}
 use lib.ListN.{length, getD, take}
 use Rattle.digits.specs.Common.{Every}
-use Rattle.record.specs.Refusals.{number-of, outside-window}
+use Rattle.record.specs.Refusals.{number-of, outside-window, start-conflict}
 use Rattle.record.specs.Meaning.{Meaning, data-at, end-of-file, extended-segment, start-segment, extended-linear, start-linear}
 use Rattle.record.proofs.Standing.{Stands, stands, fault-few}
 use Rattle.reader.specs.Lines.{lines}
@@ -22,7 +22,7 @@ use Rattle.window.specs.Window.{within}
 use Rattle.window.specs.Reasons.{bad-one, no-end, at-line}
 use Rattle.loader.specs.Placing.{Base, byte-address, stated-by, intel}
 use Rattle.loader.specs.Load.{load}
-use Rattle.loader.specs.Claims.{record-on, in-force, states, Passes, is-empty, goes-on, Stops, the-end, no-record, first-outside, account, Why}
+use Rattle.loader.specs.Claims.{record-on, in-force, states, Passes, is-empty, goes-on, Stops, the-end, no-record, first-outside, start-differs, account, Why}
 use Rattle.loader.specs.Segments.{At, Puts, Last-put, Owed, Owed-unique, Stored, Stored-by-Intel, First-outside, Outside-by-Intel}
 use Rattle.window.proofs.Loads.{at-place}
 use Rattle.loader.proofs.Claims.{reasons}
@@ -91,7 +91,7 @@ module _ (ls : List (List ℕ)) (n dri a b : ℕ) where
 -- the bytes of a line that passes lie inside
 lie : (inside : ℕ → Bool) (ahead : List (List ℕ)) (l : List ℕ) → Passes inside ahead l → All-inside inside (laid-states (held (in-force ahead) (record-on l)))
 lie inside ahead l (is-empty e) = rw (empty-none l e) tt
-lie inside ahead l (goes-on m ne e d i) = rw (← held-states ahead (record-on l), e) i
+lie inside ahead l (goes-on m ne e d i g) = rw (← held-states ahead (record-on l), e) i
 
 -- ---- a load that is accepted
 
@@ -113,19 +113,20 @@ module _ (ls : List (List ℕ)) (a : ℕ) where
   of-owed x = record { one-or-zero = x .one-or-zero; marked-iff-put = x .marked-iff-put; marked-holds = λ e. of-last (x .marked-holds e); unmarked-keeps = x .unmarked-keeps }
 
 -- each line that passes is no end record
-none-ends : (inside : ℕ → Bool) (ahead ls : List (List ℕ)) → All-pass (account inside) ahead ls → Every (λ (line : List ℕ). record-on line ≢ some end-of-file) ls
+pub none-ends : (inside : ℕ → Bool) (ahead ls : List (List ℕ)) → All-pass (account inside) ahead ls → Every (λ (line : List ℕ). record-on line ≢ some end-of-file) ls
 none-ends inside ahead [] p = tt
 none-ends inside ahead (l ∷ ls) (p, ps) = (go p, none-ends inside (ahead ++ (l ∷ [])) ls ps)
   where
     go : Passes inside ahead l → record-on l ≢ some end-of-file
     go (is-empty e) q = let x = empty-none l e in let z : _≡_ {A = ℕ} 0 1 = cc in omega arith
-    go (goes-on m ne e d i) q = d cc
+    go (goes-on m ne e d i g) q = d cc
 
 -- and one that accepts is
 end-stops : (inside : ℕ → Bool) (ahead : List (List ℕ)) (l : List ℕ) (n : ℕ) (v : Verdict) (k : Tally) → Stops inside ahead l n v → v ≡ accepted k → record-on l ≡ some end-of-file
 end-stops inside ahead l n v k (the-end tally e c) q = e
 end-stops inside ahead l n v k (no-record r b e) q = cc
 end-stops inside ahead l n v k (first-outside before after p e i o) q = cc
+end-stops inside ahead l n v k (start-differs s first e a d) q = cc
 
 pub stored-by-intel : Stored-by-Intel
 stored-by-intel text first page marks k e = go (load text first page marks .answer) (reasons text first page marks) e
@@ -189,6 +190,7 @@ outside-by-intel text first page marks address line e = go (load text first page
           out = f .out;
           earlier = λ m j a b y. f .earlier m j a b (from-puts ls m j a b y);
         })
+    stops ahead l later n a w k x (start-differs s first e h d) q = let is : start-conflict ≡ outside-window address = cc in absurd (omega (arith, ap number-of is))
 
     go : (a : Verdict) → Why text first page marks a → a ≡ refused (outside-window address) line → First-outside (lines text) first (length page) address line
     go a (bad-one w) q = let z : _≡_ {A = ℕ} 0 1 = cc in absurd (omega arith)

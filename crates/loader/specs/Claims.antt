@@ -12,7 +12,7 @@ use mathlib.Core.Option.{Option, none, some, Option·getD}
 use mathlib.Core.List.{List, [], _∷_, _++_}
 use lib.ListN.{length, getD, replicate}
 use Rattle.digits.specs.Common.{or-else, Every, text}
-use Rattle.record.specs.Refusals.{Refusal, number-of, contains-invalid-characters, outside-window}
+use Rattle.record.specs.Refusals.{Refusal, number-of, contains-invalid-characters, outside-window, start-conflict}
 use Rattle.record.specs.Line.{Said, says, wrong, judge}
 use Rattle.digits.specs.Reading.{named}
 use Rattle.record.specs.Meaning.{Meaning, data-at, end-of-file, extended-segment, start-segment, extended-linear, start-linear, meaning}
@@ -20,7 +20,8 @@ use Rattle.reader.specs.Lines.{LF, through}
 use Rattle.reader.specs.Claims.{Offends}
 use Rattle.marks.specs.Marks.{mark-at}
 use Rattle.steps.specs.declared.Loading.{Loading}
-use Rattle.steps.specs.Steps.{Placement, Tally, Verdict, accepted, refused, by}
+use Rattle.steps.specs.Steps.{Placement, Start, cs-with-ip, linear-address, Tally, Verdict, accepted, refused, by}
+use Rattle.steps.specs.Starts.{Starts-at}
 use Rattle.steps.specs.Sites.{Owed-at}
 use Rattle.steps.specs.Account.{Account}
 use Rattle.window.specs.Reasons.{Load-reasons, Load-one-reason, Among}
@@ -121,23 +122,41 @@ unfolding counts said-record judge
 data-records [] = 0
 data-records (line ∷ ls) = counts (record-on line) + data-records ls
 
+-- the start that a record states, if it states one
+unfoldable pub starts : Option Meaning → Option Start
+starts none = none
+starts (some (data-at offset bytes)) = none
+starts (some end-of-file) = none
+starts (some (extended-segment number)) = none
+starts (some (start-segment cs ip)) = some (cs-with-ip cs ip)
+starts (some (extended-linear number)) = none
+starts (some (start-linear number)) = some (linear-address number)
+
+abbrev pub start-on : (line : List ℕ) → Option Start
+start-on line = starts (record-on line)
+
 -- what an accepted load reports of these lines
 pub record Counted (tally : Tally) (ahead : List (List ℕ)) : Type 0 where
   pub records : tally .records ≡ data-records ahead
+  pub start : Starts-at start-on ahead (tally .start)
 
--- a line behind these does not stop a load: it is empty, or a record other than the end with no byte outside
+-- a line after these does not stop a load: it is empty, or a record other than the end, with no byte outside and no start other than the first
 pub data Passes (inside : ℕ → Bool) (ahead : List (List ℕ)) (line : List ℕ) : Type 0 where
   is-empty : line ≡ [] → Passes inside ahead line
   goes-on : (m : Meaning) → line ≢ [] → record-on line ≡ some m → m ≢ end-of-file
-      → Every (λ (p : Placement). inside (p .address) ≡ true) (states ahead (some m)) → Passes inside ahead line
+      → Every (λ (p : Placement). inside (p .address) ≡ true) (states ahead (some m))
+      → ((s first : Start) → start-on line ≡ some s → Starts-at start-on ahead (some first) → s ≡ first) → Passes inside ahead line
 
--- what line n, behind these, gives a load that stops at it: it is the end record, or it is refused, or it has a first byte outside
+-- what line n, after these, gives a load that stops at it: it is the end record, or it is refused, or it has a first byte outside, or it states a
+-- start other than the first
 pub data Stops (inside : ℕ → Bool) (ahead : List (List ℕ)) (line : List ℕ) (n : ℕ) : Verdict → Type 0 where
   the-end : (tally : Tally) → record-on line ≡ some end-of-file → Counted tally ahead → Stops inside ahead line n (accepted tally)
   no-record : (r : Refusal) → line ≢ [] → judge line ≡ wrong r → Stops inside ahead line n (refused r n)
   first-outside : (before after : List Placement) (p : Placement)
       → states ahead (record-on line) ≡ before ++ (p ∷ after) → Every (λ (q : Placement). inside (q .address) ≡ true) before
       → inside (p .address) ≡ false → Stops inside ahead line n (refused (outside-window (p .address)) n)
+  start-differs : (s first : Start) → start-on line ≡ some s → Starts-at start-on ahead (some first) → s ≢ first
+      → Stops inside ahead line n (refused start-conflict n)
 
 -- what a load asks of a line of Intel HEX
 abbrev pub account : (inside : ℕ → Bool) → Account
@@ -163,7 +182,7 @@ Load-names-the-offender =
 
 -- the numbers of refusals that a load can give
 abbrev pub refusal-numbers : List ℕ
-refusal-numbers = 1 ∷ 2 ∷ 3 ∷ 4 ∷ 5 ∷ 6 ∷ 7 ∷ 8 ∷ 9 ∷ 13 ∷ 16 ∷ 17 ∷ []
+refusal-numbers = 1 ∷ 2 ∷ 3 ∷ 4 ∷ 5 ∷ 6 ∷ 7 ∷ 8 ∷ 9 ∷ 13 ∷ 16 ∷ 17 ∷ 21 ∷ []
 
 abbrev pub Total : Type 0
 Total = (text : List ℕ) (first : ℕ) (page marks : List ℕ) → Among refusal-numbers ((load text first page marks) .answer)
@@ -186,14 +205,24 @@ example = text ":020000021200EA" ++ (LF ∷ text ":010005007783") ++ (LF ∷ tex
 abbrev pub beyond : List ℕ
 beyond = text ":02FFFF00AABB9B" ++ (LF ∷ text ":00000001FF")
 
+-- a start in capitals, the same in small letters, and the end
+abbrev pub starts-twice : List ℕ
+starts-twice = text ":0400000300AB00CD81" ++ (LF ∷ text ":0400000300ab00cd81") ++ (LF ∷ text ":00000001FF")
+
 pub record Examples : Type 0 where
   pub sixth-place : load example 0x12000 (replicate 8 9) (0x81 ∷ [])
       ≡ record {
-        answer = accepted (record { records = 1 });
+        answer = accepted (record { records = 1; start = none });
         page = 9 ∷ 9 ∷ 9 ∷ 9 ∷ 9 ∷ 0x77 ∷ 9 ∷ 9 ∷ [];
         marks = 0x20 ∷ [];
       }
   -- 6 places, and a text of the end record alone: unused bits that were set are 0 then
-  pub unused-bits : load (text ":00000001FF") 0 (replicate 6 9) (0xFF ∷ []) ≡ record { answer = accepted (record { records = 0 }); page = replicate 6 9; marks = 0 ∷ [] }
+  pub unused-bits : load (text ":00000001FF") 0 (replicate 6 9) (0xFF ∷ []) ≡ record { answer = accepted (record { records = 0; start = none }); page = replicate 6 9; marks = 0 ∷ [] }
   pub below-it : stopping example 0x12006 (replicate 2 9) (7 ∷ []) ≡ some (by 2 (refused (outside-window 0x12005) 2))
+  -- the same start twice, in both letter cases, is one start
+  pub same-twice : stopping starts-twice 0 [] [] ≡ some (by 3 (accepted (record { records = 0; start = some (cs-with-ip 0xAB 0xCD) })))
+  -- the same place stated as CS with IP and as a linear address
+  pub two-kinds : stopping (text ":04000003000000CD2C" ++ (LF ∷ text ":04000005000000CD2A")) 0 [] [] ≡ some (by 2 (refused start-conflict 2))
+  -- 16 times 1000 and 16 times 0FFF with 10 are one address, but not one start
+  pub two-segments : stopping (text ":0400000310000000E9" ++ (LF ∷ text ":040000030FFF0010DB")) 0 [] [] ≡ some (by 2 (refused start-conflict 2))
   pub wraps : placements beyond ≡ record { address = 0xFFFF; byte = 0xAA } ∷ record { address = 0; byte = 0xBB } ∷ []

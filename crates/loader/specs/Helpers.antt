@@ -15,7 +15,7 @@ use Rattle.reader.specs.Row.{Numbered, is-end}
 use Rattle.reader.specs.Text.{default-options}
 use Rattle.reader.specs.Along.{unread, Countable}
 use Rattle.marks.specs.Marks.{bits}
-use Rattle.steps.specs.Steps.{Step, step, outside, decision, verdict, stated}
+use Rattle.steps.specs.Steps.{Start, Step, step, outside, Turn as Came, on, stop, at-start, decision, verdict, stated}
 use Rattle.steps.specs.Sites.{painted}
 use Rattle.steps.specs.Runs.{as-mark}
 use Rattle.window.specs.declared.Reach.{Reach}
@@ -25,6 +25,7 @@ use Rattle.loader.specs.declared.Base.{Base as CodeBase}
 use Rattle.loader.specs.declared.Base.the-variants.{Segment, Linear}
 use Rattle.steps.specs.declared.Loading.{Loading}
 use Rattle.steps.specs.declared.Loading.the-variants.{Accepted, Refused}
+use Rattle.steps.specs.declared.Start.{Start as CodeStart}
 use Rattle.steps.specs.declared.Tally.{Tally as CodeTally}
 use Rattle.loader.specs.declared.Walk.{Walk}
 use Rattle.loader.specs.declared.Turn.{Turn}
@@ -33,7 +34,7 @@ use Rattle.loader.specs.declared.Further.{Further}
 use Rattle.loader.specs.declared.Further.the-variants as further
 use Rattle.loader.specs.Placing.{Base, segment, linear, byte-address, placed, base-behind, does, along}
 unfoldable pub use Rattle.loader.specs.Placing.{stated-by}
-use Rattle.steps.specs.Told.{tallied, told-loading}
+use Rattle.steps.specs.Told.{told-start, tallied, told-loading}
 use Rattle.window.specs.Load.{Same-painting}
 
 -- ---- one record
@@ -78,6 +79,11 @@ pub record Under-way (text : List ℕ) (w : Walk) : Type 0 where
 abbrev pub Few : (text : List ℕ) → Walk → CodeTally → Type 0
 Few text w tally = tally .records + length (unread (w .state) text) ≤ length text
 
+-- a turn as the definitions have it
+abbrev pub told-turn : Turn → Came
+told-turn (On tally w) = on (tallied tally)
+told-turn (Stop l) = stop (told-loading l)
+
 -- what a record does on line n
 abbrev pub does-on : (line : ℕ) → Base → Meaning → List Step
 does-on n base m = map (step n) (does base m)
@@ -97,6 +103,11 @@ Met inside w tally m (Stop l) = (rest : List Step) → told-loading l ≡ verdic
 -- so it is, wherever the record's payload lies
 abbrev pub Meets : (inside : ℕ → Bool) (w : Walk) (tally : CodeTally) (x : Record) → Turn → Type 0
 Meets inside w tally x t = (pool : List ℕ) → Lies-in x pool → Met inside w tally (meant x pool) t
+
+-- what a start comes to that a record states: it is kept or refused, and the walk goes on from there
+pub record MeetsStart (there : Walk) (tally : CodeTally) (stated : CodeStart) (t : Turn) : Type 0 where
+  pub comes-to : (s : Start) → told-start stated ≡ some s → told-turn t ≡ at-start (there .state .line) s (tallied tally)
+  pub stays : (tally′ : CodeTally) (w′ : Walk) → t ≡ On tally′ w′ → w′ ≡ there
 
 -- a line was judged: the decision on what is left is the decision on what was left, or it is returned
 pub record Onward (inside : ℕ → Bool) (text : List ℕ) (w : Walk) (tally : CodeTally) (w′ : Walk) (tally′ : CodeTally) : Type 0 where

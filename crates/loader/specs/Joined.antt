@@ -2,24 +2,25 @@
 -- end record, the line `:020000020000FC` with a LF, and B. Each claim is proved in `proofs/Joined.antt`: the same name, in small letters.
 -- Assumes nothing.
 use mathlib.Core.Path.{_≡_}
-use mathlib.Core.Logic.{_↔_}
+use mathlib.Core.Logic.{_↔_, _⊎_}
 use Prim.Native.Nat.{ℕ, suc, _+_, _<_, max}
-use mathlib.Core.Option.{some}
+use mathlib.Core.Option.{none, some}
 use mathlib.Core.List.{List, [], _∷_, _++_, List·Memᴰ}
 use lib.ListN.{length, getD, replicate}
 use Rattle.digits.specs.Common.{Every, text}
-use Rattle.record.specs.Refusals.{Refusal, checksum-mismatch, missing-end-of-file-record}
+use Rattle.record.specs.Refusals.{checksum-mismatch, missing-end-of-file-record, start-conflict}
 use Rattle.record.specs.Meaning.{end-of-file}
 use Rattle.reader.specs.Lines.{LF, CR, lines}
 use Rattle.marks.specs.Marks.{mark-at}
-use Rattle.steps.specs.Steps.{Placement, Tally, accepted, refused}
+use Rattle.steps.specs.Steps.{Placement, linear-address, Tally, Verdict, accepted, refused}
 use Rattle.steps.specs.Sites.{Loaded, Stated, Last-stated}
 use Rattle.steps.specs.Join as join
-use Rattle.steps.specs.Join.{Whole-lines, Joinable, together, after-lines}
+use Rattle.steps.specs.Join.{Whole-lines, Joinable, together, Agreeing, after-verdict, Answered-after}
 use Rattle.window.specs.Claims.{Window}
+use Rattle.window.specs.Load.{room-of}
 use Rattle.loader.specs.Placing.{intel}
 use Rattle.loader.specs.Load.{placements, load}
-use Rattle.loader.specs.Claims.{record-on, beyond}
+use Rattle.loader.specs.Claims.{record-on, start-on, beyond}
 
 -- ---- the joined text
 
@@ -77,20 +78,41 @@ Answer-by-lengths =
     (text : List ℕ) (first : ℕ) (page marks page′ marks′ : List ℕ) → length page ≡ length page′ → length marks ≡ length marks′
     → (load text first page marks) .answer ≡ (load text first page′ marks′) .answer
 
--- if A is accepted, the joined text is accepted exactly when B is, and its tally is both together
+-- if A is accepted, the joined text is accepted exactly when B is and no start of B differs from A's. Counts add, and the start is A's, or else B's.
 abbrev pub Joined-accepted : Type 0
 Joined-accepted =
     (first : ℕ) (a b page marks : List ℕ) (ta tj : Tally) → (load a first page marks) .answer ≡ accepted ta
     → ((load (joined a b) first page marks) .answer ≡ accepted tj)
-    ↔ ((tb : Tally) × ((load b first page marks) .answer ≡ accepted tb) × (tj ≡ together ta tb))
+    ↔ ((tb : Tally) × ((load b first page marks) .answer ≡ accepted tb) × Agreeing (ta .start) (tb .start) × (tj ≡ together ta tb))
 
--- if A is accepted and B is refused, the joined text is refused with the same refusal and values. Its line is B's, after A's lines before the end
--- record and one more; 0, where no line is named, stays 0.
-abbrev pub Joined-refused : Type 0
-Joined-refused =
-    (first : ℕ) (a b page marks : List ℕ) (ta : Tally) (r : Refusal) (line : ℕ)
-    → (load a first page marks) .answer ≡ accepted ta → (load b first page marks) .answer ≡ refused r line
-    → (load (joined a b) first page marks) .answer ≡ refused r (after-lines (suc (length (lines (before-end a)))) line)
+-- B, loaded into this window, comes to a start other than A's on its line n
+abbrev pub Meets-another : (first : ℕ) (page marks : List ℕ) → Tally → (b : List ℕ) (n : ℕ) → Type 0
+Meets-another first page marks ta b n = join.Meets-another intel (room-of first page marks) ta b n
+
+-- how many lines stand before B in the joined text: A's before its end record, and one more
+abbrev pub lines-before-B : (a : List ℕ) → ℕ
+lines-before-B a = suc (length (lines (before-end a)))
+
+-- if A is accepted, the joined text is answered as B is, after those lines: a refusal has its values and its moved line, and 0, where no line is
+-- named, stays 0. But where B comes to a start other than A's it is 21 at that line, moved likewise.
+abbrev pub Joined-answered : Type 0
+Joined-answered =
+    (first : ℕ) (a b page marks : List ℕ) (ta : Tally) → (load a first page marks) .answer ≡ accepted ta
+    → Answered-after (lines-before-B a) ta (Meets-another first page marks ta b) ((load b first page marks) .answer) ((load (joined a b) first page marks) .answer)
+
+-- that leaves nothing open
+abbrev pub Joined-one-answer : Type 0
+Joined-one-answer =
+    (first : ℕ) (a b page marks : List ℕ) (ta : Tally) (v : Verdict) → (load a first page marks) .answer ≡ accepted ta
+    → Answered-after (lines-before-B a) ta (Meets-another first page marks ta b) ((load b first page marks) .answer) v
+    → v ≡ (load (joined a b) first page marks) .answer
+
+-- so where A states no start, or no line of B states one, the answer is B's, after A's tally and those lines
+abbrev pub Joined-with-one-start : Type 0
+Joined-with-one-start =
+    (first : ℕ) (a b page marks : List ℕ) (ta : Tally) → (load a first page marks) .answer ≡ accepted ta
+    → (ta .start ≡ none) ⊎ Every (λ (line : List ℕ). start-on line ≡ none) (lines b)
+    → (load (joined a b) first page marks) .answer ≡ after-verdict (lines-before-B a) ta ((load b first page marks) .answer)
 
 -- ---- page and marks
 
@@ -105,15 +127,15 @@ pub record Upon (first second both : Loaded) : Type 0 where
   pub pages : both .page ≡ second .page
   pub marks : (p : ℕ) → mark-at (both .marks) p ≡ max (mark-at (first .marks) p) (mark-at (second .marks) p)
 
--- if both are accepted, loading A and then B leaves the same page as loading the joined text, whose marks are the union of both loads' marks. The
--- old page may be any, and so may the old marks of each of the three loads.
+-- if both are accepted and their starts agree, loading A and then B leaves the same page as loading the joined text, whose marks are the union of
+-- both loads' marks. The old page may be any, and so may the old marks of each of the three loads.
 abbrev pub One-upon-another : Type 0
 One-upon-another =
     (first : ℕ) (a b page ma mb mj : List ℕ) (ta tb : Tally) → length mj ≡ length ma
     → let la = load a first page ma in
     let lb = load b first (la .page) mb in
     let lj = load (joined a b) first page mj in
-    la .answer ≡ accepted ta → lb .answer ≡ accepted tb → (lj .answer ≡ accepted (together ta tb)) × Upon la lb lj
+    la .answer ≡ accepted ta → lb .answer ≡ accepted tb → Agreeing (ta .start) (tb .start) → (lj .answer ≡ accepted (together ta tb)) × Upon la lb lj
 
 -- what a panel sees at a place: of one that B states, the last byte that B states there; of one that only A states, A's; of any other, the old one
 pub data Seen (a b : List Placement) (address old : ℕ) : (byte : ℕ) → Type 0 where
@@ -121,7 +143,7 @@ pub data Seen (a b : List Placement) (address old : ℕ) : (byte : ℕ) → Type
   from-A : (byte : ℕ) → (¬ Stated address b) → Last-stated address byte a → Seen a b address old byte
   as-before : (¬ Stated address b) → (¬ Stated address a) → Seen a b address old old
 
--- at each place of the window: after A and then B, and after the joined text
+-- at each place of the window: after A and then B, and, if their starts agree, after the joined text
 abbrev pub What-a-panel-sees : Type 0
 What-a-panel-sees =
     (first : ℕ) (a b page ma mb mj : List ℕ) (ta tb : Tally) → length mj ≡ length ma
@@ -129,7 +151,8 @@ What-a-panel-sees =
     let lb = load b first (la .page) mb in
     let lj = load (joined a b) first page mj in
     let sees : (byte i : ℕ) → Type 0 = λ byte i. Seen (placements a) (placements b) (first + i) (getD page i 0) byte in
-    la .answer ≡ accepted ta → lb .answer ≡ accepted tb → (i : ℕ) → i < length page → sees (getD (lb .page) i 0) i × sees (getD (lj .page) i 0) i
+    la .answer ≡ accepted ta → lb .answer ≡ accepted tb → (i : ℕ) → i < length page
+    → sees (getD (lb .page) i 0) i × (Agreeing (ta .start) (tb .start) → sees (getD (lj .page) i 0) i)
 
 -- ---- groupings
 
@@ -156,7 +179,7 @@ end-record = text ":00000001FF"
 abbrev pub End-alone : Type 0
 End-alone =
     (first : ℕ) (page marks : List ℕ) → Window first page marks
-    → let left : Loaded = record { answer = accepted (record { records = 0 }); page = page; marks = replicate (length marks) 0 } in
+    → let left : Loaded = record { answer = accepted (record { records = 0; start = none }); page = page; marks = replicate (length marks) 0 } in
     (load end-record first page marks ≡ left) × (load (end-record ++ (LF ∷ [])) first page marks ≡ left)
 
 -- ---- examples
@@ -177,16 +200,23 @@ based = text ":020000040001F9" ++ (LF ∷ text ":0100000055AA") ++ (LF ∷ end-r
 abbrev pub wrong-sum : List ℕ
 wrong-sum = text ":010001007788" ++ (LF ∷ end-record)
 
+-- a linear start
+abbrev pub starting : List ℕ
+starting = text ":04000005000000CD2A" ++ (LF ∷ end-record)
+
 pub record Examples : Type 0 where
   pub ends-by-the-judge : before-end large ≡ text ":0100000055AA" ++ (CR ∷ LF ∷ LF ∷ [])
   pub text-is : joined large small
       ≡ text ":0100000055AA" ++ (CR ∷ LF ∷ LF ∷ text ":020000020000FC") ++ (LF ∷ text ":010001007787") ++ (LF ∷ text ":00000001FF")
   -- marks 01 and 02 make 03
-  pub one-load : load (joined large small) 0 (replicate 4 9) (0 ∷ []) ≡ record { answer = accepted (record { records = 2 }); page = 0x55 ∷ 0x77 ∷ 9 ∷ 9 ∷ []; marks = 3 ∷ [] }
-  pub the-first : load large 0 (replicate 4 9) (0 ∷ []) ≡ record { answer = accepted (record { records = 1 }); page = 0x55 ∷ 9 ∷ 9 ∷ 9 ∷ []; marks = 1 ∷ [] }
-  pub the-second : load small 0 (0x55 ∷ 9 ∷ 9 ∷ 9 ∷ []) (0 ∷ []) ≡ record { answer = accepted (record { records = 1 }); page = 0x55 ∷ 0x77 ∷ 9 ∷ 9 ∷ []; marks = 2 ∷ [] }
+  pub one-load : load (joined large small) 0 (replicate 4 9) (0 ∷ []) ≡ record { answer = accepted (record { records = 2; start = none }); page = 0x55 ∷ 0x77 ∷ 9 ∷ 9 ∷ []; marks = 3 ∷ [] }
+  pub the-first : load large 0 (replicate 4 9) (0 ∷ []) ≡ record { answer = accepted (record { records = 1; start = none }); page = 0x55 ∷ 9 ∷ 9 ∷ 9 ∷ []; marks = 1 ∷ [] }
+  pub the-second : load small 0 (0x55 ∷ 9 ∷ 9 ∷ 9 ∷ []) (0 ∷ []) ≡ record { answer = accepted (record { records = 1; start = none }); page = 0x55 ∷ 0x77 ∷ 9 ∷ 9 ∷ []; marks = 2 ∷ [] }
   -- line 1 of B is line 4 of the joined text; refusal 13 names no line
   pub later-line : (load (joined large wrong-sum) 0 (replicate 4 9) (0 ∷ [])) .answer ≡ refused (checksum-mismatch 0x87 0x88) 4
+  -- A's start, then another on line 1 of B; and the same again
+  pub other-start : (load (joined starting (text ":04000005000000CE29" ++ (LF ∷ end-record))) 0 [] []) .answer ≡ refused start-conflict 3
+  pub one-start : (load (joined starting starting) 0 [] []) .answer ≡ accepted (record { records = 0; start = some (linear-address 0xCD) })
   pub no-line : (load (joined large []) 0 (replicate 4 9) (0 ∷ [])) .answer ≡ refused missing-end-of-file-record 0
   -- the line between them matters: without it B's byte goes to A's base
   pub with-the-line : placements (joined based small) ≡ record { address = 0x10000; byte = 0x55 } ∷ record { address = 1; byte = 0x77 } ∷ []

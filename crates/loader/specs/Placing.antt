@@ -1,12 +1,12 @@
 -- Intel's records as a source of steps: where the bytes of a data record lie, and what each line does. Document 01, "Loader", with the bases
--- and sums of document 02's second request.
+-- and sums of document 02's second wish, and the starts of its tenth.
 -- Assumes nothing.
 use Prim.Native.Nat.{ℕ, _+_, _*_, _%_, _^_}
 use mathlib.Core.List.{List, [], _∷_, _++_, map}
 use Rattle.record.specs.Line.{Said, says, wrong, judge}
 use Rattle.record.specs.Meaning.{Meaning, data-at, end-of-file, extended-segment, start-segment, extended-linear, start-linear, meaning}
 use Rattle.reader.specs.Row.{Numbered, on}
-use Rattle.steps.specs.Steps.{Placement, Action, places, finishes, fails, Step, step}
+use Rattle.steps.specs.Steps.{Placement, cs-with-ip, linear-address, Action, places, starts, finishes, fails, Step, step}
 use Rattle.steps.specs.Source.{Source}
 use Rattle.steps.specs.Runs.{spread}
 
@@ -58,15 +58,15 @@ base-behind base (start-linear number) = base
 
 -- ---- steps
 
--- what a record does at a base: extension and start records do nothing
+-- what a record does at a base: extension records do nothing
 unfoldable pub does : Base → Meaning → List Action
 unfolding spread byte-address
 does base (data-at offset bytes) = places (placed base offset 0 bytes) ∷ []
 does base end-of-file = finishes ∷ []
 does base (extended-segment number) = []
-does base (start-segment cs ip) = []
+does base (start-segment cs ip) = starts (cs-with-ip cs ip) ∷ []
 does base (extended-linear number) = []
-does base (start-linear number) = []
+does base (start-linear number) = starts (linear-address number) ∷ []
 
 -- what is said on a line does that; a line that is refused fails
 unfoldable pub act : Base → Said → List Action

@@ -6,6 +6,7 @@ use record::Record;
 use record::payload_sizes;
 use steps::LoaderError;
 use steps::Loading;
+use steps::Start;
 use steps::Tally;
 use window::Reach;
 ghost use mathlib.Core.Path.{_≡_};
@@ -19,7 +20,7 @@ ghost use Rattle.window.specs.Window.{within};
 ghost use Rattle.window.specs.Contracts.{Surveyed, Painted};
 ghost use Rattle.loader.specs.Placing.{byte-address, placed};
 ghost use Rattle.loader.specs.Load.{placements, steps-of, Load};
-ghost use Rattle.loader.specs.Helpers.{based, stated-by, Short, Lies-in, Behind, Under-way, Few, Meets, Judged, Wrote};
+ghost use Rattle.loader.specs.Helpers.{based, stated-by, Short, Lies-in, Behind, Under-way, Few, MeetsStart, Meets, Judged, Wrote};
 
 // How many bytes a segment has.
 const SEGMENT: usize = 65536;
@@ -133,6 +134,24 @@ fn put(base: Base, offset: u16, bytes: &[u8], first: u32, page: &mut [u8], marks
     }
 }
 
+// What a start comes to in the first pass: the first is kept, and another is refused.
+fn judge_start(there: Walk, tally: Tally, stated: Start) -> Turn
+    ensures { λ r. ⌜ MeetsStart there tally stated r ⌝ }
+{
+    let first = tally.start;
+    if stated.differs_from(first) {
+        let state = there.state;
+        return Turn::Stop(Loading::Refused(LoaderError::StartConflict, state.line));
+    }
+    Turn::On(
+        Tally {
+            records: tally.records,
+            start: stated,
+        },
+        there,
+    )
+}
+
 // What a record comes to in the first pass. The walk stands after the record's line, with the base before it.
 fn judge_record(first: u32, size: usize, w: Walk, tally: Tally, given: Record) -> Turn
     requires { ⌜ Short given × (tally .records + 1 < 2 ^ 64) ⌝ }
@@ -140,6 +159,7 @@ fn judge_record(first: u32, size: usize, w: Walk, tally: Tally, given: Record) -
 {
     let state = w.state;
     let base = w.base;
+    let start = tally.start;
     let there = Walk {
         state,
         base: base_behind(base, given),
@@ -149,6 +169,7 @@ fn judge_record(first: u32, size: usize, w: Walk, tally: Tally, given: Record) -
             Reach::Inside => Turn::On(
                 Tally {
                     records: tally.records + 1,
+                    start,
                 },
                 there,
             ),
@@ -159,9 +180,13 @@ fn judge_record(first: u32, size: usize, w: Walk, tally: Tally, given: Record) -
         },
         Record::EndOfFile => Turn::Stop(Loading::Accepted(tally)),
         Record::ExtendedSegmentAddress(_) => Turn::On(tally, there),
-        Record::StartSegmentAddress { cs: _, ip: _ } => Turn::On(tally, there),
+        Record::StartSegmentAddress { cs, ip } => judge_start(
+            there,
+            tally,
+            Start::Segment { cs, ip },
+        ),
         Record::ExtendedLinearAddress(_) => Turn::On(tally, there),
-        Record::StartLinearAddress(_) => Turn::On(tally, there),
+        Record::StartLinearAddress(address) => judge_start(there, tally, Start::Linear(address)),
     }
 }
 
@@ -204,7 +229,10 @@ fn judge_text(text: &[u8], first: u32, size: usize) -> Loading
 {
     let mut pool = [0u8; payload_sizes::MOST_DATA];
     let mut w = begin();
-    let mut tally = Tally { records: 0 };
+    let mut tally = Tally {
+        records: 0,
+        start: Start::Unstated,
+    };
     loop {
         match judge_next(text, &mut pool, first, size, w, tally) {
             Turn::On(t, next) => {

@@ -51,10 +51,10 @@ restores-so page marks old-page page′ marks′ l answer p m r =
 pub loaded-back : (first : ℕ) (page marks out : List ℕ) (n : ℕ) (out′ old-page old-marks : List ℕ)
     → Every Byte page → Bytes marks → length old-page ≡ length page → length old-marks ≡ length marks → WritePage first page marks out (Wrote n) out′
     → let l = load (take n out′) first old-page old-marks in
-    (l .answer ≡ accepted (record { records = length (pieces first 0 none (flags (length page) marks)) })) × Restores page marks old-page l
+    (l .answer ≡ accepted (record { records = length (pieces first 0 none (flags (length page) marks)); start = none })) × Restores page marks old-page l
 loaded-back first page marks out n out′ old-page old-marks b bm lp lm w =
     subst (λ (text : List ℕ). let l = load text first old-page old-marks in
-    (l .answer ≡ accepted (record { records = length (pieces first 0 none (flags (length page) marks)) })) × Restores page marks old-page l)
+    (l .answer ≡ accepted (record { records = length (pieces first 0 none (flags (length page) marks)); start = none })) × Restores page marks old-page l)
     (sym (rest-untouched first page marks out n out′ w .0))
     (loads-back first page marks old-page old-marks (written-page first page marks (length out) n (reasons first page marks out (Wrote n) out′ w)) b bm lp lm)
 

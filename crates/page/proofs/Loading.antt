@@ -64,7 +64,7 @@ abbrev placement : (first : ℕ) (page : List ℕ) → ℕ → Placement
 placement first page i = record { address = first + i; byte = getD page i 0 }
 
 abbrev tally : ℕ → Tally
-tally n = record { records = n }
+tally n = record { records = n; start = none }
 
 module _ (first : ℕ) (page : List ℕ) (below : first + length page ≤ 2 ^ 32) where
   placed-run : (u offset i at n : ℕ) → 65536 * u + offset + i ≡ first + at → at + n ≤ length page

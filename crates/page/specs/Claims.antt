@@ -61,13 +61,13 @@ pub record Restores (page marks old-page : List ℕ) (l : Loaded) : Type 0 where
   pub same-bytes : (i : ℕ) → Marked marks i → getD (l .page) i 0 ≡ getD page i 0
   pub others-kept : (i : ℕ) → mark-at marks i ≡ 0 → getD (l .page) i 0 ≡ getD old-page i 0
 
--- into the same window, whatever page and marks held, it is accepted with all its data records
+-- into the same window, whatever page and marks held, it is accepted with all its data records, and it states no start
 abbrev pub Loads-back : Type 0
 Loads-back =
     (first : ℕ) (page marks old-page old-marks : List ℕ) → Page first page marks → Every Byte page → Bytes marks
     → length old-page ≡ length page → length old-marks ≡ length marks
     → let l = load (file first page marks) first old-page old-marks in
-    (l .answer ≡ accepted (record { records = length (pieces first 0 none (flags (length page) marks)) })) × Restores page marks old-page l
+    (l .answer ≡ accepted (record { records = length (pieces first 0 none (flags (length page) marks)); start = none })) × Restores page marks old-page l
 
 -- the n bytes that `write_page` says it wrote, given to `load`: that they were written says that window and marks are good
 abbrev pub Written-loads-back : Type 0
@@ -75,7 +75,7 @@ Written-loads-back =
     (first : ℕ) (page marks out : List ℕ) (n : ℕ) (out′ old-page old-marks : List ℕ) (r : Loading) (page′ marks′ : List ℕ)
     → Every Byte page → Bytes marks → length old-page ≡ length page → length old-marks ≡ length marks
     → WritePage first page marks out (Wrote n) out′ → Load (take n out′) first old-page old-marks r page′ marks′
-    → (told-loading r ≡ accepted (record { records = length (pieces first 0 none (flags (length page) marks)) }))
+    → (told-loading r ≡ accepted (record { records = length (pieces first 0 none (flags (length page) marks)); start = none }))
     × Restores page marks old-page (record { answer = told-loading r; page = page′; marks = marks′ })
 
 -- ---- two pages

@@ -81,6 +81,11 @@ bad-mark place = refusal 19 (place ∷ [])
 abbrev pub count-mismatch : (stated seen : ℕ) → Refusal
 count-mismatch stated seen = refusal 20 (stated ∷ seen ∷ [])
 
+-- of a load of Intel HEX, beside those above
+
+abbrev pub start-conflict : Refusal
+start-conflict = refusal 21 []
+
 -- of an S-record to be written, beside 9, 11, 12 and 15
 
 abbrev pub address-too-wide : Refusal

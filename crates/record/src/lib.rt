@@ -73,6 +73,8 @@ pub mod refusals {
 
     pub const COUNT_MISMATCH: u8 = 20;
 
+    pub const START_CONFLICT: u8 = 21;
+
     pub const ADDRESS_TOO_WIDE: u8 = 25;
 }
 

@@ -25,7 +25,7 @@
 //   X2 PAYLOAD                  a record of type 02, and so for 03 to 05
 //   done                        the text has no more answers
 //   W LENGTH                    so many bytes were written
-//   A RECORDS                   loaded, with so many data records
+//   A RECORDS START             loaded, with so many data records; the start is told as its record, X3 or X5, or not at all
 //   ! NUMBER VALUES             a refusal
 //
 // The answers of T stand in one line with `; ` between them, up to "done" or refusal 10, and at most
@@ -48,6 +48,8 @@ use record::refusals;
 use record::types;
 use steps::LoaderError;
 use steps::Loading;
+use steps::Start;
+use steps::Tally;
 use writer::WriterError;
 use writer::Written;
 ghost use mathlib.Core.Path.{_≡_};
@@ -467,12 +469,26 @@ fn filled(b: u8) -> [u8; 65537]
     [b; 65537]
 }
 
+// A start as the record that states it in Intel HEX.
+fn say_start(r: Record) {
+    say_char(b' ');
+    say_record(r);
+}
+
+fn say_tally(tally: Tally) {
+    let start = tally.start;
+    say_char(b'A');
+    say_field(b' ', tally.records as u64, 1);
+    match start {
+        Start::Unstated => {}
+        Start::Segment { cs, ip } => say_start(Record::StartSegmentAddress { cs, ip }),
+        Start::Linear(address) => say_start(Record::StartLinearAddress(address)),
+    }
+}
+
 fn say_loading(l: Loading) {
     match l {
-        Loading::Accepted(tally) => {
-            say_char(b'A');
-            say_field(b' ', tally.records as u64, 1);
-        }
+        Loading::Accepted(tally) => say_tally(tally),
         Loading::Refused(e, line) => {
             match e {
                 LoaderError::Line(why) => say_refusal(why),
@@ -485,6 +501,7 @@ fn say_loading(l: Loading) {
                     say_refused(refusals::COUNT_MISMATCH, stated as u64, 1);
                     say_field(b' ', seen as u64, 1);
                 }
+                LoaderError::StartConflict => say_refused(refusals::START_CONFLICT, 0, 0),
             }
             say_line(line);
         }

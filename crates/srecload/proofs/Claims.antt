@@ -25,7 +25,7 @@ use Rattle.window.proofs.Reasons.{load-reasons}
 use Rattle.srecload.specs.Placing.{S-meaning, s-meaning, s-records}
 use Rattle.srecload.specs.Claims.{said-record, Means, of-header, of-data, of-count, of-end, Records-by-format, data-records, Stops, the-end, no-record, first-outside, count-differs, account, Why, Reasons, Offends, Load-names-the-offender, refusal-numbers, Total, Examples}
 use Rattle.srecload.proofs.Meeting.{means-header, means-data, means-count, means-end}
-use Rattle.srecload.proofs.Reasons.{walked}
+use Rattle.srecload.proofs.Reasons.{counted-none, walked}
 
 pub examples : Examples
 unfolding load-window stopping-by-window source.steps-of stated s-records judge s-meaning number-after
@@ -69,7 +69,7 @@ records-by-format line m = (
 
 pub reasons : Reasons
 unfolding source.steps-of data-records s-records
-reasons = load-reasons s-records account (λ inside text. walked inside (lines text) 1 [] nothing-yet (record { records = refl }))
+reasons = load-reasons s-records account (λ inside text. walked inside (lines text) 1 [] nothing-yet counted-none)
 
 -- ---- totality
 
@@ -86,7 +86,7 @@ refused-line n (length-differs a b c d e f g) = refl
 refused-line n (size-differs a b c d e f g h) = refl
 
 stops-among : {inside : ℕ → Bool} {ahead : List (List ℕ)} {line : List ℕ} {n : ℕ} {v : Verdict} → Stops inside ahead line n v → Among refusal-numbers v
-stops-among (the-end tally a e c) = tt
+stops-among (the-end a e) = tt
 stops-among {line} {n} (no-record r b e) = refused-line n (subst (Stands line) e (stands line))
 stops-among (first-outside before after p e i o) = refl
 stops-among (count-differs k e d) = refl
@@ -107,7 +107,7 @@ named-by : {text : List ℕ} {inside : ℕ → Bool} {ps : List Placement} {n m 
 named-by {text} {inside} {ps} {n} {m} {v} {r} d = go (d .stops) refl
   where
     go : {k : ℕ} {v : Verdict} → Stops inside (d .ahead) (d .line) k v → k ≡ n → v ≡ refused r m → number-of r ≡ 2 → (place : ℕ) × Offends text m place × (r ≡ contains-invalid-characters (named place))
-    go (the-end tally a e c) k q two = let z : _≡_ {A = ℕ} 0 1 = cc in absurd (omega arith)
+    go (the-end a e) k q two = let z : _≡_ {A = ℕ} 0 1 = cc in absurd (omega arith)
     go {k} (no-record w b e) same q two =
         let is : w ≡ r = cc in
         let at-m : k ≡ m = cc in

@@ -6,6 +6,7 @@ use Prim.Native.Nat.{ℕ, suc, _+_, _-_, _^_, _≤_, _<_}
 use native.Mathlib.Numerals.{add-one}
 use native.Mathlib.Omega.{arith}
 use mathlib.Core.Bool.{Bool, true, false}
+use mathlib.Core.Option.{some}
 use mathlib.Core.List.{List, [], _∷_, _++_, map, append-nil}
 use lib.Dec.{eqb, leb}
 use lib.ListN.{length, take, drop, length-drop, drop-of-length-le}
@@ -21,12 +22,11 @@ use Rattle.reader.proofs.Searching.{Cut-off, tail-is, behind-inside, behind-mov
 use Rattle.srec.specs.declared.SRecord.{SRecord}
 use Rattle.srec.specs.Line.{judge}
 use Rattle.srec.specs.Record.{digit-of, data-of}
-use Rattle.steps.specs.declared.Tally.{Tally as CodeTally}
-use Rattle.steps.specs.Steps.{places, counts, Step, step, nothing-yet, accepted, refused, turn, decision, verdict}
+use Rattle.steps.specs.Steps.{linear-address, places, counts, Step, step, nothing-yet, accepted, refused, turn, decision, verdict}
 use Rattle.steps.specs.Source.{steps}
 use Rattle.steps.specs.Source as source
 use Rattle.steps.specs.declared.Loading.{Loading}
-use Rattle.steps.specs.Told.{tallied, told-loading}
+use Rattle.steps.specs.Told.{told-loading}
 use Rattle.window.specs.declared.Reach.the-variants.{Inside, Outside}
 use Rattle.window.specs.Window.{within}
 use Rattle.window.specs.Contracts.{Surveyed}
@@ -35,7 +35,7 @@ use Rattle.srecload.specs.declared.Turn.{Turn}
 use Rattle.srecload.specs.declared.Turn.the-variants.{On, Stop}
 use Rattle.srecload.specs.Placing.{S-meaning, s-header, s-data, s-count, s-end, s-meaning, s-address, s-placed, s-does, s-act, s-records, line-steps}
 use Rattle.srecload.specs.Load.{steps-of}
-use Rattle.srecload.specs.Helpers.{Passed, Met, ahead-of, Under-way, Onward, Judged}
+use Rattle.srecload.specs.Helpers.{so-far, Passed, Met, ahead-of, Under-way, Onward, Judged}
 use Rattle.srecload.proofs.Reading.{Came}
 
 -- ---- what a digit means
@@ -59,33 +59,34 @@ module _ (d address : ℕ) (bytes : List ℕ) where
 
 -- ---- one record
 
-module _ (inside : ℕ → Bool) (there : Walk) (tally : CodeTally) where
+module _ (inside : ℕ → Bool) (there : Walk) (seen : ℕ) where
   -- what does nothing
-  pub met-nothing : Passed inside there tally [] there tally
+  pub met-nothing : Passed inside there seen [] there seen
   met-nothing = record { walk = refl; counted = omega arith; same = λ rest. refl }
 
-  pub met-count : (stated : ℕ) → stated ≡ tally .records → Passed inside there tally (step (there .line) (counts stated) ∷ []) there tally
+  pub met-count : (stated : ℕ) → stated ≡ seen → Passed inside there seen (step (there .line) (counts stated) ∷ []) there seen
   unfolding decision turn
-  met-count stated e = record { walk = refl; counted = omega arith; same = λ rest. rw (eq-eqb stated (tally .records) e) }
+  met-count stated e = record { walk = refl; counted = omega arith; same = λ rest. rw (eq-eqb stated (seen) e) }
 
-  pub met-miscount : (stated : ℕ) → stated ≢ tally .records
-      → (rest : List Step) → refused (count-mismatch stated (tally .records)) (there .line) ≡ verdict (decision inside (tallied tally) ((step (there .line) (counts stated) ∷ []) ++ rest))
+  pub met-miscount : (stated : ℕ) → stated ≢ seen
+      → (rest : List Step) → refused (count-mismatch stated (seen)) (there .line) ≡ verdict (decision inside (so-far seen) ((step (there .line) (counts stated) ∷ []) ++ rest))
   unfolding decision turn verdict
-  met-miscount stated n rest = rw (ne-eqb stated (tally .records) n)
+  met-miscount stated n rest = rw (ne-eqb stated (seen) n)
 
-  pub met-end : (address : ℕ) (rest : List Step) → accepted (tallied tally) ≡ verdict (decision inside (tallied tally) (map (step (there .line)) (s-does (s-end address)) ++ rest))
+  pub met-end : (address : ℕ) (rest : List Step)
+      → accepted (record { records = seen; start = some (linear-address address) }) ≡ verdict (decision inside (so-far seen) (map (step (there .line)) (s-does (s-end address)) ++ rest))
   unfolding decision turn verdict s-does
   met-end address rest = refl
 
-module _ (first size : ℕ) (there : Walk) (tally : CodeTally) (address len : ℕ) (bytes : List ℕ) (l : length bytes ≡ len) where
+module _ (first size : ℕ) (there : Walk) (seen : ℕ) (address len : ℕ) (bytes : List ℕ) (l : length bytes ≡ len) where
   pub met-inside : Surveyed (s-address address) len first size Inside
-      → Passed (within first size) there tally (step (there .line) (places (s-placed address bytes)) ∷ []) there (record { records = tally .records + 1 })
+      → Passed (within first size) there seen (step (there .line) (places (s-placed address bytes)) ∷ []) there (seen + 1)
   unfolding decision turn
-  met-inside s = record { walk = refl; counted = omega arith; same = λ rest. rw (s .answer bytes l, add-one (tally .records)) }
+  met-inside s = record { walk = refl; counted = omega arith; same = λ rest. rw (s .answer bytes l, add-one (seen)) }
 
   pub met-outside : (i : ℕ) → Surveyed (s-address address) len first size (Outside i)
       → (rest : List Step) → refused (outside-window (s-address address i)) (there .line)
-      ≡ verdict (decision (within first size) (tallied tally) ((step (there .line) (places (s-placed address bytes)) ∷ []) ++ rest))
+      ≡ verdict (decision (within first size) (so-far seen) ((step (there .line) (places (s-placed address bytes)) ∷ []) ++ rest))
   unfolding decision turn verdict
   met-outside i s rest = rw (s .answer bytes l)
 
@@ -108,10 +109,10 @@ pub line-came : (n : ℕ) (line pool′ : List ℕ) (x : SRecord) → 0 < length
 unfolding s-act
 line-came n line pool′ x h c = line-said n line h ∙ rw (c .said)
 
-pub met-refused : (inside : ℕ → Bool) (n : ℕ) (tally : CodeTally) (line : List ℕ) (e : ReaderError) → 0 < length line → judge line ≡ wrong (refusal-of e)
-    → (rest : List Step) → refused (refusal-of e) n ≡ verdict (decision inside (tallied tally) (line-steps n line ++ rest))
+pub met-refused : (inside : ℕ → Bool) (n : ℕ) (seen : ℕ) (line : List ℕ) (e : ReaderError) → 0 < length line → judge line ≡ wrong (refusal-of e)
+    → (rest : List Step) → refused (refusal-of e) n ≡ verdict (decision inside (so-far seen) (line-steps n line ++ rest))
 unfolding decision turn verdict s-act
-met-refused inside n tally line e h w rest = rw (line-said n line h, w)
+met-refused inside n seen line e h w rest = rw (line-said n line h, w)
 
 -- ---- the next line of a text
 
@@ -150,26 +151,26 @@ module _ (text : List ℕ) (w : Walk) (under : Under-way text w) (left : w .posi
       ∙ steps-cons (suc (w .line)) (first-line (drop (w .position) text)) (lines (rest (drop (w .position) text)))
       ∙ rw (add-one (w .line), ← here .first, rest-behind text (w .position) left n (here .place))
 
-  pub judged : (inside : ℕ → Bool) (tally : CodeTally) → tally .records ≤ w .line → (t : Turn)
-      → Met inside there tally (line-steps (w .line + 1) line) t → Judged inside text w tally t
-  judged inside tally few (On tally′ w′) p =
+  pub judged : (inside : ℕ → Bool) (seen : ℕ) → seen ≤ w .line → (t : Turn)
+      → Met inside there seen (line-steps (w .line + 1) line) t → Judged inside text w seen t
+  judged inside seen few (On seen′ w′) p =
       rw (p .walk) (record {
         under-way = under-way-there;
         counted = omega (arith, p .counted);
-        same = p .same (ahead-of there text) ∙ ap (decision inside (tallied tally)) (sym ahead-step);
+        same = p .same (ahead-of there text) ∙ ap (decision inside (so-far seen)) (sym ahead-step);
         less = omega (arith, moves);
       })
-  judged inside tally few (Stop l) h = h (ahead-of there text) ∙ ap (λ (s : List Step). verdict (decision inside (tallied tally) s)) (sym ahead-step)
+  judged inside seen few (Stop l) h = h (ahead-of there text) ∙ ap (λ (s : List Step). verdict (decision inside (so-far seen) s)) (sym ahead-step)
 
 -- at the end of the text there are no steps
 pub no-steps : (text : List ℕ) (w : Walk) → w .position ≡ length text → ahead-of w text ≡ []
 unfolding steps lines
 no-steps text w e = let d : drop (w .position) text ≡ [] = drop-of-length-le text {i = w .position} (omega arith) in rw d
 
-pub judged-out : (inside : ℕ → Bool) (text : List ℕ) (w : Walk) (tally : CodeTally) → w .position ≡ length text
-    → refused missing-end-of-file-record 0 ≡ verdict (decision inside (tallied tally) (ahead-of w text))
+pub judged-out : (inside : ℕ → Bool) (text : List ℕ) (w : Walk) (seen : ℕ) → w .position ≡ length text
+    → refused missing-end-of-file-record 0 ≡ verdict (decision inside (so-far seen) (ahead-of w text))
 unfolding decision verdict
-judged-out inside text w tally e = rw (no-steps text w e)
+judged-out inside text w seen e = rw (no-steps text w e)
 
 -- ---- the whole text
 
@@ -183,27 +184,27 @@ pub start-ahead : (text : List ℕ) → ahead-of start text ≡ steps-of text
 unfolding source.steps-of s-records
 start-ahead text = refl
 
-pub record Judging (inside : ℕ → Bool) (text pool : List ℕ) (w : Walk) (tally : CodeTally) : Type 0 where
+pub record Judging (inside : ℕ → Bool) (text pool : List ℕ) (w : Walk) (seen : ℕ) : Type 0 where
   pub under-way : Under-way text w
-  pub counted : tally .records ≤ w .line
+  pub counted : seen ≤ w .line
   pub room : length pool ≡ 252
-  pub same : decision inside (tallied tally) (ahead-of w text) ≡ decision inside nothing-yet (steps-of text)
+  pub same : decision inside (so-far seen) (ahead-of w text) ≡ decision inside nothing-yet (steps-of text)
 
-pub judging-start : (inside : ℕ → Bool) (text pool : List ℕ) → length pool ≡ 252 → Judging inside text pool start (record { records = 0 })
+pub judging-start : (inside : ℕ → Bool) (text pool : List ℕ) → length pool ≡ 252 → Judging inside text pool start 0
 judging-start inside text pool l =
     record { under-way = start-under-way text; counted = omega arith; room = l; same = ap (decision inside nothing-yet) (start-ahead text) }
 
-module _ (inside : ℕ → Bool) (text pool : List ℕ) (w : Walk) (tally : CodeTally) (j : Judging inside text pool w tally) (t : Turn) (h : Judged inside text w tally t) where
-  onward : (w′ : Walk) (tally′ : CodeTally) → t ≡ On tally′ w′ → Onward inside text w tally w′ tally′
-  onward w′ tally′ e = subst (Judged inside text w tally) e h
+module _ (inside : ℕ → Bool) (text pool : List ℕ) (w : Walk) (seen : ℕ) (j : Judging inside text pool w seen) (t : Turn) (h : Judged inside text w seen t) where
+  onward : (w′ : Walk) (seen′ : ℕ) → t ≡ On seen′ w′ → Onward inside text w seen w′ seen′
+  onward w′ seen′ e = subst (Judged inside text w seen) e h
 
-  pub judging-less : (w′ : Walk) (tally′ : CodeTally) → t ≡ On tally′ w′ → length text - w′ .position < length text - w .position
-  judging-less w′ tally′ e = let o = onward w′ tally′ e in omega (arith, o .less, o .under-way .inside)
+  pub judging-less : (w′ : Walk) (seen′ : ℕ) → t ≡ On seen′ w′ → length text - w′ .position < length text - w .position
+  judging-less w′ seen′ e = let o = onward w′ seen′ e in omega (arith, o .less, o .under-way .inside)
 
-  pub judging-again : (w′ : Walk) (tally′ : CodeTally) → t ≡ On tally′ w′ → (pool′ : List ℕ) → length pool′ ≡ length pool → Judging inside text pool′ w′ tally′
-  judging-again w′ tally′ e pool′ l =
-      let o = onward w′ tally′ e in
+  pub judging-again : (w′ : Walk) (seen′ : ℕ) → t ≡ On seen′ w′ → (pool′ : List ℕ) → length pool′ ≡ length pool → Judging inside text pool′ w′ seen′
+  judging-again w′ seen′ e pool′ l =
+      let o = onward w′ seen′ e in
       record { under-way = o .under-way; counted = o .counted; room = l ∙ j .room; same = o .same ∙ j .same }
 
   pub judging-end : (l : Loading) → t ≡ Stop l → told-loading l ≡ verdict (decision inside nothing-yet (steps-of text))
-  judging-end l e = subst (Judged inside text w tally) e h ∙ ap verdict (j .same)
+  judging-end l e = subst (Judged inside text w seen) e h ∙ ap verdict (j .same)

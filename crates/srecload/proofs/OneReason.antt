@@ -9,7 +9,7 @@ use mathlib.Core.List.{List, [], _∷_, _++_}
 use Rattle.record.specs.Refusals.{Refusal, outside-window, count-mismatch}
 use Rattle.record.specs.Line.{wrong}
 use Rattle.srec.specs.Line.{judge}
-use Rattle.steps.specs.Steps.{Placement, Verdict, accepted, refused}
+use Rattle.steps.specs.Steps.{Placement, linear-address, Verdict, accepted, refused}
 use Rattle.steps.proofs.Firsts.{not-empty, every-at, same-first, Inside, not-inside, Sound}
 use Rattle.window.proofs.Reasons.{load-one-reason}
 use Rattle.srecload.specs.Placing.{S-meaning, s-header, s-count, s-end, s-placed, s-states, s-records}
@@ -33,42 +33,43 @@ no-first line o e s before p after w = not-empty before p after (sym s ∙ ap st
 module _ (inside : ℕ → Bool) where
   pub not-both : {ahead : List (List ℕ)} {line : List ℕ} {n : ℕ} {v : Verdict} → Passes inside ahead line → Stops inside ahead line n v → ⊥
   unfolding states s-states
-  not-both {line} (is-empty e) (the-end tally a q c) = let h = empty-none line e in let z : _≡_ {A = ℕ} 0 1 = cc in omega arith
+  not-both {line} (is-empty e) (the-end a q) = let h = empty-none line e in let z : _≡_ {A = ℕ} 0 1 = cc in omega arith
   not-both (is-empty e) (no-record r b q) = b e
   not-both {line} (is-empty e) (first-outside before after p s i o) = no-first line none (empty-none line e) refl before p after s
   not-both {line} (is-empty e) (count-differs c q d) = let h = empty-none line e in let z : _≡_ {A = ℕ} 0 1 = cc in omega arith
-  not-both (is-header e) (the-end tally a q c) = let z : _≡_ {A = ℕ} 0 1 = cc in omega arith
+  not-both (is-header e) (the-end a q) = let z : _≡_ {A = ℕ} 0 1 = cc in omega arith
   not-both {line} (is-header e) (no-record r b q) = let h = wrong-none line r q in let z : _≡_ {A = ℕ} 0 1 = cc in omega arith
   not-both {line} (is-header e) (first-outside before after p s i o) = no-first line (some s-header) e refl before p after s
   not-both (is-header e) (count-differs c q d) = let z : _≡_ {A = ℕ} 0 1 = cc in omega arith
-  not-both (lies-inside x bs e j) (the-end tally a q c) = let z : _≡_ {A = ℕ} 0 1 = cc in omega arith
+  not-both (lies-inside x bs e j) (the-end a q) = let z : _≡_ {A = ℕ} 0 1 = cc in omega arith
   not-both {line} (lies-inside x bs e j) (no-record r b q) = let h = wrong-none line r q in let z : _≡_ {A = ℕ} 0 1 = cc in omega arith
   not-both (lies-inside x bs e j) (first-outside before after p s i o) =
       let w : s-placed x bs ≡ before ++ (p ∷ after) = sym (ap states e) ∙ s in
       not-inside inside p o (every-at (Inside inside) before p after (rw w at j))
   not-both (lies-inside x bs e j) (count-differs c q d) = let z : _≡_ {A = ℕ} 0 1 = cc in omega arith
-  not-both (counts-right k e h) (the-end tally a q c) = let z : _≡_ {A = ℕ} 0 1 = cc in omega arith
+  not-both (counts-right k e h) (the-end a q) = let z : _≡_ {A = ℕ} 0 1 = cc in omega arith
   not-both {line} (counts-right k e h) (no-record r b q) = let h = wrong-none line r q in let z : _≡_ {A = ℕ} 0 1 = cc in omega arith
   not-both {line} (counts-right k e h) (first-outside before after p s i o) = no-first line (some (s-count k)) e refl before p after s
   not-both (counts-right k e h) (count-differs c q d) = d (cc)
 
   pub one-verdict : {ahead : List (List ℕ)} {line : List ℕ} {n : ℕ} {v v′ : Verdict} → Stops inside ahead line n v → Stops inside ahead line n v′ → v ≡ v′
   unfolding states s-states
-  one-verdict (the-end tally a e c) (the-end tally′ a′ e′ c′) = ap (λ (k : ℕ). accepted (record { records = k })) (c .records ∙ sym (c′ .records))
-  one-verdict {line} (the-end tally a e c) (no-record r b q) = let h = wrong-none line r q in cc
-  one-verdict {line} (the-end tally a e c) (first-outside before after p s i o) = absurd (no-first line (some (s-end a)) e refl before p after s)
-  one-verdict (the-end tally a e c) (count-differs k q d) = cc
-  one-verdict {line} (no-record r b q) (the-end tally a e c) = let h = wrong-none line r q in cc
+  one-verdict {ahead} (the-end a e) (the-end a′ e′) =
+      let same : a ≡ a′ = cc in ap (λ (x : ℕ). accepted (record { records = data-records ahead; start = some (linear-address x) })) same
+  one-verdict {line} (the-end a e) (no-record r b q) = let h = wrong-none line r q in cc
+  one-verdict {line} (the-end a e) (first-outside before after p s i o) = absurd (no-first line (some (s-end a)) e refl before p after s)
+  one-verdict (the-end a e) (count-differs k q d) = cc
+  one-verdict {line} (no-record r b q) (the-end a e) = let h = wrong-none line r q in cc
   one-verdict (no-record r b q) (no-record r′ b′ q′) = cc
   one-verdict {line} (no-record r b q) (first-outside before after p s i o) = absurd (no-first line none (wrong-none line r q) refl before p after s)
   one-verdict {line} (no-record r b q) (count-differs k e d) = let h = wrong-none line r q in cc
-  one-verdict {line} (first-outside before after p s i o) (the-end tally a e c) = absurd (no-first line (some (s-end a)) e refl before p after s)
+  one-verdict {line} (first-outside before after p s i o) (the-end a e) = absurd (no-first line (some (s-end a)) e refl before p after s)
   one-verdict {line} (first-outside before after p s i o) (no-record r b q) = absurd (no-first line none (wrong-none line r q) refl before p after s)
   one-verdict {n} (first-outside before after p s i o) (first-outside before′ after′ p′ s′ i′ o′) =
       ap (λ (x : Placement). refused (outside-window (x .address)) n)
       (same-first (Inside inside) before before′ p p′ after after′ (sym s ∙ s′) i i′ (not-inside inside p o) (not-inside inside p′ o′))
   one-verdict {line} (first-outside before after p s i o) (count-differs k e d) = absurd (no-first line (some (s-count k)) e refl before p after s)
-  one-verdict (count-differs k q d) (the-end tally a e c) = cc
+  one-verdict (count-differs k q d) (the-end a e) = cc
   one-verdict {line} (count-differs k e d) (no-record r b q) = let h = wrong-none line r q in cc
   one-verdict {line} (count-differs k e d) (first-outside before after p s i o) = absurd (no-first line (some (s-count k)) e refl before p after s)
   one-verdict {ahead} {n} (count-differs k e d) (count-differs k′ e′ d′) =

@@ -13,11 +13,11 @@ use Rattle.digits.specs.Common.{if_then_else_}
 use Rattle.record.specs.Refusals.{count-mismatch}
 use Rattle.record.specs.Line.{Said, says, wrong}
 use Rattle.srec.specs.Line.{judge}
-use Rattle.steps.specs.Steps.{places, counts as counts-to, Step, step, Tally, one-more, refused, outside, on, stop, at-data as met, turn, onward, decision, stated}
+use Rattle.steps.specs.Steps.{places, counts as counts-to, Step, step, Tally, nothing-yet, one-more, refused, outside, on, stop, at-data as met, turn, onward, decision, stated}
 use Rattle.steps.specs.Source.{steps}
 use Rattle.steps.proofs.Firsts.{Seen, seen, Walked, past, here}
 use Rattle.srecload.specs.Placing.{S-meaning, s-header, s-data, s-count, s-end, s-meaning, s-placed, s-states, s-does, s-act, s-records}
-use Rattle.srecload.specs.Claims.{said-record, record-on, states, counts, data-records, Counted, account, is-empty, is-header, lies-inside, counts-right, the-end, no-record, first-outside, count-differs}
+use Rattle.srecload.specs.Claims.{said-record, record-on, states, counts, data-records, account, is-empty, is-header, lies-inside, counts-right, the-end, no-record, first-outside, count-differs}
 
 -- one line more
 records-snoc : (ahead : List (List ℕ)) (l : List ℕ) (o : Option S-meaning) → record-on l ≡ o → data-records (ahead ++ (l ∷ [])) ≡ counts o + data-records ahead
@@ -25,9 +25,18 @@ unfolding data-records
 records-snoc [] l o e = rw e
 records-snoc (x ∷ ahead) l o e = let h = records-snoc ahead l o e in omega arith
 
+-- a tally is that of these lines, of which none states a start
+pub record Counted (tally : Tally) (ahead : List (List ℕ)) : Type 0 where
+  pub records : tally .records ≡ data-records ahead
+  pub start : tally .start ≡ none
+
+pub counted-none : Counted nothing-yet []
+unfolding data-records
+counted-none = record { records = refl; start = refl }
+
 -- a line that counts nothing leaves the tally
 still : (tally : Tally) (ahead : List (List ℕ)) (l : List ℕ) (o : Option S-meaning) → Counted tally ahead → record-on l ≡ o → counts o ≡ 0 → Counted tally (ahead ++ (l ∷ []))
-still tally ahead l o c e z = record { records = omega (arith, c .records, records-snoc ahead l o e) }
+still tally ahead l o c e z = record { records = omega (arith, c .records, records-snoc ahead l o e); start = c .start }
 
 module _ (inside : ℕ → Bool) where
   module _ (n : ℕ) (ahead : List (List ℕ)) (tally : Tally) (counted : Counted tally ahead) (l : List ℕ) (some-byte : l ≢ []) (ls : List (List ℕ)) where
@@ -70,9 +79,10 @@ module _ (inside : ℕ → Bool) where
     at-record s-header e ih =
         past (account inside) ahead l rest rest n ls (is-header e) (rw e) (decision inside tally rest) (ih tally (still tally ahead l _ counted e refl))
     at-record (s-data address bytes) e ih =
-        at-data address bytes e (ih (one-more tally) (record { records = omega (arith, counted .records, records-snoc ahead l _ e) })) (outside inside (s-placed address bytes)) (seen inside (s-placed address bytes))
+        at-data address bytes e (ih (one-more tally) (record { records = omega (arith, counted .records, records-snoc ahead l _ e); start = counted .start })) (outside inside (s-placed address bytes)) (seen inside (s-placed address bytes))
     at-record (s-count c) e ih = at-count c e ih (eqb c (tally .records)) refl
-    at-record (s-end address) e ih = here (account inside) ahead l _ n ls _ (the-end tally address e counted) (λ t h. refl)
+    at-record (s-end address) e ih =
+        rw (counted .start) (here (account inside) ahead l _ n ls _ (rw (counted .records) (the-end address e)) (λ t h. refl))
 
     -- what is said on the line
     at-said : (s : Said) → judge l ≡ s → Later

@@ -95,7 +95,7 @@ none-ends inside ahead (l ∷ ls) (p, ps) = (go p, none-ends inside (ahead ++ (l
 -- and one that accepts is
 end-stops : (inside : ℕ → Bool) (ahead : List (List ℕ)) (l : List ℕ) (n : ℕ) (v : Verdict) (k : Tally) → Stops inside ahead l n v → v ≡ accepted k
     → (address : ℕ) × (record-on l ≡ some (s-end address))
-end-stops inside ahead l n v k (the-end tally a e c) q = (a, e)
+end-stops inside ahead l n v k (the-end a e) q = (a, e)
 end-stops inside ahead l n v k (no-record r b e) q = let z : _≡_ {A = ℕ} 0 1 = cc in absurd (omega arith)
 end-stops inside ahead l n v k (first-outside before after p e i o) q = let z : _≡_ {A = ℕ} 0 1 = cc in absurd (omega arith)
 end-stops inside ahead l n v k (count-differs c e d) q = let z : _≡_ {A = ℕ} 0 1 = cc in absurd (omega arith)
@@ -142,7 +142,7 @@ outside-by-lines text first page marks address line e = go (load text first page
 
     stops : (ahead : List (List ℕ)) (l : List ℕ) (later : List (List ℕ)) (n : ℕ) (a : Verdict) → lines text ≡ ahead ++ (l ∷ later) → n ≡ suc (length ahead)
         → All-pass (account inside) [] ahead → Stops inside ahead l n a → a ≡ refused (outside-window address) line → First-outside (lines text) first (length page) address line
-    stops ahead l later n a w k x (the-end tally _ s c) q = let z : _≡_ {A = ℕ} 0 1 = cc in absurd (omega arith)
+    stops ahead l later n a w k x (the-end _ s) q = let z : _≡_ {A = ℕ} 0 1 = cc in absurd (omega arith)
     stops ahead l later n a w k x (no-record r b s) q =
         let few = fault-few (subst (Stands l) s (stands l)) in
         let r-is : r ≡ outside-window address = cc in

@@ -19,7 +19,7 @@ use Rattle.srec.specs.Format.{Format}
 use Rattle.srec.specs.Faults.{First-offender}
 use Rattle.marks.specs.Marks.{row-length, mark-at}
 use Rattle.steps.specs.declared.Loading.{Loading}
-use Rattle.steps.specs.Steps.{Placement, Tally, Verdict, accepted, refused, by}
+use Rattle.steps.specs.Steps.{Placement, linear-address, Tally, Verdict, accepted, refused, by}
 use Rattle.steps.specs.Sites.{Loaded, Owed-at}
 use Rattle.steps.specs.Account.{Account}
 use Rattle.window.specs.Loads.{Alike, Unpacks-to}
@@ -116,10 +116,6 @@ unfolding counts said-record judge
 data-records [] = 0
 data-records (line ∷ ls) = counts (record-on line) + data-records ls
 
--- what an accepted load reports of these lines
-pub record Counted (tally : Tally) (ahead : List (List ℕ)) : Type 0 where
-  pub records : tally .records ≡ data-records ahead
-
 -- a line after these does not stop a load: it is empty, a header, data with no byte outside, or a count that is right
 pub data Passes (inside : ℕ → Bool) (ahead : List (List ℕ)) (line : List ℕ) : Type 0 where
   is-empty : line ≡ [] → Passes inside ahead line
@@ -128,9 +124,11 @@ pub data Passes (inside : ℕ → Bool) (ahead : List (List ℕ)) (line : List �
       → Every (λ (p : Placement). inside (p .address) ≡ true) (s-placed address bytes) → Passes inside ahead line
   counts-right : (stated : ℕ) → record-on line ≡ some (s-count stated) → stated ≡ data-records ahead → Passes inside ahead line
 
--- what line n, after these, gives a load that stops at it: it is an end, or it is refused, or it has a first byte outside, or its count differs
+-- what line n, after these, gives a load that stops at it: it is an end, whose address is the start, or it is refused, or it has a first byte
+-- outside, or its count differs
 pub data Stops (inside : ℕ → Bool) (ahead : List (List ℕ)) (line : List ℕ) (n : ℕ) : Verdict → Type 0 where
-  the-end : (tally : Tally) (address : ℕ) → record-on line ≡ some (s-end address) → Counted tally ahead → Stops inside ahead line n (accepted tally)
+  the-end : (address : ℕ) → record-on line ≡ some (s-end address)
+      → Stops inside ahead line n (accepted (record { records = data-records ahead; start = some (linear-address address) }))
   no-record : (r : Refusal) → line ≢ [] → judge line ≡ wrong r → Stops inside ahead line n (refused r n)
   first-outside : (before after : List Placement) (p : Placement)
       → states (record-on line) ≡ before ++ (p ∷ after) → Every (λ (q : Placement). inside (q .address) ≡ true) before
@@ -196,13 +194,13 @@ pub record Examples : Type 0 where
   pub wraps : placements (text "S307FFFFFFFFAABB97" ++ (LF ∷ text "S9030000FC")) ≡ record { address = 0xFFFFFFFF; byte = 0xAA } ∷ record { address = 0; byte = 0xBB } ∷ []
   pub sixth-place : load example 0 (replicate 8 9) (0x81 ∷ [])
       ≡ record {
-        answer = accepted (record { records = 1 });
+        answer = accepted (record { records = 1; start = some (linear-address 0) });
         page = 9 ∷ 9 ∷ 9 ∷ 9 ∷ 9 ∷ 0x77 ∷ 9 ∷ 9 ∷ [];
         marks = 0x20 ∷ [];
       }
   -- a count of 2 after one data record
   pub miscounted : stopping (text "S1040005777F" ++ (LF ∷ text "S5030002FA")) 0 (replicate 8 9) (0 ∷ []) ≡ some (by 2 (refused (count-mismatch 2 1) 2))
   -- a count of 0 before any
-  pub none-yet : stopping (text "S5030000FC" ++ (LF ∷ text "S9030000FC")) 0 [] [] ≡ some (by 2 (accepted (record { records = 0 })))
+  pub none-yet : stopping (text "S5030000FC" ++ (LF ∷ text "S9030000FC")) 0 [] [] ≡ some (by 2 (accepted (record { records = 0; start = some (linear-address 0) })))
   pub endless : load (text "S5030000FC") 0 [] [] ≡ record { answer = refused missing-end-of-file-record 0; page = []; marks = [] }
   pub other-kind : stopping (text ":00000001FF") 0 [] [] ≡ some (by 1 (refused missing-start-code 1))

@@ -3,16 +3,16 @@
 use Prim.Native.Nat.{ℕ, suc, _+_, _≤_, _<_}
 use mathlib.Core.Path.{_≡_}
 use mathlib.Core.Bool.{Bool, true, false}
+use mathlib.Core.Option.{none}
 use mathlib.Core.List.{List, [], _∷_, _++_, map}
 use lib.ListN.{length, take, drop}
 use Rattle.reader.specs.Lines.{lines}
 use Rattle.srec.specs.declared.SRecord.{SRecord}
 use Rattle.srec.specs.Record.{digit-of}
 use Rattle.steps.specs.declared.Loading.{Loading}
-use Rattle.steps.specs.declared.Tally.{Tally as CodeTally}
-use Rattle.steps.specs.Steps.{places, counts, Step, step, decision, verdict, stated}
+use Rattle.steps.specs.Steps.{places, counts, Step, step, Tally, decision, verdict, stated}
 use Rattle.steps.specs.Source.{steps}
-use Rattle.steps.specs.Told.{tallied, told-loading}
+use Rattle.steps.specs.Told.{told-loading}
 use Rattle.window.specs.Contracts.{Painted}
 use Rattle.window.specs.Load.{Same-painting}
 use Rattle.srecload.specs.declared.Walk.{Walk}
@@ -38,30 +38,34 @@ Lies-in x pool = (x .at + x .len ≤ length pool) × (x .len ≤ 252)
 
 -- ---- the first pass
 
--- steps that come before whatever follows: the load goes on from there with a tally
-pub record Passed (inside : ℕ → Bool) (there : Walk) (tally : CodeTally) (s : List Step) (w′ : Walk) (tally′ : CodeTally) : Type 0 where
+-- before the end no start is stated: only data records are counted
+abbrev pub so-far : (seen : ℕ) → Tally
+so-far seen = record { records = seen; start = none }
+
+-- steps that come before whatever follows: the load goes on from there, with so many data records seen
+pub record Passed (inside : ℕ → Bool) (there : Walk) (seen : ℕ) (s : List Step) (w′ : Walk) (seen′ : ℕ) : Type 0 where
   pub walk : w′ ≡ there
-  pub counted : tally′ .records ≤ suc (tally .records)
-  pub same : (rest : List Step) → decision inside (tallied tally′) rest ≡ decision inside (tallied tally) (s ++ rest)
+  pub counted : seen′ ≤ suc (seen)
+  pub same : (rest : List Step) → decision inside (so-far seen′) rest ≡ decision inside (so-far seen) (s ++ rest)
 
 -- it goes on, or it stops with an answer
-abbrev pub Met : (inside : ℕ → Bool) (there : Walk) (tally : CodeTally) (s : List Step) → Turn → Type 0
-Met inside there tally s (On tally′ w′) = Passed inside there tally s w′ tally′
-Met inside there tally s (Stop l) = (rest : List Step) → told-loading l ≡ verdict (decision inside (tallied tally) (s ++ rest))
+abbrev pub Met : (inside : ℕ → Bool) (there : Walk) (seen : ℕ) (s : List Step) → Turn → Type 0
+Met inside there seen s (On seen′ w′) = Passed inside there seen s w′ seen′
+Met inside there seen s (Stop l) = (rest : List Step) → told-loading l ≡ verdict (decision inside (so-far seen) (s ++ rest))
 
 -- a data record, whatever its data is
-abbrev pub MeetsData : (inside : ℕ → Bool) (there : Walk) (tally : CodeTally) → SRecord → Turn → Type 0
-MeetsData inside there tally x t =
-    (bytes : List ℕ) → length bytes ≡ x .len → Met inside there tally (step (there .line) (places (s-placed (x .address) bytes)) ∷ []) t
+abbrev pub MeetsData : (inside : ℕ → Bool) (there : Walk) (seen : ℕ) → SRecord → Turn → Type 0
+MeetsData inside there seen x t =
+    (bytes : List ℕ) → length bytes ≡ x .len → Met inside there seen (step (there .line) (places (s-placed (x .address) bytes)) ∷ []) t
 
 -- a count, in whatever window
-abbrev pub MeetsCount : (there : Walk) (tally : CodeTally) (stated : ℕ) → Turn → Type 0
-MeetsCount there tally stated t = (inside : ℕ → Bool) → Met inside there tally (step (there .line) (counts stated) ∷ []) t
+abbrev pub MeetsCount : (there : Walk) (seen : ℕ) (stated : ℕ) → Turn → Type 0
+MeetsCount there seen stated t = (inside : ℕ → Bool) → Met inside there seen (step (there .line) (counts stated) ∷ []) t
 
 -- a record, whatever its data is
-abbrev pub Meets : (inside : ℕ → Bool) (there : Walk) (tally : CodeTally) → SRecord → Turn → Type 0
-Meets inside there tally x t =
-    (bytes : List ℕ) → length bytes ≡ x .len → Met inside there tally (map (step (there .line)) (s-does (meant-with x bytes))) t
+abbrev pub Meets : (inside : ℕ → Bool) (there : Walk) (seen : ℕ) → SRecord → Turn → Type 0
+Meets inside there seen x t =
+    (bytes : List ℕ) → length bytes ≡ x .len → Met inside there seen (map (step (there .line)) (s-does (meant-with x bytes))) t
 
 -- the steps that a walk has still before it
 abbrev pub ahead-of : Walk → (text : List ℕ) → List Step
@@ -73,15 +77,15 @@ pub record Under-way (text : List ℕ) (w : Walk) : Type 0 where
   pub few : w .line ≤ w .position
 
 -- a line was judged: the decision on what is left is the decision on what was left, or it is returned
-pub record Onward (inside : ℕ → Bool) (text : List ℕ) (w : Walk) (tally : CodeTally) (w′ : Walk) (tally′ : CodeTally) : Type 0 where
+pub record Onward (inside : ℕ → Bool) (text : List ℕ) (w : Walk) (seen : ℕ) (w′ : Walk) (seen′ : ℕ) : Type 0 where
   pub under-way : Under-way text w′
-  pub counted : tally′ .records ≤ w′ .line
-  pub same : decision inside (tallied tally′) (ahead-of w′ text) ≡ decision inside (tallied tally) (ahead-of w text)
+  pub counted : seen′ ≤ w′ .line
+  pub same : decision inside (so-far seen′) (ahead-of w′ text) ≡ decision inside (so-far seen) (ahead-of w text)
   pub less : w .position < w′ .position
 
-abbrev pub Judged : (inside : ℕ → Bool) (text : List ℕ) (w : Walk) (tally : CodeTally) → Turn → Type 0
-Judged inside text w tally (On tally′ w′) = Onward inside text w tally w′ tally′
-Judged inside text w tally (Stop l) = told-loading l ≡ verdict (decision inside (tallied tally) (ahead-of w text))
+abbrev pub Judged : (inside : ℕ → Bool) (text : List ℕ) (w : Walk) (seen : ℕ) → Turn → Type 0
+Judged inside text w seen (On seen′ w′) = Onward inside text w seen w′ seen′
+Judged inside text w seen (Stop l) = told-loading l ≡ verdict (decision inside (so-far seen) (ahead-of w text))
 
 -- ---- the second pass
 

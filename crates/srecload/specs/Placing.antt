@@ -6,7 +6,7 @@ use lib.Dec.{eqb, leb}
 use Rattle.digits.specs.Common.{if_then_else_}
 use Rattle.record.specs.Line.{Said, says, wrong}
 use Rattle.srec.specs.Line.{judge}
-use Rattle.steps.specs.Steps.{Placement, Action, places, counts, finishes, fails, Step, step}
+use Rattle.steps.specs.Steps.{Placement, linear-address, Action, places, starts, counts, finishes, fails, Step, step}
 use Rattle.steps.specs.Source.{Source}
 use Rattle.steps.specs.Runs.{spread}
 
@@ -41,13 +41,13 @@ s-states (s-data address bytes) = s-placed address bytes
 s-states (s-count stated) = []
 s-states (s-end address) = []
 
--- what a record does: a header nothing
+-- what a record does: a header nothing; the end states its address as a start
 unfoldable pub s-does : S-meaning → List Action
 unfolding spread s-address
 s-does s-header = []
 s-does (s-data address bytes) = places (s-placed address bytes) ∷ []
 s-does (s-count stated) = counts stated ∷ []
-s-does (s-end address) = finishes ∷ []
+s-does (s-end address) = starts (linear-address address) ∷ finishes ∷ []
 
 -- what is said on a line does that; a line that is refused fails
 unfoldable pub s-act : Said → List Action

@@ -4,6 +4,7 @@ use srec::SRecord;
 use srec::types;
 use steps::LoaderError;
 use steps::Loading;
+use steps::Start;
 use steps::Tally;
 use window::Reach;
 ghost use mathlib.Core.Path.{_≡_};
@@ -29,9 +30,9 @@ struct Walk {
     line: usize,
 }
 
-// What a line comes to in the first pass: the tally so far with the walk after it, or the answer.
+// What a line comes to in the first pass: the number of data records so far with the walk after it, or the answer.
 enum Turn {
-    On(Tally, Walk),
+    On(usize, Walk),
     Stop(Loading),
 }
 
@@ -91,18 +92,13 @@ fn put(address: u32, bytes: &[u8], first: u32, page: &mut [u8], marks: &mut [u8]
 }
 
 // What a data record comes to in the first pass.
-fn judge_data(first: u32, size: usize, there: Walk, tally: Tally, given: SRecord) -> Turn
-    requires { ⌜ (given .len ≤ 252) × (tally .records + 1 < 2 ^ 64) ⌝ }
-    ensures { λ r. ⌜ MeetsData (within first size) there tally given r ⌝ }
+fn judge_data(first: u32, size: usize, there: Walk, seen: usize, given: SRecord) -> Turn
+    requires { ⌜ (given .len ≤ 252) × (seen + 1 < 2 ^ 64) ⌝ }
+    ensures { λ r. ⌜ MeetsData (within first size) there seen given r ⌝ }
 {
     let address = given.address;
     match survey(address, given.len, first, size) {
-        Reach::Inside => Turn::On(
-            Tally {
-                records: tally.records + 1,
-            },
-            there,
-        ),
+        Reach::Inside => Turn::On(seen + 1, there),
         Reach::Outside(i) => Turn::Stop(Loading::Refused(
             LoaderError::OutsideWindow(byte_address(address, i)),
             there.line,
@@ -111,34 +107,36 @@ fn judge_data(first: u32, size: usize, there: Walk, tally: Tally, given: SRecord
 }
 
 // What a count comes to in the first pass.
-fn judge_count(there: Walk, tally: Tally, stated: u32) -> Turn
-    ensures { λ r. ⌜ MeetsCount there tally stated r ⌝ }
+fn judge_count(there: Walk, seen: usize, stated: u32) -> Turn
+    ensures { λ r. ⌜ MeetsCount there seen stated r ⌝ }
 {
     let count = stated as usize;
-    let seen = tally.records;
     if count == seen {
-        return Turn::On(tally, there);
+        return Turn::On(seen, there);
     }
     Turn::Stop(Loading::Refused(LoaderError::CountMismatch(count, seen), there.line))
 }
 
 // What a record comes to in the first pass. The walk stands after the record's line.
-fn judge_record(first: u32, size: usize, there: Walk, tally: Tally, given: SRecord) -> Turn
-    requires { ⌜ (given .len ≤ 252) × (tally .records + 1 < 2 ^ 64) ⌝ }
-    ensures { λ r. ⌜ Meets (within first size) there tally given r ⌝ }
+fn judge_record(first: u32, size: usize, there: Walk, seen: usize, given: SRecord) -> Turn
+    requires { ⌜ (given .len ≤ 252) × (seen + 1 < 2 ^ 64) ⌝ }
+    ensures { λ r. ⌜ Meets (within first size) there seen given r ⌝ }
 {
     let kind = given.kind;
     let digit = kind.digit();
     if digit == types::S0 {
-        return Turn::On(tally, there);
+        return Turn::On(seen, there);
     }
     if digit <= types::S3 {
-        return judge_data(first, size, there, tally, given);
+        return judge_data(first, size, there, seen, given);
     }
     if digit == types::S5 {
-        return judge_count(there, tally, given.address);
+        return judge_count(there, seen, given.address);
     }
-    Turn::Stop(Loading::Accepted(tally))
+    Turn::Stop(Loading::Accepted(Tally {
+        records: seen,
+        start: Start::Linear(given.address),
+    }))
 }
 
 // What a line comes to in the first pass. The walk stands after it.
@@ -148,24 +146,24 @@ fn judge_line(
     first: u32,
     size: usize,
     there: Walk,
-    tally: Tally,
+    seen: usize,
 ) -> Turn
-    requires { ⌜ (length (now pool) ≡ 252) × (tally .records + 1 < 2 ^ 64) ⌝ }
-    ensures { λ r. ⌜ Met (within first size) there tally (line-steps (there .line) (now (line .entry))) r ⌝ }
+    requires { ⌜ (length (now pool) ≡ 252) × (seen + 1 < 2 ^ 64) ⌝ }
+    ensures { λ r. ⌜ Met (within first size) there seen (line-steps (there .line) (now (line .entry))) r ⌝ }
 {
     if line.len() == 0 {
-        return Turn::On(tally, there);
+        return Turn::On(seen, there);
     }
     match srec::read_srecord(line, pool, 0) {
-        SAnswer::Read(given) => judge_record(first, size, there, tally, given),
+        SAnswer::Read(given) => judge_record(first, size, there, seen, given),
         SAnswer::Refused(e) => Turn::Stop(Loading::Refused(LoaderError::Line(e), there.line)),
     }
 }
 
 // What the next line comes to in the first pass.
-fn judge_next(text: &[u8], pool: &mut [u8], first: u32, size: usize, w: Walk, tally: Tally) -> Turn
-    requires { ⌜ Under-way (now text) w × (tally .records ≤ w .line) × (length (now pool) ≡ 252) ⌝ }
-    ensures { λ r. ⌜ Judged (within first size) (now (text .entry)) w tally r ⌝ }
+fn judge_next(text: &[u8], pool: &mut [u8], first: u32, size: usize, w: Walk, seen: usize) -> Turn
+    requires { ⌜ Under-way (now text) w × (seen ≤ w .line) × (length (now pool) ≡ 252) ⌝ }
+    ensures { λ r. ⌜ Judged (within first size) (now (text .entry)) w seen r ⌝ }
 {
     let from = w.position;
     if from == text.len() {
@@ -177,7 +175,7 @@ fn judge_next(text: &[u8], pool: &mut [u8], first: u32, size: usize, w: Walk, ta
         position: from + n,
         line: w.line + 1,
     };
-    judge_line(line, pool, first, size, there, tally)
+    judge_line(line, pool, first, size, there, seen)
 }
 
 // The first pass: the answer to a text for a window that is not refused. Nothing is written.
@@ -189,12 +187,12 @@ fn judge_text(text: &[u8], first: u32, size: usize) -> Loading
         position: 0,
         line: 0,
     };
-    let mut tally = Tally { records: 0 };
+    let mut seen = 0;
     loop {
-        match judge_next(text, &mut pool, first, size, w, tally) {
-            Turn::On(t, next) => {
+        match judge_next(text, &mut pool, first, size, w, seen) {
+            Turn::On(n, next) => {
                 w = next;
-                tally = t;
+                seen = n;
             }
             Turn::Stop(answer) => return answer,
         }

@@ -14,7 +14,7 @@ use lib.Seq.{take-at, drop-at}
 use Rattle.digits.specs.Common.{if_then_else_}
 use Rattle.reader.specs.Lines.{LF, lines, later, through}
 use Rattle.reader.proofs.Cutting.{Closed, nothing, closed, lines-closed, Head, through-head}
-use Rattle.steps.specs.Steps.{Action, places, counts, finishes, fails}
+use Rattle.steps.specs.Steps.{Action, places, starts, counts, finishes, fails}
 use Rattle.steps.specs.Source.{Source}
 use Rattle.steps.specs.Join.{ends, ahead, lines-ahead, before-end, state-after, Ends, None-ends, Whole-lines, Before-end, Before-end-made-so, Before-end-only-so, Lines-ahead-counts}
 
@@ -24,6 +24,7 @@ pub ends-there : (acts : List Action) → ends acts ≡ true → List·Memᴰ fi
 unfolding ends
 ends-there [] e = let z : _≡_ {A = ℕ} 0 1 = cc in absurd (omega arith)
 ends-there (places what ∷ acts) e = List·Memᴰ·tail (ends-there acts e)
+ends-there (starts x ∷ acts) e = List·Memᴰ·tail (ends-there acts e)
 ends-there (counts c ∷ acts) e = List·Memᴰ·tail (ends-there acts e)
 ends-there (finishes ∷ acts) e = List·Memᴰ·head refl
 ends-there (fails r ∷ acts) e = List·Memᴰ·tail (ends-there acts e)
@@ -36,6 +37,8 @@ there-ends (a ∷ acts) m = go a (List·Memᴰ·cases-cons m) (there-ends acts)
     go : (a : Action) → (finishes ≡ a) ⊎ List·Memᴰ finishes acts → (List·Memᴰ finishes acts → ends acts ≡ true) → ends (a ∷ acts) ≡ true
     go (places what) (inl q) h = let z : _≡_ {A = ℕ} 0 1 = cc in absurd (omega arith)
     go (places what) (inr n) h = h n
+    go (starts x) (inl q) h = let z : _≡_ {A = ℕ} 0 1 = cc in absurd (omega arith)
+    go (starts x) (inr n) h = h n
     go (counts c) (inl q) h = let z : _≡_ {A = ℕ} 0 1 = cc in absurd (omega arith)
     go (counts c) (inr n) h = h n
     go finishes q h = refl

@@ -1,5 +1,5 @@
 -- The claims of joining. The joined text's lines are A's before its end, the line that resets, and B's (`Cut`); so its steps are A's before its end
--- and then B's on later lines, which are decided after A's tally (`Join`).
+-- and then B's on later lines, whose fate after A's tally is known (`Join`).
 -- Assumes nothing.
 use mathlib.Core.Path.{_≡_, refl, sym, ap, ap₂, _∙_}
 use mathlib.Core.Logic.{_≢_, _⊎_, inl, inr}
@@ -11,17 +11,19 @@ use mathlib.Core.Option.{Option, none, some}
 use mathlib.Core.List.{List, [], _∷_, _++_, map, append-assoc, append-nil, List·Memᴰ, List·Memᴰ·not-nil}
 use lib.ListN.{length, getD}
 use Rattle.digits.specs.Common.{or-else}
-use Rattle.record.specs.Refusals.{Refusal}
+use Rattle.record.specs.Refusals.{Refusal, start-conflict}
+use Rattle.record.proofs.Choices.{or-else-none}
 use Rattle.reader.specs.Lines.{LF, lines}
 use Rattle.reader.proofs.Cutting.{lines-closed}
-use Rattle.steps.specs.Steps.{Placement, finishes, Step, step, Tally, nothing-yet, Verdict, accepted, refused, by, decision, verdict, stated}
+use Rattle.steps.specs.Steps.{Placement, Start, starts, finishes, Step, step, Tally, nothing-yet, Verdict, accepted, refused, by, decision, verdict, stated}
 use Rattle.steps.specs.Source.{Source, steps, steps-of}
 use Rattle.steps.specs.Sites.{last-at, mark, mark-shown, painted, marked, Shown, Loaded, Room, stopping-by, load}
-use Rattle.steps.specs.Join.{ends, lines-ahead, before-end, joined, state-after, Ends, None-ends, Has-end, Whole-lines, Joinable, together, after-lines, Joined-accepted, Joined-refused, Joined-states, One-upon-another, Either-grouping, Accepted-has-end, Nothing-stated}
+use Rattle.steps.specs.Join.{ends, lines-ahead, before-end, joined, state-after, Ends, None-ends, Has-end, Whole-lines, Joinable, together, Agreeing, Joined-accepted, Meets-another, after-verdict, Answered-after, as-B, starts-differ, Joined-answered, Joined-one-answer, No-start, Joined-with-one-start, Joined-states, One-upon-another, Either-grouping, Accepted-has-end, Nothing-stated}
 use Rattle.steps.proofs.Places.{marked-at, painted-append, painted-none, last-append}
 use Rattle.steps.proofs.Sites.{load-answer, accepted-load, accepted-by}
+use Rattle.steps.proofs.Firsts.{every-at}
 use Rattle.steps.proofs.Cut.{ends-there, not-there, as-closed, before-end-made-so, before-end-only-so, lines-ahead-counts}
-use Rattle.steps.proofs.Join.{no-end-lines, Handed, handed, no-acceptance, after-verdict, after-tally, stated-anywhere, steps-append, state-append, none-append}
+use Rattle.steps.proofs.Join.{no-end-lines, Handed, handed, no-acceptance, Meets, Quiet, one-line-meets, Fate, alike, conflict, after-tally, stated-anywhere, steps-append, state-append, none-append}
 
 -- ---- an accepted text has an end
 
@@ -134,17 +136,23 @@ module _ {S : Type 0} (src : Source S) (reset : List ℕ) (j : Joinable src rese
         handed inside (front-steps a) others line n nothing-yet ta
         (no-end-lines src (src .beginning) 1 (lines (before-end src a)) (before-end-made-so S src a end-of .none-ends)) (ap (decision inside nothing-yet) (sym cut) ∙ e)
 
-    pub decided-after : (b : List ℕ)
-        → verdict (decision inside nothing-yet (steps-of src (joined src reset a b)))
-        ≡ after-verdict (suc (lines-ahead src a)) ta (verdict (decision inside nothing-yet (steps-of src b)))
-    unfolding steps-of
+    abbrev later-steps : (b : List ℕ) → List Step
+    later-steps b = steps src (src .beginning) (suc (lines-ahead src a) + 1) (lines b)
+
+    pub decided-after : (b : List ℕ) → verdict (decision inside nothing-yet (steps-of src (joined src reset a b))) ≡ verdict (decision inside (together ta nothing-yet) (later-steps b))
     decided-after b =
-        let later = steps src (src .beginning) (suc (lines-ahead src a) + 1) (lines b) in
-        let same : ta ≡ together ta nothing-yet = λ i. record { records = sym (add-zero (ta .records)) i } in
+        let same : ta ≡ together ta nothing-yet = λ i. record { records = sym (add-zero (ta .records)) i; start = sym (or-else-none (ta .start)) i } in
         ap (λ (s : List Step). verdict (decision inside nothing-yet s)) (joined-steps a b end-of)
-        ∙ ap verdict (handed-on .decides later)
-        ∙ ap (λ (t : Tally). verdict (decision inside t later)) same
-        ∙ after-tally inside (suc (lines-ahead src a)) ta src (j .no-count) (src .beginning) 0 (lines b) nothing-yet
+        ∙ ap verdict (handed-on .decides (later-steps b))
+        ∙ ap (λ (t : Tally). verdict (decision inside t (later-steps b))) same
+
+    pub fate-after : (b : List ℕ) → Fate inside (suc (lines-ahead src a)) ta nothing-yet (later-steps b) (steps-of src b)
+    unfolding steps-of
+    fate-after b = after-tally inside (suc (lines-ahead src a)) ta src (j .no-count) (src .beginning) 0 (lines b) nothing-yet (agree (ta .start))
+      where
+        agree : (o : Option Start) → Agreeing o none
+        agree none = tt
+        agree (some s) = tt
 
     pub stated-after : (b : List ℕ) → stated (steps-of src (joined src reset a b)) ≡ stated (steps-of src a) ++ stated (steps-of src b)
     unfolding steps-of stated
@@ -170,36 +178,93 @@ joined-states S src reset j room a b page marks ta e =
     let (n, d) = accepting src room a page marks ta e in stated-after src reset j (room .inside) a ta n d b
 
 -- the answer to the joined text, from B's
-pub joined-answer : (S : Type 0) (src : Source S) (reset : List ℕ) → Joinable src reset
-    → (room : Room) (a b page marks : List ℕ) (ta : Tally) → (load src room a page marks) .answer ≡ accepted ta
-    → (load src room (joined src reset a b) page marks) .answer ≡ after-verdict (suc (lines-ahead src a)) ta ((load src room b page marks) .answer)
-unfolding stopping-by verdict
-joined-answer S src reset j room a b page marks ta e =
-    load-answer src room (joined src reset a b) page marks
-    ∙ go (room .fault) (sym (load-answer src room a page marks) ∙ e)
-    ∙ ap (after-verdict (suc (lines-ahead src a)) ta) (sym (load-answer src room b page marks))
-  where
-    go : (fault : Option Refusal) → verdict (stopping-by fault (room .inside) (steps-of src a)) ≡ accepted ta
-        → verdict (stopping-by fault (room .inside) (steps-of src (joined src reset a b)))
-        ≡ after-verdict (suc (lines-ahead src a)) ta (verdict (stopping-by fault (room .inside) (steps-of src b)))
-    go none q = let (n, d) = accepting src room a page marks ta e in decided-after src reset j (room .inside) a ta n d b
-    go (some r) q = let z : _≡_ {A = ℕ} 0 1 = cc in absurd (omega arith)
+data Came (k : ℕ) (ta : Tally) (meets : (n : ℕ) → Type 0) (vb vj : Verdict) : Type 0 where
+  came-alike : ((n : ℕ) → ¬ meets n) → vj ≡ after-verdict k ta vb → ((tb : Tally) → vb ≡ accepted tb → Agreeing (ta .start) (tb .start)) → Came k ta meets vb vj
+  came-apart : (n : ℕ) → meets n → vj ≡ refused start-conflict (k + n) → ((tb : Tally) → vb ≡ accepted tb → Agreeing (ta .start) (tb .start) → ⊥)
+      → Came k ta meets vb vj
+
+module _ {S : Type 0} (src : Source S) (reset : List ℕ) (j : Joinable src reset) (room : Room) (a b page marks : List ℕ) (ta : Tally)
+    (e : (load src room a page marks) .answer ≡ accepted ta) where
+  came : Came (suc (lines-ahead src a)) ta (Meets-another src room ta b) ((load src room b page marks) .answer) ((load src room (joined src reset a b) page marks) .answer)
+  unfolding stopping-by verdict
+  came = rw (load-answer src room b page marks, load-answer src room (joined src reset a b) page marks) (go (room .fault) (sym (load-answer src room a page marks) ∙ e))
+    where
+      go : (fault : Option Refusal) → verdict (stopping-by fault (room .inside) (steps-of src a)) ≡ accepted ta
+          → Came (suc (lines-ahead src a)) ta (Meets-another src room ta b) (verdict (stopping-by fault (room .inside) (steps-of src b)))
+          (verdict (stopping-by fault (room .inside) (steps-of src (joined src reset a b))))
+      go (some r) q = let z : _≡_ {A = ℕ} 0 1 = cc in absurd (omega arith)
+      go none q =
+          let (n, d) = accepting src room a page marks ta e in
+          by-fate (decided-after src reset j (room .inside) a ta n d b) (fate-after src reset j (room .inside) a ta n d b)
+        where
+          by-fate : {vj : Verdict} {later : List Step} → vj ≡ verdict (decision (room .inside) (together ta nothing-yet) later)
+              → Fate (room .inside) (suc (lines-ahead src a)) ta nothing-yet later (steps-of src b)
+              → Came (suc (lines-ahead src a)) ta (Meets-another src room ta b) (verdict (decision (room .inside) nothing-yet (steps-of src b))) vj
+          by-fate is (alike h x g) = came-alike h (is ∙ x) g
+          by-fate is (conflict n f x g) = came-apart n f (is ∙ x) g
+
+  abbrev vb : Verdict
+  vb = (load src room b page marks) .answer
+
+  abbrev vj : Verdict
+  vj = (load src room (joined src reset a b) page marks) .answer
+
+  answered : Answered-after (suc (lines-ahead src a)) ta (Meets-another src room ta b) vb vj
+  answered = go came
+    where
+      go : Came (suc (lines-ahead src a)) ta (Meets-another src room ta b) vb vj → Answered-after (suc (lines-ahead src a)) ta (Meets-another src room ta b) vb vj
+      go (came-alike h x g) = rw x (as-B h)
+      go (came-apart n f x g) = rw x (starts-differ n f)
+
+  one-answer : (v : Verdict) → Answered-after (suc (lines-ahead src a)) ta (Meets-another src room ta b) vb v → v ≡ vj
+  one-answer v w = go w came
+    where
+      go : {v : Verdict} → Answered-after (suc (lines-ahead src a)) ta (Meets-another src room ta b) vb v → Came (suc (lines-ahead src a)) ta (Meets-another src room ta b) vb vj → v ≡ vj
+      go (as-B h) (came-alike h′ x g) = sym x
+      go (as-B h) (came-apart n f x g) = absurd (h n f)
+      go (starts-differ n f) (came-alike h x g) = absurd (h n f)
+      go (starts-differ n f) (came-apart m f′ x g) =
+          ap (λ (i : ℕ). refused start-conflict (suc (lines-ahead src a) + i)) (one-line-meets (room .inside) ta nothing-yet (steps-of src b) n m f f′) ∙ sym x
+
+  is-accepted : (tj : Tally) → vj ≡ accepted tj → (tb : Tally) × (vb ≡ accepted tb) × Agreeing (ta .start) (tb .start) × (tj ≡ together ta tb)
+  is-accepted tj p = go came
+    where
+      by-answer : (v : Verdict) → vb ≡ v → vj ≡ after-verdict (suc (lines-ahead src a)) ta vb → ((tb : Tally) → vb ≡ accepted tb → Agreeing (ta .start) (tb .start))
+          → (tb : Tally) × (vb ≡ accepted tb) × Agreeing (ta .start) (tb .start) × (tj ≡ together ta tb)
+      by-answer (accepted tb) is x g =
+          let y : accepted tj ≡ accepted (together ta tb) = sym p ∙ x ∙ ap (after-verdict (suc (lines-ahead src a)) ta) is in (tb, is, g tb is, cc)
+      by-answer (refused r n) is x g =
+          let y : accepted tj ≡ after-verdict (suc (lines-ahead src a)) ta (refused r n) = sym p ∙ x ∙ ap (after-verdict (suc (lines-ahead src a)) ta) is in
+          let z : _≡_ {A = ℕ} 0 1 = cc in absurd (omega arith)
+
+      go : Came (suc (lines-ahead src a)) ta (Meets-another src room ta b) vb vj → (tb : Tally) × (vb ≡ accepted tb) × Agreeing (ta .start) (tb .start) × (tj ≡ together ta tb)
+      go (came-alike h x g) = by-answer vb refl x g
+      go (came-apart n f x g) = let y = sym p ∙ x in let z : _≡_ {A = ℕ} 0 1 = cc in absurd (omega arith)
+
+  accepts : (tb : Tally) → vb ≡ accepted tb → Agreeing (ta .start) (tb .start) → vj ≡ accepted (together ta tb)
+  accepts tb is agree = go came
+    where
+      go : Came (suc (lines-ahead src a)) ta (Meets-another src room ta b) vb vj → vj ≡ accepted (together ta tb)
+      go (came-alike h x g) = x ∙ ap (after-verdict (suc (lines-ahead src a)) ta) is
+      go (came-apart n f x g) = absurd (g tb is agree)
+
+pub joined-answered : Joined-answered
+joined-answered S src reset j room a b page marks ta e = answered src reset j room a b page marks ta e
+
+pub joined-one-answer : Joined-one-answer
+joined-one-answer S src reset j room a b page marks ta v e w = one-answer src reset j room a b page marks ta e v w
 
 pub joined-accepted : Joined-accepted
 joined-accepted S src reset j room a b page marks ta tj e =
-    let q = joined-answer S src reset j room a b page marks ta e in
-    (λ p. there ((load src room b page marks) .answer) refl (sym q ∙ p), λ w. q ∙ rw (w .1, w .2))
-  where
-    there : (v : Verdict) → (load src room b page marks) .answer ≡ v → after-verdict (suc (lines-ahead src a)) ta ((load src room b page marks) .answer) ≡ accepted tj
-        → (tb : Tally) × ((load src room b page marks) .answer ≡ accepted tb) × (tj ≡ together ta tb)
-    there (accepted tb) is p = let x : accepted (together ta tb) ≡ accepted tj = ap (after-verdict (suc (lines-ahead src a)) ta) (sym is) ∙ p in (tb, is, cc)
-    there (refused r n) is p =
-        let x : refused r (after-lines (suc (lines-ahead src a)) n) ≡ accepted tj = ap (after-verdict (suc (lines-ahead src a)) ta) (sym is) ∙ p in
-        let z : _≡_ {A = ℕ} 0 1 = cc in absurd (omega arith)
+    (is-accepted src reset j room a b page marks ta e tj, λ w. accepts src reset j room a b page marks ta e (w .0) (w .1) (w .2) ∙ ap accepted (sym (w .3)))
 
-pub joined-refused : Joined-refused
-joined-refused S src reset j room a b page marks ta r line ea eb =
-    joined-answer S src reset j room a b page marks ta ea ∙ ap (after-verdict (suc (lines-ahead src a)) ta) eb
+pub joined-with-one-start : Joined-with-one-start
+joined-with-one-start S src reset j room a b page marks ta e one = sym (joined-one-answer S src reset j room a b page marks ta _ e (as-B (quiet one)))
+  where
+    quiet : (ta .start ≡ none) ⊎ No-start (steps-of src b) → (n : ℕ) → ¬ Meets-another src room ta b n
+    quiet (inl q) n f = let p = f .first-is in let z : _≡_ {A = ℕ} 0 1 = cc in omega arith
+    quiet (inr h) n f =
+        every-at (λ (x : Step). (m : ℕ) (s : Start) → x ≢ step m (starts s)) (f .before) (step n (starts (f .other))) (f .later) (rw (f .whole) at h) n (f .other) refl
 
 -- ---- the claims: page and marks
 
@@ -232,7 +297,7 @@ same-answer : {S : Type 0} (src : Source S) (room : Room) (text page marks page�
 same-answer src room text page marks page′ marks′ = load-answer src room text page marks ∙ sym (load-answer src room text page′ marks′)
 
 pub one-upon-another : One-upon-another
-one-upon-another S src reset j room a b page ma mb mj ta tb la-mj lb-mj ea eb = record { pages = pages; marks = marks }
+one-upon-another S src reset j room a b page ma mb mj ta tb la-mj lb-mj ea eb agree = record { pages = pages; marks = marks }
   where
     states : stated (steps-of src (joined src reset a b)) ≡ stated (steps-of src a) ++ stated (steps-of src b)
     states = joined-states S src reset j room a b page ma ta ea
@@ -240,7 +305,7 @@ one-upon-another S src reset j room a b page ma mb mj ta tb la-mj lb-mj ea eb = 
     ej : (load src room (joined src reset a b) page mj) .answer ≡ accepted (together ta tb)
     ej =
         joined-accepted S src reset j room a b page mj ta (together ta tb) (same-answer src room a page mj page ma ∙ ea)
-        .1 (tb, same-answer src room b page mj ((load src room a page ma) .page) mb ∙ eb, refl)
+        .1 (tb, same-answer src room b page mj ((load src room a page ma) .page) mb ∙ eb, agree, refl)
 
     pages : (load src room (joined src reset a b) page mj) .page ≡ (load src room b ((load src room a page ma) .page) mb) .page
     pages =

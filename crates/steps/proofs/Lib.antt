@@ -1,4 +1,5 @@
 pub mod Told
+pub mod Starts
 pub mod Source
 pub mod Places
 pub mod Sites

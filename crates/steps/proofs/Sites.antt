@@ -10,7 +10,7 @@ use lib.ListN.{length, getD}
 use Rattle.digits.specs.Common.{if_then_else_, Every}
 use Rattle.record.specs.Refusals.{Refusal}
 use Rattle.reader.specs.Lines.{through}
-use Rattle.steps.specs.Steps.{Placement, Action, places, counts, finishes, fails, Step, step, Tally, nothing-yet, Verdict, accepted, refused, Decision, by, outside, Turn, on, stop, turn, at-data, onward, decision, verdict, stated}
+use Rattle.steps.specs.Steps.{Placement, Action, places, starts, counts, finishes, fails, Step, step, Tally, nothing-yet, Verdict, accepted, refused, Decision, by, outside, Turn, on, stop, turn, at-data, onward, decision, verdict, stated}
 use Rattle.steps.specs.Source.{Source, steps-of}
 use Rattle.steps.specs.Sites.{last-at, mark, byte-shown, mark-shown, painted, marked, store, Room, stopping-by, stopping-in, load, Shown, Alike, Non-interference, What-is-stored, Owed-unique, All-inside, Refusal-changes-nothing, Sizes-kept}
 use Rattle.steps.proofs.Source.{nothing-after-the-LF, accepts-at-end}
@@ -100,6 +100,7 @@ module _ (inside : ℕ → Bool) where
       go : (o : Option ℕ) → outside inside what ≡ o → at-data n o t ≡ on t′ → Insides (stated s) → Insides (what ++ stated s)
       go none q e h = insides-append what (stated s) (outside-none what q) h
       go (some a) q e h = let z : _≡_ {A = ℕ} 0 1 = cc in absurd (omega arith)
+  inside-cons n (starts x) s t t′ = λ e h. h
   inside-cons n (counts c) s t t′ = λ e h. h
   inside-cons n finishes s t t′ = λ e h. tt
   inside-cons n (fails r) s t t′ = λ e h. tt

@@ -9,10 +9,10 @@ use mathlib.Core.List.{List, [], _∷_, _++_, map}
 use lib.ListN.{length}
 use lib.Dec.{eqb}
 use Rattle.digits.specs.Common.{if_then_else_}
-use Rattle.record.specs.Refusals.{count-mismatch}
+use Rattle.record.specs.Refusals.{count-mismatch, start-conflict}
 use Rattle.reader.specs.Lines.{lines}
 use Rattle.reader.proofs.Cutting.{lines-closed, through-head}
-use Rattle.steps.specs.Steps.{Placement, Action, places, counts, finishes, fails, Step, step, Tally, nothing-yet, Verdict, accepted, refused, Decision, by, outside, Turn, on, stop, at-data, turn, onward, decision, stated}
+use Rattle.steps.specs.Steps.{Placement, Action, places, starts, counts, finishes, fails, Step, step, Tally, nothing-yet, started, Verdict, accepted, refused, Decision, by, outside, differ, Turn, on, stop, at-data, turn, onward, decision, stated}
 use Rattle.steps.specs.Source.{Source, steps, steps-of, Agree, Nothing-after-the-LF}
 
 -- the line of a decision
@@ -26,6 +26,7 @@ decided-on (some (by n v)) = n
 pub stated-cons : (n m : ℕ) (a : Action) (s₁ s₂ : List Step) → stated s₁ ≡ stated s₂ → stated (step n a ∷ s₁) ≡ stated (step m a ∷ s₂)
 unfolding stated
 stated-cons n m (places what) s₁ s₂ e = ap (λ (ps : List Placement). what ++ ps) e
+stated-cons n m (starts x) s₁ s₂ e = e
 stated-cons n m (counts c) s₁ s₂ e = e
 stated-cons n m finishes s₁ s₂ e = refl
 stated-cons n m (fails r) s₁ s₂ e = refl
@@ -34,6 +35,11 @@ stated-cons n m (fails r) s₁ s₂ e = refl
 pub count-refuses : (n c : ℕ) (t k : Tally) (b : Bool) → (if b then on t else stop (refused (count-mismatch c (t .records)) n)) ≡ stop (accepted k) → ⊥
 count-refuses n c t k true e = let z : _≡_ {A = ℕ} 0 1 = cc in omega arith
 count-refuses n c t k false e = let z : _≡_ {A = ℕ} 0 1 = cc in omega arith
+
+-- nor does a start
+pub start-refuses : (n : ℕ) (t t′ k : Tally) (b : Bool) → (if b then stop (refused start-conflict n) else on t′) ≡ stop (accepted k) → ⊥
+start-refuses n t t′ k true e = let z : _≡_ {A = ℕ} 0 1 = cc in omega arith
+start-refuses n t t′ k false e = let z : _≡_ {A = ℕ} 0 1 = cc in omega arith
 
 module _ (inside : ℕ → Bool) where
   -- an action that accepts is the end: nothing after it is stated
@@ -44,6 +50,7 @@ module _ (inside : ℕ → Bool) where
       go : (o : Option ℕ) → at-data n o t ≡ stop (accepted k) → what ++ stated s ≡ []
       go none e = cc
       go (some a) e = cc
+  accepts-at-end t k n (starts x) s = λ e. absurd (start-refuses n t (started x t) k (differ (t .start) (some x)) e)
   accepts-at-end t k n (counts c) s = λ e. absurd (count-refuses n c t k (eqb c (t .records)) e)
   accepts-at-end t k n finishes s = λ e. refl
   accepts-at-end t k n (fails r) s = λ e. refl

@@ -1,6 +1,7 @@
 -- What a load tells says which answer it was: each answer is found again from what it tells.
 -- Assumes nothing.
 use mathlib.Core.Path.{_≡_, refl, sym, ap, _∙_}
+use mathlib.Core.Option.{Option, none, some}
 use lib.Dec.{eqb}
 use lib.ListN.{getD}
 use Rattle.digits.specs.Common.{if_then_else_}
@@ -12,11 +13,13 @@ use Rattle.reader.specs.declared.ReaderError.the-variants.{MissingStartCode, Re
 use Rattle.reader.specs.Told.{refuses, refusal-of}
 use Rattle.reader.proofs.Claims.{untold, untold-told}
 use Rattle.steps.specs.declared.LoaderError.{LoaderError}
-use Rattle.steps.specs.declared.LoaderError.the-variants.{Line, MissingEndOfFileRecord, BadWindow, OutsideWindow, CountMismatch}
+use Rattle.steps.specs.declared.LoaderError.the-variants.{Line, MissingEndOfFileRecord, BadWindow, OutsideWindow, CountMismatch, StartConflict}
 use Rattle.steps.specs.declared.Loading.{Loading}
 use Rattle.steps.specs.declared.Loading.the-variants.{Accepted, Refused}
-use Rattle.steps.specs.Steps.{Verdict, accepted, refused}
-use Rattle.steps.specs.Told.{loader-refusal, told-loading, Is-accepted-unique, Told-apart}
+use Rattle.steps.specs.declared.Start.{Start as CodeStart}
+use Rattle.steps.specs.declared.Start.the-variants.{Unstated, Segment, Linear}
+use Rattle.steps.specs.Steps.{Start, cs-with-ip, linear-address, Verdict, accepted, refused}
+use Rattle.steps.specs.Told.{loader-refusal, told-start, told-loading, Is-accepted-unique, Differs-from-unique, Told-apart}
 
 reader-error : Answer → ReaderError
 reader-error (AnswerRefused e) = e
@@ -30,6 +33,7 @@ error (refusal n vs) =
     if eqb n 16 then BadWindow else
     if eqb n 17 then OutsideWindow (getD vs 0 0) else
     if eqb n 20 then CountMismatch (getD vs 0 0) (getD vs 1 0) else
+    if eqb n 21 then StartConflict else
     Line (reader-error (untold (refuses (refusal n vs))))
 
 of-line : (e : ReaderError) → Line (reader-error (untold (refuses (refusal-of e)))) ≡ Line e
@@ -52,14 +56,27 @@ again MissingEndOfFileRecord = refl
 again BadWindow = refl
 again (OutsideWindow a) = refl
 again (CountMismatch a b) = refl
+again StartConflict = refl
+
+untold-start : Option Start → CodeStart
+untold-start none = Unstated
+untold-start (some (cs-with-ip cs ip)) = Segment cs ip
+untold-start (some (linear-address address)) = Linear address
+
+start-again : (s : CodeStart) → untold-start (told-start s) ≡ s
+unfolding untold-start
+start-again Unstated = refl
+start-again (Segment cs ip) = refl
+start-again (Linear address) = refl
 
 untold-load : Verdict → Loading
-untold-load (accepted t) = Accepted (record { records = t .records })
+unfolding untold-start
+untold-load (accepted t) = Accepted (record { records = t .records; start = untold-start (t .start) })
 untold-load (refused r n) = Refused (error r) n
 
 told-again : (l : Loading) → untold-load (told-loading l) ≡ l
 unfolding untold-load
-told-again (Accepted n) = refl
+told-again (Accepted t) = ap (λ (s : CodeStart). Accepted (record { records = t .records; start = s })) (start-again (t .start))
 told-again (Refused e n) = ap (λ (x : LoaderError). Refused x n) (again e)
 
 pub told-apart : Told-apart
@@ -67,3 +84,6 @@ told-apart a b e = sym (told-again a) ∙ ap untold-load e ∙ told-again b
 
 pub is-accepted-unique : Is-accepted-unique
 is-accepted-unique l r r′ x y = x .answer ∙ sym (y .answer)
+
+pub differs-from-unique : Differs-from-unique
+differs-from-unique s first r r′ x y = x .answer ∙ sym (y .answer)

@@ -1,5 +1,6 @@
 pub mod Steps
 pub mod Told
+pub mod Starts
 pub mod Source
 pub mod Sites
 pub mod Packed

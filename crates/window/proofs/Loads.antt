@@ -278,7 +278,7 @@ painting-end first s₀ s page₀ marks₀ page marks p n =
 
 passed : (a : Loading) → is-accepted a ≡ true → (t : CodeTally) × (a ≡ Accepted t)
 passed (Accepted t) e = (t, refl)
-passed (Refused r n) e = (record { records = 0 }, cc)
+passed (Refused r n) e = let z : _≡_ {A = ℕ} 0 1 = cc in absurd (omega arith)
 
 turned-away : (a : Loading) → is-accepted a ≡ false → (e : LoaderError) × (n : ℕ) × (a ≡ Refused e n)
 turned-away (Accepted t) e = (BadWindow, 0, cc)

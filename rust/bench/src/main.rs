@@ -285,10 +285,12 @@ mod by_port {
     }
 
     pub fn srecords(given: &mut Given) -> u64 {
-        let (mut line, mut a, mut b) = (0, 0, 0);
+        let (mut line, mut start, mut a, mut b, mut c) = (0, 0, 0, 0, 0);
         let (page, marks) = (&mut given.page, &mut given.marks);
         let text = given.srecords.as_bytes();
-        ihex_sys::load_srecords(text, 0, page, marks, &mut line, &mut a, &mut b);
+        ihex_sys::load_srecords(
+            text, 0, page, marks, &mut line, &mut start, &mut a, &mut b, &mut c,
+        );
         a
     }
 
@@ -402,8 +404,11 @@ mod by_port {
     }
 
     fn loaded(text: &str, page: &mut [u8], marks: &mut [u8]) -> u64 {
-        let (mut line, mut a, mut b) = (0, 0, 0);
-        ihex_sys::load(text.as_bytes(), 0, page, marks, &mut line, &mut a, &mut b);
+        let (mut line, mut start, mut a, mut b, mut c) = (0, 0, 0, 0, 0);
+        let text = text.as_bytes();
+        ihex_sys::load(
+            text, 0, page, marks, &mut line, &mut start, &mut a, &mut b, &mut c,
+        );
         a
     }
 

@@ -1,5 +1,5 @@
 use ihex::srec::load_srecords;
-use ihex::{marks_len, LoadError, Marks};
+use ihex::{marks_len, LoadError, Marks, Start};
 
 const PLACES: usize = 8;
 
@@ -9,6 +9,7 @@ fn main() {
     let (mut page, mut marks) = ([0xEE; PLACES], [0; marks_len(PLACES)]);
     let loaded = load_srecords(text, 0xFFFC, &mut page, &mut marks).unwrap();
     assert_eq!(loaded.data_records, 1);
+    assert_eq!(loaded.start, Some(Start::Linear(0)));
     let run = Marks::new(&marks, PLACES).runs().next().unwrap();
     assert_eq!((run.start, &page[run]), (3, &[0xAA, 0xBB][..]));
 

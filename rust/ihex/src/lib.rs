@@ -8,8 +8,8 @@
 //! It adds what the crate lacks: input that is not UTF-8 ([`ByteReader`],
 //! [`Record::from_record_bytes`]), line numbers and columns ([`Reader::numbered`],
 //! [`ReaderError::column`]), a text that comes in chunks ([`ChunkReader`]), the loading of a text
-//! into a page with marks ([`load`], [`Marks`]), the writing of such a page ([`write_page`]), and
-//! S-records ([`srec`]).
+//! into a page with marks, and its start ([`load`], [`Marks`], [`Start`]), the writing of such a page
+//! ([`write_page`]), and S-records ([`srec`]).
 //!
 //! No function panics, whatever its arguments.
 //!

@@ -7,12 +7,43 @@ use crate::reader::{write_line, LineError, ReaderError};
 use crate::srec::SReaderError;
 use crate::stranger;
 
+/// Where a program starts, as a text states it. Two starts are equal only if they are stated alike: 1000:0000
+/// and 0FFF:0010 are two starts, and so are 0000:1234 and 00001234.
+///
+/// ```
+#[doc = include_str!("../examples/start.rs")]
+/// ```
+#[derive(PartialEq, Eq, Clone, Copy, Debug, Hash)]
+#[non_exhaustive]
+pub enum Start {
+    /// By a record of type 03.
+    Segment {
+        /// The register CS.
+        cs: u16,
+        /// The register IP.
+        ip: u16,
+    },
+    /// A linear address, by a record of type 05 or by the end of a text of S-records.
+    Linear(u32),
+}
+
+impl fmt::Display for Start {
+    fn fmt(&self, f: &mut fmt::Formatter) -> fmt::Result {
+        match self {
+            Start::Segment { cs, ip } => write!(f, "{cs:04X}:{ip:04X}"),
+            Start::Linear(address) => write!(f, "{address:08X}"),
+        }
+    }
+}
+
 /// What an accepted load comes to.
 #[derive(PartialEq, Eq, Clone, Copy, Debug, Hash)]
 #[non_exhaustive]
 pub struct Loaded {
     /// How many data records the text has before its end record.
     pub data_records: usize,
+    /// The start that the text states, if it states one. S-records always do: by the address of their end.
+    pub start: Option<Start>,
 }
 
 /// Why a text is not loaded.
@@ -49,6 +80,11 @@ pub enum LoadError {
         /// How many data records the text has before it.
         seen: usize,
     },
+    /// A start record states another start than the first that the text states.
+    StartConflict {
+        /// The record's line.
+        line: usize,
+    },
 }
 
 impl LoadError {
@@ -58,7 +94,8 @@ impl LoadError {
             LoadError::Line(LineError { line, .. })
             | LoadError::SRecordLine { line, .. }
             | LoadError::OutsideWindow { line, .. }
-            | LoadError::CountMismatch { line, .. } => Some(*line),
+            | LoadError::CountMismatch { line, .. }
+            | LoadError::StartConflict { line } => Some(*line),
             LoadError::MissingEndOfFileRecord | LoadError::BadWindow => None,
         }
     }
@@ -72,7 +109,7 @@ impl LoadError {
         }
     }
 
-    /// The refusal's number: 1 to 9, 13, 16, 17 or 20.
+    /// The refusal's number: 1 to 9, 13, 16, 17, 20 or 21.
     pub fn number(&self) -> u32 {
         match self {
             LoadError::Line(LineError { error, .. }) => error.number(),
@@ -81,6 +118,7 @@ impl LoadError {
             LoadError::BadWindow => 16,
             LoadError::OutsideWindow { .. } => 17,
             LoadError::CountMismatch { .. } => 20,
+            LoadError::StartConflict { .. } => 21,
         }
     }
 }
@@ -102,6 +140,12 @@ impl fmt::Display for LoadError {
                 write!(
                     f,
                     "line {line}: count record states {stated} data records, found {seen} before it"
+                )
+            }
+            LoadError::StartConflict { line } => {
+                write!(
+                    f,
+                    "line {line}: start record states another start than the first one"
                 )
             }
         }
@@ -131,6 +175,9 @@ impl Error for LoadError {
 /// passes the end of its segment goes on at the segment's start. While a type 04 is, with base 65,536
 /// times its number, it lies at (base + offset + i) modulo 2^32.
 ///
+/// [`Loaded::start`] is the start that the text states before its end record, if it states one. The same start
+/// may be stated more than once. One that differs from the first is [`LoadError::StartConflict`].
+///
 /// Noise: let a text be accepted, and then be damaged. One byte of it is changed, lost or added, or two
 /// neighbours are swapped; or it is cut off after any byte; or each line has at most one such slip, and
 /// every LF stays as it is. The load of the damaged text into the same window is refused, or it is the
@@ -143,20 +190,35 @@ pub fn load<T>(text: &T, first: u32, page: &mut [u8], marks: &mut [u8]) -> Resul
 where
     T: AsRef<[u8]> + ?Sized,
 {
-    let (mut line, mut a, mut b) = (0, 0, 0);
+    let (mut line, mut start, mut a, mut b, mut c) = (0, 0, 0, 0, 0);
     let text = text.as_ref();
-    let code = ihex_sys::load(text, first, page, marks, &mut line, &mut a, &mut b);
-    result(code, line, a, b, |line, error| {
+    let code = ihex_sys::load(
+        text, first, page, marks, &mut line, &mut start, &mut a, &mut b, &mut c,
+    );
+    result(code, line, start, [a, b, c], |line, error| {
         LoadError::Line(LineError { line, error })
     })
 }
 
-/// What a load comes to, from its code, line and values; `refused` makes the refusal of a line.
+/// The start of a kind, with its two values, if the kind is not that of none.
+fn start_of(kind: u8, b: u64, c: u64) -> Option<Start> {
+    match kind {
+        ihex_sys::NO_START => None,
+        ihex_sys::START_SEGMENT_ADDRESS => Some(Start::Segment {
+            cs: b as u16,
+            ip: c as u16,
+        }),
+        ihex_sys::START_LINEAR_ADDRESS => Some(Start::Linear(b as u32)),
+        _ => stranger(kind.into()),
+    }
+}
+
+/// What a load comes to, from its code, line, kind of start and values; `refused` makes the refusal of a line.
 pub(crate) fn result(
     code: u32,
     line: usize,
-    a: u64,
-    b: u64,
+    start: u8,
+    [a, b, c]: [u64; 3],
     refused: fn(usize, ReaderError) -> LoadError,
 ) -> Result<Loaded, LoadError> {
     match code.wrapping_sub(ihex_sys::REFUSED) {
@@ -166,8 +228,10 @@ pub(crate) fn result(
             line,
             address: a as u32,
         }),
+        21 => Err(LoadError::StartConflict { line }),
         _ if code == 0 => Ok(Loaded {
             data_records: a as usize,
+            start: start_of(start, b, c),
         }),
         _ => match ReaderError::told(code, a, b) {
             Some(error) => Err(refused(line, error)),

@@ -81,7 +81,7 @@ pub fn page_file_length(first: u32, page: &[u8], marks: &[u8]) -> Result<usize, 
 /// line.
 ///
 /// [`load`](crate::load) of the file with the same `first` and lengths gives the same marks and the
-/// same bytes at them.
+/// same bytes at them. It gives no start: a page has none.
 ///
 /// ```
 #[doc = include_str!("../examples/page.rs")]

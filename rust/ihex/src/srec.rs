@@ -273,7 +273,8 @@ impl FromStr for SRecord {
 /// Byte i of a data record, S1 to S3, lies at (address + i) modulo 2^32. An S0 places nothing and is not counted.
 /// An S5 is compared with all data records before it, and [`LoadError::CountMismatch`] says where it states
 /// another count. The first S7, S8 or S9 ends the text, whatever types the data has; what follows it changes
-/// nothing. A text without an end is refused.
+/// nothing. Its address is the start, [`Start::Linear`](crate::Start::Linear), also where it is 0. A text without
+/// an end is refused.
 ///
 /// ```
 #[doc = include_str!("../examples/srecords.rs")]
@@ -287,9 +288,11 @@ pub fn load_srecords<T>(
 where
     T: AsRef<[u8]> + ?Sized,
 {
-    let (mut line, mut a, mut b) = (0, 0, 0);
+    let (mut line, mut start, mut a, mut b, mut c) = (0, 0, 0, 0, 0);
     let text = text.as_ref();
-    let code = ihex_sys::load_srecords(text, first, page, marks, &mut line, &mut a, &mut b);
+    let code = ihex_sys::load_srecords(
+        text, first, page, marks, &mut line, &mut start, &mut a, &mut b, &mut c,
+    );
     if code == ihex_sys::REFUSED + 20 {
         return Err(LoadError::CountMismatch {
             line,
@@ -297,8 +300,10 @@ where
             seen: b as usize,
         });
     }
-    loader::result(code, line, a, b, |line, error| LoadError::SRecordLine {
-        line,
-        error: SReaderError(error),
+    loader::result(code, line, start, [a, b, c], |line, error| {
+        LoadError::SRecordLine {
+            line,
+            error: SReaderError(error),
+        }
     })
 }

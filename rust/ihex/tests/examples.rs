@@ -21,6 +21,7 @@ example!(chunks, "../examples/chunks.rs");
 example!(dumps, "../examples/dumps.rs");
 example!(object, "../examples/object.rs");
 example!(load, "../examples/load.rs");
+example!(start, "../examples/start.rs");
 example!(marks, "../examples/marks.rs");
 example!(page, "../examples/page.rs");
 example!(srecord, "../examples/srecord.rs");

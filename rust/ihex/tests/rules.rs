@@ -355,7 +355,7 @@ const WRITER_ERRORS: [(WriterError, u32, &str); 4] = [
 ];
 
 /// Each refusal of a load that is no line's, with its number, its line and its text.
-const LOAD_ERRORS: [(LoadError, u32, Option<usize>, &str); 3] = [
+const LOAD_ERRORS: [(LoadError, u32, Option<usize>, &str); 4] = [
     (
         LoadError::MissingEndOfFileRecord,
         13,
@@ -376,6 +376,12 @@ const LOAD_ERRORS: [(LoadError, u32, Option<usize>, &str); 3] = [
         17,
         Some(2),
         "line 2: address 00012005 lies outside the window",
+    ),
+    (
+        LoadError::StartConflict { line: 3 },
+        21,
+        Some(3),
+        "line 3: start record states another start than the first one",
     ),
 ];
 

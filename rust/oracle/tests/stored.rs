@@ -7,7 +7,7 @@ use oracle::comparisons::stored::List;
 use oracle::inputs::replay::Given;
 use oracle::models::replay::answer;
 
-const HEADINGS_AND_CASES: [(&str, &str); 17] = [
+const HEADINGS_AND_CASES: [(&str, &str); 20] = [
     ("# a heading", "# a heading"),
     ("C 01", "FF"),
     ("C", "00"),
@@ -30,6 +30,20 @@ const HEADINGS_AND_CASES: [(&str, &str); 17] = [
     (
         "M 0 9 2 3A3031303030383030373738300A3A30303030303030314646",
         "A 1 | CCCCCCCCCCCCCCCC77 | 0001",
+    ),
+    (
+        "M 0 1 1 3A30343030303030333130303030303130443920",
+        "! 2 0013 @1 | CC | AA",
+    ),
+    (
+        "M 0 1 1 3A303430303030303331303030303031304439\
+         0A3A30303030303030314646",
+        "A 0 X3 10000010 | CC | 00",
+    ),
+    (
+        "M 0 1 1 3A303430303030303530303030303043443241\
+         0A3A303430303030303331303030303031304439",
+        "! 21 @2 | CC | AA",
     ),
 ];
 
@@ -61,11 +75,11 @@ fn right_answers_agree() {
     assert_eq!(outcome.report.smallest, None);
     assert_eq!(
         (outcome.report.inputs, outcome.report.disagreements),
-        (16, 0)
+        (19, 0)
     );
     assert_eq!(
         outcome.told,
-        "2 C, 3 L, 5 T, 1 W, 1 O, 4 M; 2 of them no UTF-8, answered by the rule for bytes; 0 passed over"
+        "2 C, 3 L, 5 T, 1 W, 1 O, 7 M; 2 of them no UTF-8, answered by the rule for bytes; 0 passed over"
     );
 }
 
@@ -94,7 +108,7 @@ fn what_is_no_case_is_passed_over_and_kept() {
     let outcome = list.compare();
     assert_eq!(
         (outcome.report.inputs, outcome.report.disagreements),
-        (16, 0)
+        (19, 0)
     );
     assert!(outcome.told.ends_with("; 10 passed over"));
     assert_eq!(outcome.over, 10);

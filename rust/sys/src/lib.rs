@@ -31,6 +31,13 @@ pub const IN_CHUNK: u8 = 1;
 /// The line that gave the record lies at the carry's start.
 pub const IN_CARRY: u8 = 2;
 
+/// The text of an accepted load states no start.
+pub const NO_START: u8 = 0;
+/// It states CS and IP.
+pub const START_SEGMENT_ADDRESS: u8 = 3;
+/// It states a linear address.
+pub const START_LINEAR_ADDRESS: u8 = 5;
+
 /// How many bytes stand for a record in the list that an object is written from.
 pub const ENTRY: usize = 24;
 
@@ -150,8 +157,10 @@ mod c {
             marks: *mut u8,
             marks_len: usize,
             line: *mut usize,
+            start: *mut u8,
             a: *mut u64,
             b: *mut u64,
+            c: *mut u64,
         ) -> u32;
         pub fn ihex_page_file_length(
             first: u32,
@@ -201,8 +210,10 @@ mod c {
             marks: *mut u8,
             marks_len: usize,
             line: *mut usize,
+            start: *mut u8,
             a: *mut u64,
             b: *mut u64,
+            c: *mut u64,
         ) -> u32;
     }
 }
@@ -358,22 +369,25 @@ pub fn create_object_file_representation(
 }
 
 /// A text into a page with marks. Marks take one bit a place: place p is bit p modulo 8 of byte p / 8,
-/// lowest bit first, and the unused bits of the last byte are 0 after an accepted load.
+/// lowest bit first, and the unused bits of the last byte are 0 after an accepted load. Then `start` is the
+/// kind of start that the text states, with its values in `b` and `c`.
 pub fn load(
     text: &[u8],
     first: u32,
     page: &mut [u8],
     marks: &mut [u8],
     line: &mut usize,
+    start: &mut u8,
     a: &mut u64,
     b: &mut u64,
+    c: &mut u64,
 ) -> u32 {
     let (text, text_len) = (text.as_ptr(), text.len());
     let (page, page_len) = (page.as_mut_ptr(), page.len());
     let (marks, marks_len) = (marks.as_mut_ptr(), marks.len());
     unsafe {
         c::ihex_load(
-            text, text_len, first, page, page_len, marks, marks_len, line, a, b,
+            text, text_len, first, page, page_len, marks, marks_len, line, start, a, b, c,
         )
     }
 }
@@ -430,15 +444,17 @@ pub fn load_srecords(
     page: &mut [u8],
     marks: &mut [u8],
     line: &mut usize,
+    start: &mut u8,
     a: &mut u64,
     b: &mut u64,
+    c: &mut u64,
 ) -> u32 {
     let (text, text_len) = (text.as_ptr(), text.len());
     let (page, page_len) = (page.as_mut_ptr(), page.len());
     let (marks, marks_len) = (marks.as_mut_ptr(), marks.len());
     unsafe {
         c::ihex_load_srecords(
-            text, text_len, first, page, page_len, marks, marks_len, line, a, b,
+            text, text_len, first, page, page_len, marks, marks_len, line, start, a, b, c,
         )
     }
 }

@@ -13,7 +13,7 @@ fn defined(name: &str) -> Option<u64> {
 
 #[test]
 fn numbers_are_the_headers() {
-    let numbers: [(&str, u64); 17] = [
+    let numbers: [(&str, u64); 20] = [
         ("REFUSED", ihex_sys::REFUSED.into()),
         ("DONE", ihex_sys::DONE.into()),
         ("USED_UP", ihex_sys::USED_UP.into()),
@@ -29,6 +29,15 @@ fn numbers_are_the_headers() {
         ("NOWHERE", ihex_sys::NOWHERE.into()),
         ("IN_CHUNK", ihex_sys::IN_CHUNK.into()),
         ("IN_CARRY", ihex_sys::IN_CARRY.into()),
+        ("NO_START", ihex_sys::NO_START.into()),
+        (
+            "START_SEGMENT_ADDRESS",
+            ihex_sys::START_SEGMENT_ADDRESS.into(),
+        ),
+        (
+            "START_LINEAR_ADDRESS",
+            ihex_sys::START_LINEAR_ADDRESS.into(),
+        ),
         ("RECORD_SIZE", ihex_sys::ENTRY as u64),
         ("MAX_PAGE", ihex_sys::MAX_PAGE as u64),
         ("MAX_PAGE_FILE", ihex_sys::MAX_PAGE_FILE as u64),

@@ -1,12 +1,11 @@
--- `codes::code_loading` meets its contract: the count by itself, a refusal by its code.
+-- `codes::code_loading` meets its contract: a tally by its numbers, a refusal by its code.
 -- Assumes nothing.
-use mathlib.Core.Path.{refl}
 use borrow.Author.Needs.{needs}
 use Rattle.codes.proofs.code_loading.Statement.{statement}
 use Rattle.codes.proofs.code_loading.Tie as tie
 
 returns : tie.Need-returns
-returns c = rw (c .before .before .answer .given .1, c .four .ensures) (record { code-is = refl; a-is = refl; b-is = refl; c-is = refl })
+returns c = rw (c .before .before .answer .given .1) (c .code-tally .ensures)
 
 returns-2 : tie.Need-returns-2
 returns-2 c = rw (c .before .before .answer2 .given .1) (c .code-loader-error .ensures)

@@ -1,21 +1,15 @@
 -- `ihex::ihex_load` meets its contract: the loader's answer, in numbers.
 -- Assumes nothing.
-use mathlib.Core.Path.{_∙_, ap}
-use Rattle.codes.specs.Codes.{loading, line-at}
-use Rattle.codes.proofs.Codes.{coded}
+use Rattle.codes.proofs.Codes.{in-six}
 use borrow.Author.Needs.{needs}
 use Rattle.ihex.proofs.ihex_load.Statement.{statement}
 use Rattle.ihex.proofs.ihex_load.Tie as tie
 
 returns : tie.Need-returns
 returns c =
-    let l = c .before .before .before .before .before .before .load .ensures in
-    let k = coded (ap loading (l .answer)) (c .before .code-loading .ensures) in
+    let l = c .before .before .before .before .before .before .before .load .ensures in
     record {
-      code-is = k .code-is;
-      line-is = c .line-at .ensures .answer ∙ ap line-at (l .answer);
-      a-is = k .a-is;
-      b-is = k .b-is;
+      numbers = in-six (l .answer) (c .before .before .code-loading .ensures) (c .before .line-at .ensures .answer) (c .start-kind .ensures .answer);
       page-is = l .page;
       marks-is = l .marks;
     }
@@ -24,6 +18,7 @@ pub ihex-load-spec : {M : Type 1} → statement M
 ihex-load-spec =
     tie.close
     (tie.spec
+    (λ c κs. search needs)
     (λ c κs. search needs)
     (λ c κs. search needs)
     (λ c κs. search needs)

@@ -1,13 +1,15 @@
 -- `loader::judge_record` meets its contract, record by record; a data record goes by the survey of its bytes.
 -- Assumes nothing.
-use mathlib.Core.Path.{ap, subst}
+use mathlib.Core.Path.{refl, ap, subst}
 use native.Mathlib.Omega.{arith}
 use Rattle.reader.specs.Row.{is-end}
 use Rattle.window.specs.declared.Reach.{Reach}
 use Rattle.window.specs.Contracts.{first-byte, Surveyed}
+use Rattle.steps.specs.Steps.{cs-with-ip, linear-address}
+use Rattle.steps.specs.declared.Start.the-variants.{Segment, Linear}
 use Rattle.loader.specs.Placing.{byte-address, does}
 use Rattle.loader.specs.Helpers.{based, Short}
-use Rattle.loader.proofs.Meeting.{met-inside, met-outside, met-end, met-quiet}
+use Rattle.loader.proofs.Meeting.{met-inside, met-outside, met-end, met-quiet, met-start}
 use borrow.Author.Needs.{needs}
 use Rattle.loader.proofs.judge_record.Statement.{statement}
 use Rattle.loader.proofs.judge_record.Tie as tie
@@ -47,20 +49,24 @@ returns-4 c = λ pool lies.
 returns-5 : tie.Need-returns-5
 unfolding does is-end
 returns-5 c = λ pool lies.
-    let a = c .before .before .before .before .args in
-    met-quiet (a .first) (a .size) (a .w) (a .tally) (a .given) pool lies (rw (c .enum-told4 .given .1)) (λ base. rw (c .enum-told4 .given .1)) (c .before .before .base-behind .result) (c .before .before .base-behind .ensures)
+    let a = c .before .before .before .before .before .before .args in
+    let g = c .before .before .given2 .given in
+    met-start (a .first) (a .size) (a .w) (a .tally) (a .given) pool lies (cs-with-ip (g .0 .0) (g .0 .1 .0)) (Segment (g .0 .0) (g .0 .1 .0)) refl (rw (g .1)) (λ base. rw (g .1))
+    (c .before .before .before .before .base-behind .result) (c .before .before .before .before .base-behind .ensures) (c .judge-start .result) (c .judge-start .ensures)
 
 returns-6 : tie.Need-returns-6
 unfolding does is-end
 returns-6 c = λ pool lies.
     let a = c .before .before .before .before .args in
-    met-quiet (a .first) (a .size) (a .w) (a .tally) (a .given) pool lies (rw (c .enum-told5 .given .1)) (λ base. rw (c .enum-told5 .given .1)) (c .before .before .base-behind .result) (c .before .before .base-behind .ensures)
+    met-quiet (a .first) (a .size) (a .w) (a .tally) (a .given) pool lies (rw (c .enum-told4 .given .1)) (λ base. rw (c .enum-told4 .given .1)) (c .before .before .base-behind .result) (c .before .before .base-behind .ensures)
 
 returns-7 : tie.Need-returns-7
 unfolding does is-end
 returns-7 c = λ pool lies.
-    let a = c .before .before .before .before .args in
-    met-quiet (a .first) (a .size) (a .w) (a .tally) (a .given) pool lies (rw (c .enum-told6 .given .1)) (λ base. rw (c .enum-told6 .given .1)) (c .before .before .base-behind .result) (c .before .before .base-behind .ensures)
+    let a = c .before .before .before .before .before .before .args in
+    let g = c .before .before .given3 .given in
+    met-start (a .first) (a .size) (a .w) (a .tally) (a .given) pool lies (linear-address (g .0 .0)) (Linear (g .0 .0)) refl (rw (g .1)) (λ base. rw (g .1))
+    (c .before .before .before .before .base-behind .result) (c .before .before .before .before .base-behind .ensures) (c .judge-start2 .result) (c .judge-start2 .ensures)
 
 pub judge-record-spec : {M : Type 1} → statement M
 judge-record-spec =
@@ -76,8 +82,10 @@ judge-record-spec =
     (λ c. search needs)
     (λ c. search needs)
     (λ c. search needs)
+    (λ c κs. search needs)
     (λ c. search needs)
     (λ c. search needs)
+    (λ c κs. search needs)
     returns
     returns-2
     returns-3

@@ -17,15 +17,15 @@ byte-address-requires c κs =
 returns : tie.Need-returns
 returns c =
     λ bytes l.
-    let a = c .before .before .before .before .args in
-    met-inside (a .first) (a .size) (a .there) (a .tally) (a .given .address) (a .given .len) bytes l
-    (subst (λ (r : Reach). Surveyed (s-address (a .given .address)) (a .given .len) (a .first) (a .size) r) (c .before .enum-told .given .1) (c .before .before .before .survey .ensures))
+    let a = c .before .before .before .args in
+    met-inside (a .first) (a .size) (a .there) (a .seen) (a .given .address) (a .given .len) bytes l
+    (subst (λ (r : Reach). Surveyed (s-address (a .given .address)) (a .given .len) (a .first) (a .size) r) (c .enum-told .given .1) (c .before .before .survey .ensures))
 
 returns-2 : tie.Need-returns-2
 returns-2 c =
     λ bytes l rest.
     let a = c .before .before .before .before .before .args in
-    rw (c .byte-address .ensures) (met-outside (a .first) (a .size) (a .there) (a .tally) (a .given .address) (a .given .len) bytes l (c .before .before .i .given .0 .0)
+    rw (c .byte-address .ensures) (met-outside (a .first) (a .size) (a .there) (a .seen) (a .given .address) (a .given .len) bytes l (c .before .before .i .given .0 .0)
     (subst (λ (r : Reach). Surveyed (s-address (a .given .address)) (a .given .len) (a .first) (a .size) r) (c .before .before .i .given .1) (c .before .before .before .before .survey .ensures)) rest)
 
 pub judge-data-spec : {M : Type 1} → statement M

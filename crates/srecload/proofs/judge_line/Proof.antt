@@ -27,7 +27,7 @@ came c =
 returns : tie.Need-returns
 returns c =
     let a = c .before .before .before .args in
-    rw (line-empty (a .there .line) (now (a .line)) (c .if1 .taken)) (met-nothing (within (a .first) (a .size)) (a .there) (a .tally))
+    rw (line-empty (a .there .line) (now (a .line)) (c .if1 .taken)) (met-nothing (within (a .first) (a .size)) (a .there) (a .seen))
 
 judge-record-requires : tie.Need-judge-record-requires
 judge-record-requires c κs = (came (c .before) .few, c .before .before .before .before .before .before .before .before .before .before .pre .1)
@@ -45,7 +45,7 @@ returns-3 c =
     let s = c .before .before .before .before .before .before .before .before .before .before in
     let r = c .before .before .before .before .before .read-srecord in
     let g = c .before .e .given in
-    met-refused (within (s .args .first) (s .args .size)) (s .args .there .line) (s .args .tally) (now (s .args .line)) (g .0 .0) (omega arith)
+    met-refused (within (s .args .first) (s .args .size)) (s .args .there .line) (s .args .seen) (now (s .args .line)) (g .0 .0) (omega arith)
     (came-refused (now (s .args .line)) (now (s .args .pool)) (r .last .1 .0) (s .pre .0) (g .0 .0)
     (subst (λ (x : SAnswer). ReadSRecord (now (s .args .line)) (now (s .args .pool)) 0 x (r .last .1 .0)) (g .1) (r .ensures))) rest
 

@@ -12,7 +12,7 @@ use Rattle.srecload.proofs.judge_next.Tie as tie
 returns : tie.Need-returns
 returns c =
     let s = c .before .before .before in
-    judged-out (within (s .args .first) (s .args .size)) (now (s .args .text)) (s .args .w) (s .args .tally) (c .if1 .taken)
+    judged-out (within (s .args .first) (s .args .size)) (now (s .args .text)) (s .args .w) (s .args .seen) (c .if1 .taken)
 
 returns-2 : tie.Need-returns-2
 returns-2 c =
@@ -20,7 +20,7 @@ returns-2 c =
     let f = c .before .before .before .before .before .first-line in
     let j = c .before .before .judge-line in
     judged (now (s .args .text)) (s .args .w) (s .pre .0) (omega (arith, s .pre .0 .inside)) (now (f .result)) (f .last .1 .0) (cut-off (f .ensures))
-    (within (s .args .first) (s .args .size)) (s .args .tally) (s .pre .1) (j .result) (j .ensures)
+    (within (s .args .first) (s .args .size)) (s .args .seen) (s .pre .1) (j .result) (j .ensures)
 
 pub judge-next-spec : {M : Type 1} → statement M
 judge-next-spec =

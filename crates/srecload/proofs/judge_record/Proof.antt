@@ -15,7 +15,7 @@ unfolding s-does
 returns c =
     λ bytes l.
     let a = c .before .before .args in
-    rw (means-header (digit-of (a .given .kind)) (a .given .address) bytes (sym (c .before .digit .ensures .answer) ∙ c .if1 .taken)) (met-nothing (within (a .first) (a .size)) (a .there) (a .tally))
+    rw (means-header (digit-of (a .given .kind)) (a .given .address) bytes (sym (c .before .digit .ensures .answer) ∙ c .if1 .taken)) (met-nothing (within (a .first) (a .size)) (a .there) (a .seen))
 
 returns-2 : tie.Need-returns-2
 unfolding s-does
@@ -36,7 +36,7 @@ unfolding s-does
 returns-4 c =
     λ bytes l rest.
     let a = c .before .before .before .before .args in
-    rw (means-end (digit-of (a .given .kind)) (a .given .address) bytes (omega (arith, c .before .before .before .digit .ensures .answer, c .before .if2 .left)) (λ e. c .if3 .left (c .before .before .before .digit .ensures .answer ∙ e))) (met-end (within (a .first) (a .size)) (a .there) (a .tally) (a .given .address) rest)
+    rw (means-end (digit-of (a .given .kind)) (a .given .address) bytes (omega (arith, c .before .before .before .digit .ensures .answer, c .before .if2 .left)) (λ e. c .if3 .left (c .before .before .before .digit .ensures .answer ∙ e))) (met-end (within (a .first) (a .size)) (a .there) (a .seen) (a .given .address) rest)
 
 pub judge-record-spec : {M : Type 1} → statement M
 judge-record-spec =

@@ -12,10 +12,10 @@ use Rattle.srecload.proofs.judge_text.Statement.{statement}
 use Rattle.srecload.proofs.judge_text.Tie as tie
 
 abbrev Inv-loop : tie.InvT-loop
-Inv-loop text first size pool₀ w₀ tally₀ pool w tally = Judging (within first size) text pool w tally
+Inv-loop text first size pool₀ w₀ seen₀ pool w seen = Judging (within first size) text pool w seen
 
 abbrev μ-loop : tie.MeasureT-loop
-μ-loop text first size pool₀ w₀ tally₀ pool w tally = length text - w .position
+μ-loop text first size pool₀ w₀ seen₀ pool w seen = length text - w .position
 
 loop-holds : tie.Need-loop-holds Inv-loop μ-loop
 loop-holds c =
@@ -33,16 +33,16 @@ loop-less c =
     let s = c .before .before .before .before .before .before .before .before .args in
     let l = c .before .before .before .before .before .before .loop in
     let t = c .before .before .before .before .judge-next in
-    let n = c .before .t .given in
-    judging-less (within (s .first) (s .size)) (now (s .text)) (l .pool) (l .w) (l .tally) (l .inv) (t .result) (t .ensures) (n .0 .1 .0) (n .0 .0) (n .1)
+    let n = c .before .n .given in
+    judging-less (within (s .first) (s .size)) (now (s .text)) (l .pool) (l .w) (l .seen) (l .inv) (t .result) (t .ensures) (n .0 .1 .0) (n .0 .0) (n .1)
 
 loop-again : tie.Need-loop-again Inv-loop μ-loop
 loop-again c =
     let s = c .before .before .before .before .before .before .before .before .args in
     let l = c .before .before .before .before .before .before .loop in
     let t = c .before .before .before .before .judge-next in
-    let n = c .before .t .given in
-    judging-again (within (s .first) (s .size)) (now (s .text)) (l .pool) (l .w) (l .tally) (l .inv) (t .result) (t .ensures) (n .0 .1 .0) (n .0 .0) (n .1) (t .last .1 .0) (t .kept .1 .0)
+    let n = c .before .n .given in
+    judging-again (within (s .first) (s .size)) (now (s .text)) (l .pool) (l .w) (l .seen) (l .inv) (t .result) (t .ensures) (n .0 .1 .0) (n .0 .0) (n .1) (t .last .1 .0) (t .kept .1 .0)
 
 returns : tie.Need-returns Inv-loop μ-loop
 returns c =
@@ -50,7 +50,7 @@ returns c =
     let l = c .before .before .before .before .before .before .loop in
     let t = c .before .before .before .before .judge-next in
     let n = c .before .answer .given in
-    judging-end (within (s .first) (s .size)) (now (s .text)) (l .pool) (l .w) (l .tally) (l .inv) (t .result) (t .ensures) (n .0 .0) (n .1)
+    judging-end (within (s .first) (s .size)) (now (s .text)) (l .pool) (l .w) (l .seen) (l .inv) (t .result) (t .ensures) (n .0 .0) (n .1)
 
 pub judge-text-spec : {M : Type 1} → statement M
 judge-text-spec =

@@ -50,6 +50,8 @@ fn answers() -> impl Iterator<Item = &'static Answers> {
         .chain(&writes::SEEN)
         .chain([
             &loads::SEEN.answers,
+            &loads::SEEN_STARTS,
+            &loads::SEEN_CONFLICTS,
             &joined::SEEN.answers,
             &joined::SEEN_END.answers,
         ])

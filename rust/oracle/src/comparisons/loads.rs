@@ -1,13 +1,16 @@
 //! Loads: the model against the port's loader and the face's.
 
-use ihex::{LoadError, Loaded};
+use ihex::{LoadError, Loaded, Start};
 use ihex_sys::REFUSED;
 
 use crate::comparisons::lent::{Lent, Numbers};
 use crate::comparisons::run::{by_block, by_chance, Kind, Plan};
 use crate::comparisons::seen::{Answers, EntryPoint};
 use crate::inputs::loads::{by_rule, load, LoadCase, BLOCKS};
-use crate::models::loads::{model, stated, LoadAnswer, Rules, BOTH_STOPS, RIGHT, UNWRAPPED};
+use crate::inputs::starts;
+use crate::models::loads::{
+    model, start_of, stated, LoadAnswer, Rules, BOTH_STOPS, RIGHT, UNWRAPPED,
+};
 use crate::subjects::face::by_face;
 use crate::subjects::port::Port;
 use crate::subjects::the_crate::{offender_of, rows};
@@ -16,7 +19,7 @@ use crate::subjects::the_crate::{offender_of, rows};
 pub static SEEN: EntryPoint = EntryPoint::new(
     "loader",
     &[
-        0, 257, 258, 259, 260, 261, 262, 263, 264, 265, 269, 272, 273,
+        0, 257, 258, 259, 260, 261, 262, 263, 264, 265, 269, 272, 273, 277,
     ],
 );
 
@@ -47,6 +50,29 @@ fn note_wraps(case: &LoadCase, code: u32) {
     }
 }
 
+/// The kinds of start that accepted loads tell: none, a type 03 and a type 05.
+pub static SEEN_STARTS: Answers = Answers::new("loader, by its kind of start", &[0, 3, 5]);
+
+/// The types of two starts that differ, the first as the tens.
+pub static SEEN_CONFLICTS: Answers =
+    Answers::new("loader, by the types of two starts", &[33, 35, 53, 55]);
+
+/// Notes the start that a load tells, or the two that differ.
+fn note_starts(case: &LoadCase, answer: LoadAnswer) {
+    if answer.code == 0 {
+        SEEN_STARTS.note(answer.start.into());
+    }
+    if answer.code == REFUSED + 21 {
+        let records = rows(&case.text, BOTH_STOPS);
+        let before = records
+            .iter()
+            .filter(|(_, place)| place.line <= answer.line);
+        let starts = before.filter_map(|(record, _)| start_of(record.as_ref().ok()?));
+        let kinds: Vec<u32> = starts.map(|(kind, ..)| kind.into()).collect();
+        SEEN_CONFLICTS.note(10 * kinds[0] + kinds[kinds.len() - 1]);
+    }
+}
+
 /// What a model answers to a load; page and marks are changed.
 pub type Model = fn(&LoadCase, &mut [u8], &mut [u8]) -> LoadAnswer;
 
@@ -63,7 +89,8 @@ fn lent(case: &LoadCase, model: Model) -> (Lent, Lent, Vec<u8>, Vec<u8>, LoadAns
 
 /// What is wrong with a load by the port.
 pub fn port(port: &dyn Port, case: &LoadCase) -> Option<String> {
-    let note = |code| {
+    let note = |answer: LoadAnswer| {
+        let code = answer.code;
         SEEN.answers.note(code);
         if code == REFUSED + 2 {
             let last = rows(&case.text, BOTH_STOPS).pop();
@@ -71,39 +98,48 @@ pub fn port(port: &dyn Port, case: &LoadCase) -> Option<String> {
             SEEN.places.note(place);
         }
         note_wraps(case, code);
+        note_starts(case, answer);
     };
-    by_port(case, model, note, |text, page, marks, line, numbers| {
-        port.load(text, case.first, page, marks, line, numbers)
+    by_port(case, model, note, |text, page, marks, places, numbers| {
+        port.load(text, case.first, page, marks, places, numbers)
     })
 }
 
-/// What is wrong with a load by a loader of the port, if it should answer as a model does; the model's code is
+/// The line and the kind of start that a load tells.
+pub type Places<'a> = (&'a mut usize, &'a mut u8);
+/// The values that it tells.
+pub type Values<'a> = (&'a mut u64, &'a mut u64, &'a mut u64);
+
+/// What is wrong with a load by a loader of the port, if it should answer as a model does; the model's answer is
 /// noted.
 pub fn by_port(
     case: &LoadCase,
     model: Model,
-    note: impl Fn(u32),
-    load: impl Fn(&[u8], &mut [u8], &mut [u8], &mut usize, (&mut u64, &mut u64)) -> u32,
+    note: impl Fn(LoadAnswer),
+    load: impl Fn(&[u8], &mut [u8], &mut [u8], Places, Values) -> u32,
 ) -> Option<String> {
     let (mut page, mut marks, held, marked, should) = lent(case, model);
-    note(should.0);
+    note(should);
     let text = Lent::holding(&case.text);
     let mut numbers = Numbers::default();
-    let third = numbers.values()[2];
-    let mut lines = [3, 5, 7];
-    let (a, b, _) = numbers.lend();
+    let (mut lines, mut starts) = ([3, 5, 7], [3, 7, 5]);
     let code = load(
         text.bytes(),
         page.slice(),
         marks.slice(),
-        &mut lines[1],
-        (a, b),
+        (&mut lines[1], &mut starts[1]),
+        numbers.lend(),
     );
-    let [a, b, c] = numbers.values();
-    if !numbers.is_guarded() || c != third || (lines[0], lines[2]) != (3, 7) {
+    let beside = (lines[0], lines[2], starts[0], starts[2]);
+    if !numbers.is_guarded() || beside != (3, 7, 3, 5) {
         return Some("numbers beside the lent ones were written".into());
     }
-    let is = (code, a, b, lines[1]);
+    let is = LoadAnswer {
+        code,
+        line: lines[1],
+        start: starts[1],
+        values: numbers.values(),
+    };
     if is != should {
         return Some(format!("port {is:?}, model {should:?}"));
     }
@@ -114,8 +150,15 @@ pub fn by_port(
 
 /// What the face answers, in the form of the port's answers.
 fn as_port(answer: Result<Loaded, LoadError>) -> LoadAnswer {
+    let start = |start| match start {
+        Start::Segment { cs, ip } => (3, cs.into(), ip.into()),
+        Start::Linear(address) => (5, address.into(), 0),
+        other => panic!("a start that the oracle does not know: {other}"),
+    };
     let why = match answer {
-        Ok(loaded) => return (0, loaded.data_records as u64, 0, 0),
+        Ok(loaded) => {
+            return LoadAnswer::accepted(loaded.data_records as u64, loaded.start.map(start))
+        }
         Err(why) => why,
     };
     let [a, b, _] = match why {
@@ -125,7 +168,7 @@ fn as_port(answer: Result<Loaded, LoadError>) -> LoadAnswer {
         LoadError::CountMismatch { stated, seen, .. } => [stated.into(), seen as u64, 0],
         _ => [0; 3],
     };
-    (REFUSED + why.number(), a, b, why.line().unwrap_or(0))
+    LoadAnswer::refused(why.number(), a, b, why.line().unwrap_or(0))
 }
 
 /// What is wrong with a load by the face.
@@ -156,6 +199,14 @@ pub fn of_port<'a>(port: &'a dyn Port, plan: Plan) -> Vec<Kind<'a>> {
     vec![
         by_chance("loads", plan, 60, load, check),
         by_block("loads by rule", plan, BLOCKS, by_rule, check),
+        by_chance("loads with starts", plan, 40, starts::load, check),
+        by_block(
+            "loads with starts by rule",
+            plan,
+            starts::BLOCKS,
+            starts::by_rule,
+            check,
+        ),
     ]
 }
 
@@ -164,5 +215,13 @@ pub fn of_face(plan: Plan) -> Vec<Kind<'static>> {
     vec![
         by_chance("face: loads", plan, 20, load, face),
         by_block("face: loads by rule", plan, BLOCKS, by_rule, face),
+        by_chance("face: loads with starts", plan, 20, starts::load, face),
+        by_block(
+            "face: loads with starts by rule",
+            plan,
+            starts::BLOCKS,
+            starts::by_rule,
+            face,
+        ),
     ]
 }

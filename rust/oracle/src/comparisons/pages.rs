@@ -31,13 +31,13 @@ fn output(case: &PageCase, file: &Filed) -> Lent {
     Lent::new((length + case.spare).max(0) as usize)
 }
 
-/// What is wrong with a load of the file: it is to give the marks, and the bytes at them, over noise, and
-/// to count the data records.
+/// What is wrong with a load of the file: it is to give the marks, and the bytes at them, over noise, to count
+/// the data records, and to tell no start.
 fn unrestored(
     who: &str,
     case: &PageCase,
     text: &str,
-    load: impl FnOnce(&mut [u8], &mut [u8]) -> (u32, u64),
+    load: impl FnOnce(&mut [u8], &mut [u8]) -> (u32, u64, u8),
 ) -> Option<String> {
     let should_mark = packed(&case.marks);
     let (mut page, mut row) = (Lent::new(case.places()), Lent::new(should_mark.len()));
@@ -47,7 +47,8 @@ fn unrestored(
         held[run.clone()].copy_from_slice(&case.page[run]);
     }
     let data = text.lines().filter(|line| line.get(7..9) == Some("00"));
-    let (is, should) = (load(page.slice(), row.slice()), (0, data.count() as u64));
+    let is = load(page.slice(), row.slice());
+    let should = (0, data.count() as u64, 0);
     if is != should {
         return Some(format!("{who} loads {is:?}, should be {should:?}"));
     }
@@ -63,14 +64,14 @@ fn to_load(case: &PageCase, text: &str) -> LoadCase {
 /// What is wrong where the crate reads the file, or the port loads it.
 fn misread(port: &dyn Port, case: &PageCase, text: &str) -> Option<String> {
     let by_crate = |page: &mut [u8], marks: &mut [u8]| {
-        let (code, records, ..) = loads::model(&to_load(case, text), page, marks);
-        (code, records)
+        let answer = loads::model(&to_load(case, text), page, marks);
+        (answer.code, answer.values[0], answer.start)
     };
     let by_port = |page: &mut [u8], marks: &mut [u8]| {
-        let (mut line, mut a, mut b) = (0, 0, 0);
-        let numbers = (&mut a, &mut b);
-        let code = port.load(text.as_bytes(), case.first, page, marks, &mut line, numbers);
-        (code, a)
+        let (mut line, mut start, mut a, mut b, mut c) = (0, 0, 0, 0, 0);
+        let (places, numbers) = ((&mut line, &mut start), (&mut a, &mut b, &mut c));
+        let code = port.load(text.as_bytes(), case.first, page, marks, places, numbers);
+        (code, a, start)
     };
     unrestored("the crate", case, text, by_crate)
         .or_else(|| unrestored("the port", case, text, by_port))
@@ -183,8 +184,11 @@ fn face(case: &PageCase) -> Option<String> {
     let by_face = |page: &mut [u8], marks: &mut [u8]| {
         let text = text.map_or("", String::as_str);
         match ihex::load(text, case.first, page, marks) {
-            Ok(loaded) => (0, loaded.data_records as u64),
-            Err(why) => (REFUSED + why.number(), 0),
+            Ok(loaded) => {
+                let records = loaded.data_records as u64;
+                (0, records, loaded.start.is_some().into())
+            }
+            Err(why) => (REFUSED + why.number(), 0, 0),
         }
     };
     misasked(case)

@@ -11,6 +11,7 @@ use crate::comparisons::{lines, writes};
 use crate::inputs::lines::LineCase;
 use crate::inputs::loads::LoadCase;
 use crate::inputs::srecords::{self as inputs, CountCase, SWriteCase};
+use crate::models::loads::LoadAnswer;
 use crate::models::srecords::{
     answer, answered, model, offender, offender_of, stated, write, Rules, RIGHT,
 };
@@ -144,9 +145,9 @@ fn note_load(case: &LoadCase, code: u32) {
 
 /// What is wrong with a load by the port.
 fn load_by_port(port: &dyn Port, case: &LoadCase) -> Option<String> {
-    let note = |code| note_load(case, code);
-    by_port(case, model, note, |text, page, marks, line, numbers| {
-        port.load_srecords(text, case.first, page, marks, line, numbers)
+    let note = |answer: LoadAnswer| note_load(case, answer.code);
+    by_port(case, model, note, |text, page, marks, places, numbers| {
+        port.load_srecords(text, case.first, page, marks, places, numbers)
     })
 }
 

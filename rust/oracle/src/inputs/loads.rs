@@ -5,6 +5,7 @@ use crate::inputs::lines::{damage, damaged, random, summed};
 use crate::inputs::marks::{packed_length, WINDOWS};
 use crate::inputs::shrink::{fewer_flags, readable, smaller_number, smaller_text, with_each, Case};
 use crate::inputs::spelling::line_of;
+use crate::inputs::start_records::Start;
 
 #[derive(Clone)]
 pub struct LoadCase {
@@ -197,8 +198,8 @@ fn put_data(text: &mut Vec<u8>, window: &Window, (base, wraps): (u32, bool), cha
     text.extend(line_end(chance));
 }
 
-fn put_start(text: &mut Vec<u8>, chance: &mut Chance) {
-    text.extend(line_of(chance.one_of(&[3, 5]), 0, &chance.bytes(4)));
+fn put_start(text: &mut Vec<u8>, start: Start, chance: &mut Chance) {
+    text.extend(start.or_other(16, chance).line(chance));
     text.extend(line_end(chance));
 }
 
@@ -221,13 +222,13 @@ fn put_end(text: &mut Vec<u8>, chance: &mut Chance) {
 
 /// A text that places bytes around a window, with that window.
 pub fn load(chance: &mut Chance) -> LoadCase {
-    let window = window(chance);
+    let (window, start) = (window(chance), Start::new(chance));
     let mut text = Vec::new();
     for _ in 0..chance.under(8) {
         let base = put_base(&mut text, &window, chance);
         for _ in 0..chance.under(7) {
             if chance.once_in(6) {
-                put_start(&mut text, chance);
+                put_start(&mut text, start, chance);
             } else {
                 put_data(&mut text, &window, base, chance);
             }

@@ -15,6 +15,8 @@ pub mod replay;
 pub mod shrink;
 pub mod spelling;
 pub mod srecords;
+pub mod start_records;
+pub mod starts;
 pub mod sums;
 pub mod texts;
 pub mod writes;

@@ -420,7 +420,7 @@ pub fn load(chance: &mut Chance) -> LoadCase {
 }
 
 /// Lines that a text by rule is made of. Records that state bytes do so about FFFF, or about 2^32.
-const LINES: [&str; 23] = [
+const LINES: [&str; 25] = [
     "",
     "S0030000FC",
     "S0040001418A",
@@ -439,6 +439,8 @@ const LINES: [&str; 23] = [
     "S9030000FC",
     "S804000000FB",
     "S70500000000FA",
+    "S8041234565F",
+    "S70512345678E6",
     "S6030000FC",
     ":00000001FF",
     "s9030000FC",
@@ -456,10 +458,12 @@ const SMALL: [(u32, usize); 4] = [(0xFFFC, 8), (0xFFFF_FFF8, 8), (0, 9), (0xFFFF
 const WHOLE: [(u32, usize); 2] = [(0, 65_536), (0xFFFF_0000, 65_536)];
 
 /// What ends a text by rule: mostly an end record, once with more after it.
-const LAST: [&str; 5] = [
+const LAST: [&str; 7] = [
     "S9030000FC",
     "S70500000000FA",
     "S804000000FB\nS1",
+    "S903FFFFFE\nS9030000FC",
+    "S705FFFFFFFFFE",
     "",
     "S5030001FB",
 ];

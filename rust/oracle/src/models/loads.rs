@@ -12,8 +12,52 @@ use crate::subjects::the_crate::{by_crate, rows};
 /// A load reads with both stops.
 pub const BOTH_STOPS: u8 = STOP_AFTER_FIRST_ERROR | STOP_AFTER_EOF;
 
-/// What a load answers: its code and values, and the number of the line.
-pub type LoadAnswer = (u32, u64, u64, usize);
+/// A start as it is told: the type of its record, and its two values.
+pub type Start = (u8, u64, u64);
+
+/// What is told where no start is.
+const NO_START: Start = (0, 0, 0);
+
+/// What a load answers: its code, the number of the line, the kind of start, and its values.
+#[derive(Clone, Copy, PartialEq, Eq, Debug)]
+pub struct LoadAnswer {
+    pub code: u32,
+    pub line: usize,
+    pub start: u8,
+    pub values: [u64; 3],
+}
+
+impl LoadAnswer {
+    /// The refusal with this number and these values.
+    pub fn refused(number: u32, a: u64, b: u64, line: usize) -> Self {
+        LoadAnswer {
+            code: REFUSED + number,
+            line,
+            start: 0,
+            values: [a, b, 0],
+        }
+    }
+
+    /// An accepted load of so many data records, with the start that the text states, if it states one.
+    pub fn accepted(records: u64, start: Option<Start>) -> Self {
+        let (start, b, c) = start.unwrap_or(NO_START);
+        LoadAnswer {
+            code: 0,
+            line: 0,
+            start,
+            values: [records, b, c],
+        }
+    }
+}
+
+/// The start that a record states, if it states one.
+pub fn start_of(record: &Record) -> Option<Start> {
+    match *record {
+        Record::StartSegmentAddress { cs, ip } => Some((3, cs.into(), ip.into())),
+        Record::StartLinearAddress(address) => Some((5, address.into(), 0)),
+        _ => None,
+    }
+}
 
 /// The latest extension record, with its base.
 #[derive(Clone, Copy)]
@@ -44,6 +88,10 @@ pub struct Rules {
     pub placing: Placing,
     /// What a start record makes of the latest extension record.
     pub start: fn(Latest) -> Latest,
+    /// Whether a start is refused that comes after the first.
+    pub differs: fn(Start, Start) -> bool,
+    /// The start that is told, of the first and a later one.
+    pub kept: fn(Start, Start) -> Start,
     /// What a type 02 with this base makes of the latest before it.
     pub segment: fn(Latest, u64) -> Latest,
     /// Which address of a data record lies outside the window, if one does.
@@ -58,6 +106,8 @@ pub struct Rules {
 pub const RIGHT: Rules = Rules {
     placing: intel,
     start: |latest| latest,
+    differs: |first, later| first != later,
+    kept: |first, _| first,
     segment: |latest, base| match latest {
         Latest::None | Latest::Segment(_) => Latest::Segment(base),
         Latest::Back(_) | Latest::Linear(_) => Latest::Back(base),
@@ -108,16 +158,24 @@ pub const UNWRAPPED: [(&str, Placing); 3] = [
     ),
 ];
 
-/// What a text states: how many data records, and the places of the window with their bytes, in order; or
-/// the refusal.
-pub type Stated = Result<(u64, Vec<(usize, u8)>), LoadAnswer>;
+/// What a text that is accepted states: how many data records, its start, and the places of the window with
+/// their bytes, in order.
+#[derive(Default, PartialEq, Eq)]
+pub struct Statement {
+    pub records: u64,
+    pub start: Option<Start>,
+    pub places: Vec<(usize, u8)>,
+}
+
+/// What a text states, or the refusal.
+pub type Stated = Result<Statement, LoadAnswer>;
 
 /// The addresses of a case's window, or the refusal of it.
 pub fn window(case: &LoadCase, fits: fn(usize, usize) -> bool) -> Result<Range<u64>, LoadAnswer> {
     let first = u64::from(case.first);
     let window = first..first + case.page as u64;
     if !fits(case.page, case.marks) || case.page > 65_536 || window.end > 1 << 32 {
-        return Err((REFUSED + 16, 0, 0, 0));
+        return Err(LoadAnswer::refused(16, 0, 0, 0));
     }
     Ok(window)
 }
@@ -126,38 +184,46 @@ pub fn window(case: &LoadCase, fits: fn(usize, usize) -> bool) -> Result<Range<u
 pub fn stated(rules: Rules, case: &LoadCase) -> Stated {
     let window = window(case, rules.fits)?;
     let mut latest = Latest::None;
-    let mut records = 0;
-    let mut stated = Vec::new();
+    let mut stated = Statement::default();
     for (answer, place) in rows(&case.text, BOTH_STOPS) {
-        match answer {
+        let refused = |number, a, b| Err(LoadAnswer::refused(number, a, b, place.line));
+        let record = match answer {
+            Ok(record) => record,
             Err(why) => {
                 let told = by_crate::refusal(&why);
-                return Err((told.code, told.values[0], told.values[1], place.line));
+                return refused(told.code - REFUSED, told.values[0], told.values[1]);
             }
-            Ok(Record::Data { offset, value }) => {
-                records += 1;
+        };
+        if let Some(later) = start_of(&record) {
+            let first = stated.start.unwrap_or(later);
+            if stated.start.is_some() && (rules.differs)(first, later) {
+                return refused(21, 0, 0);
+            }
+            stated.start = Some((rules.kept)(first, later));
+            latest = (rules.start)(latest);
+        }
+        match record {
+            Record::Data { offset, value } => {
+                stated.records += 1;
                 let address = |i| (rules.placing)(latest, offset.into(), i);
                 let addresses: Vec<u64> = (0..value.len() as u64).map(address).collect();
                 if let Some(outside) = (rules.outside)(&addresses, &window) {
-                    return Err((REFUSED + 17, outside, 0, place.line));
+                    return refused(17, outside, 0);
                 }
                 let placed = addresses.into_iter().zip(value);
                 let inside = placed.filter(|(address, _)| window.contains(address));
-                stated.extend(
-                    inside.map(|(address, byte)| ((address - window.start) as usize, byte)),
-                );
+                let place = |(address, byte)| ((address - window.start) as usize, byte);
+                stated.places.extend(inside.map(place));
             }
-            Ok(Record::ExtendedSegmentAddress(n)) => {
+            Record::ExtendedSegmentAddress(n) => {
                 latest = (rules.segment)(latest, u64::from(n) << 4);
             }
-            Ok(Record::ExtendedLinearAddress(n)) => latest = Latest::Linear(u64::from(n) << 16),
-            Ok(Record::StartSegmentAddress { .. }) | Ok(Record::StartLinearAddress(_)) => {
-                latest = (rules.start)(latest);
-            }
-            Ok(Record::EndOfFile) => return Ok((records, stated)),
+            Record::ExtendedLinearAddress(n) => latest = Latest::Linear(u64::from(n) << 16),
+            Record::EndOfFile => return Ok(stated),
+            _ => {}
         }
     }
-    Err((REFUSED + 13, 0, 0, 0))
+    Err(LoadAnswer::refused(13, 0, 0, 0))
 }
 
 /// A load by these rules.
@@ -175,16 +241,16 @@ pub fn laid(
 ) -> LoadAnswer {
     match stated {
         Err(refused) => refused,
-        Ok((records, stated)) => {
+        Ok(stated) => {
             let mut marks = vec![0; page.len()];
-            for (place, byte) in stated {
+            for (place, byte) in stated.places {
                 page[place] = byte;
                 mark(&mut marks, place);
             }
             for (byte, eight) in row.iter_mut().zip(packed(&marks)) {
                 *byte = eight;
             }
-            (0, records, 0, 0)
+            LoadAnswer::accepted(stated.records, stated.start)
         }
     }
 }

@@ -8,7 +8,7 @@ use crate::inputs::replay::{Given, MARKS};
 use crate::inputs::spelling::hex;
 use crate::inputs::texts::TextCase;
 use crate::models::lines::{self, in_pool, pour};
-use crate::models::loads;
+use crate::models::loads::{self, LoadAnswer};
 use crate::models::writes::{self, Written};
 use crate::subjects::the_crate::{by_crate, read, rows, Row};
 use crate::subjects::told::{pool_full, told, Told};
@@ -132,12 +132,19 @@ fn written(answer: &Written, out: usize) -> String {
     format!("{said} | {}", hex(&answer.held(&vec![OUT; out])))
 }
 
+fn loaded(answer: LoadAnswer) -> String {
+    let [a, b, c] = answer.values;
+    match (answer.code, answer.start) {
+        (0, 0) => format!("A {a:X}"),
+        (0, 3) => format!("A {a:X} X3 {b:04X}{c:04X}"),
+        (0, kind) => format!("A {a:X} X{kind} {b:08X}"),
+        (code, _) => format!("{} @{:X}", refusal(code, a, b), answer.line),
+    }
+}
+
 fn load(case: &LoadCase) -> String {
     let mut page = vec![PAGE; case.page];
     let mut marks = vec![MARKS; case.marks];
-    let said = match loads::model(case, &mut page, &mut marks) {
-        (0, records, _, _) => format!("A {records:X}"),
-        (code, a, b, line) => format!("{} @{line:X}", refusal(code, a, b)),
-    };
+    let said = loaded(loads::model(case, &mut page, &mut marks));
     format!("{said} |{} |{}", spelt_long(&page), spelt_long(&marks))
 }

@@ -6,7 +6,9 @@ use crate::inputs::lines::LineCase;
 use crate::inputs::loads::LoadCase;
 use crate::inputs::spelling::digits;
 use crate::inputs::srecords::{address_bytes, has_data, SWriteCase, TYPES};
-use crate::models::loads::{self, first_outside, laid, window, LoadAnswer, Stated};
+use crate::models::loads::{
+    self, first_outside, laid, window, LoadAnswer, Start, Stated, Statement,
+};
 use crate::models::writes::{refused, wrote, Written};
 use crate::subjects::told::{part, told, Told, LAST_PLACE};
 
@@ -31,6 +33,8 @@ pub struct Rules {
     pub agrees: fn(u64, u64) -> bool,
     /// Whether a type ends a text that had data of this type, if it had any.
     pub ends: fn(u8, Option<u8>) -> bool,
+    /// The start that an end of a type and with an address states.
+    pub start: fn(u8, u32) -> Option<Start>,
 }
 
 /// The right rules.
@@ -44,6 +48,7 @@ pub const RIGHT: Rules = Rules {
     counted: |kind, _| matches!(kind, 1..=3),
     agrees: |stated, seen| stated == seen,
     ends: |kind, _| matches!(kind, 7..=9),
+    start: |_, address| Some((5, address.into(), 0)),
 };
 
 /// What a line says.
@@ -215,10 +220,10 @@ fn lines(text: &[u8]) -> Vec<(usize, &[u8])> {
 /// What a text states by these rules.
 pub fn stated(rules: Rules, case: &LoadCase) -> Stated {
     let window = window(case, loads::RIGHT.fits)?;
-    let (mut records, mut latest) = (0, None);
-    let mut stated = Vec::new();
+    let mut latest = None;
+    let mut stated = Statement::default();
     for (line, bytes) in lines(&case.text) {
-        let told = |(number, a, b): Refusal| (REFUSED + number, a, b, line);
+        let told = |(number, a, b): Refusal| LoadAnswer::refused(number, a, b, line);
         let said = read(rules, bytes).map_err(told)?;
         if (rules.placed)(said.kind) {
             latest = Some(said.kind);
@@ -228,19 +233,20 @@ pub fn stated(rules: Rules, case: &LoadCase) -> Stated {
                 return Err(told((17, outside, 0)));
             }
             let places = addresses.iter().map(|at| (at - window.start) as usize);
-            stated.extend(places.zip(said.data.iter().copied()));
+            stated.places.extend(places.zip(said.data.iter().copied()));
         }
-        if said.kind == 5 && !(rules.agrees)(said.address.into(), records) {
-            return Err(told((20, said.address.into(), records)));
+        if said.kind == 5 && !(rules.agrees)(said.address.into(), stated.records) {
+            return Err(told((20, said.address.into(), stated.records)));
         }
         if (rules.counted)(said.kind, said.data.len()) {
-            records += 1;
+            stated.records += 1;
         }
         if (rules.ends)(said.kind, latest) {
-            return Ok((records, stated));
+            stated.start = (rules.start)(said.kind, said.address);
+            return Ok(stated);
         }
     }
-    Err((REFUSED + 13, 0, 0, 0))
+    Err(LoadAnswer::refused(13, 0, 0, 0))
 }
 
 /// A load by these rules.

@@ -93,10 +93,10 @@ pub trait Port: Sync {
         first: u32,
         page: &mut [u8],
         marks: &mut [u8],
-        line: &mut usize,
-        (a, b): (&mut u64, &mut u64),
+        (line, start): (&mut usize, &mut u8),
+        (a, b, c): (&mut u64, &mut u64, &mut u64),
     ) -> u32 {
-        ihex_sys::load(text, first, page, marks, line, a, b)
+        ihex_sys::load(text, first, page, marks, line, start, a, b, c)
     }
 
     fn page_file_length(&self, first: u32, page: &[u8], marks: &[u8], value: &mut u64) -> u32 {
@@ -146,10 +146,10 @@ pub trait Port: Sync {
         first: u32,
         page: &mut [u8],
         marks: &mut [u8],
-        line: &mut usize,
-        (a, b): (&mut u64, &mut u64),
+        (line, start): (&mut usize, &mut u8),
+        (a, b, c): (&mut u64, &mut u64, &mut u64),
     ) -> u32 {
-        ihex_sys::load_srecords(text, first, page, marks, line, a, b)
+        ihex_sys::load_srecords(text, first, page, marks, line, start, a, b, c)
     }
 }
 

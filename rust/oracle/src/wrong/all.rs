@@ -1,7 +1,7 @@
 //! Every wrong port, in the order in which they are tried.
 
 use crate::wrong::named::Wrong;
-use crate::wrong::{lines, loads, marks, places, sums, texts, writes};
+use crate::wrong::{lines, loads, marks, places, starts, sums, texts, writes};
 
 /// Every wrong port, but for those whose chunk reader or page writer is wrong, or what they do with S-records.
 pub fn ports() -> Vec<Wrong> {
@@ -18,6 +18,7 @@ pub fn ports() -> Vec<Wrong> {
         loads::placings(),
         loads::starts(),
         loads::others(),
+        starts::all(),
         marks::all(),
     ];
     parts.into_iter().flatten().collect()

@@ -7,7 +7,7 @@ use crate::models::loads::{
     first_outside, intel, placed_by, Latest, Placing, Rules, RIGHT, UNWRAPPED,
 };
 use crate::subjects::port::{Port, Real};
-use crate::wrong::named::Wrong;
+use crate::wrong::named::{tell, Numbers, Places, Wrong};
 
 /// What is done to the marks or the first number, from the code and the address after the window.
 type LoadChange = fn(u32, u64, &mut [u8], &mut u64);
@@ -22,10 +22,10 @@ impl Port for Load {
         first: u32,
         page: &mut [u8],
         marks: &mut [u8],
-        line: &mut usize,
-        (a, b): (&mut u64, &mut u64),
+        places: Places,
+        (a, b, c): Numbers,
     ) -> u32 {
-        let code = Real.load(text, first, page, marks, line, (a, b));
+        let code = Real.load(text, first, page, marks, places, (a, b, c));
         self.0(code, u64::from(first) + page.len() as u64, marks, a);
         code
     }
@@ -41,13 +41,11 @@ impl Port for Ruled {
         first: u32,
         page: &mut [u8],
         marks: &mut [u8],
-        line: &mut usize,
-        (a, b): (&mut u64, &mut u64),
+        places: Places,
+        numbers: Numbers,
     ) -> u32 {
         let case = LoadCase::of(text, first, page, marks);
-        let (code, x, y, n) = placed_by(self.0, &case, page, marks);
-        (*a, *b, *line) = (x, y, n);
-        code
+        tell(placed_by(self.0, &case, page, marks), places, numbers)
     }
 }
 

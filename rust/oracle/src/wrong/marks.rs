@@ -6,7 +6,7 @@ use crate::inputs::marks::{packed_length, unused};
 use crate::models::loads::{Rules, RIGHT};
 use crate::subjects::port::{Port, Real};
 use crate::wrong::loads::ruled;
-use crate::wrong::named::Wrong;
+use crate::wrong::named::{Numbers, Places, Wrong};
 
 /// The code of marks of another length, among others.
 const BAD_WINDOW: u32 = REFUSED + 16;
@@ -43,12 +43,12 @@ impl Port for Marked {
         first: u32,
         page: &mut [u8],
         marks: &mut [u8],
-        line: &mut usize,
-        (a, b): (&mut u64, &mut u64),
+        places: Places,
+        numbers: Numbers,
     ) -> u32 {
         let before = marks.to_vec();
         let made = Made {
-            code: Real.load(text, first, page, marks, line, (a, b)),
+            code: Real.load(text, first, page, marks, places, numbers),
             places: page.len(),
             before: &before,
         };

@@ -13,6 +13,7 @@ pub mod pages;
 pub mod places;
 pub mod replay;
 pub mod srecords;
+pub mod starts;
 pub mod sums;
 pub mod texts;
 pub mod writes;

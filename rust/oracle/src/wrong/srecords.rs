@@ -6,10 +6,10 @@ use crate::inputs::lines::LineCase;
 use crate::inputs::loads::LoadCase;
 use crate::inputs::srecords::{address_bytes, SWriteCase};
 use crate::models::lines::pour;
-use crate::models::srecords::{answered, placed_by, write, Rules, RIGHT};
+use crate::models::srecords::{answered, placed_by, read, write, Rules, RIGHT};
 use crate::subjects::port::{Port, Real};
 use crate::subjects::told::SEntry;
-use crate::wrong::named::{Numbers, Wrong};
+use crate::wrong::named::{tell, Numbers, Places, Wrong};
 
 /// A port that goes by other rules with S-records.
 struct Ruled(Rules);
@@ -52,13 +52,11 @@ impl Port for Ruled {
         first: u32,
         page: &mut [u8],
         marks: &mut [u8],
-        line: &mut usize,
-        (a, b): (&mut u64, &mut u64),
+        places: Places,
+        numbers: Numbers,
     ) -> u32 {
         let case = LoadCase::of(text, first, page, marks);
-        let (code, x, y, n) = placed_by(self.0, &case, page, marks);
-        (*a, *b, *line) = (x, y, n);
-        code
+        tell(placed_by(self.0, &case, page, marks), places, numbers)
     }
 }
 
@@ -91,13 +89,14 @@ impl Port for Write {
     }
 }
 
-/// A load that was asked for and made: its code and the number of its line, its values, and what page and marks
-/// held before.
+/// A load that was asked for and made: its code, the number of its line, its kind of start and its first two values,
+/// and what the marks held before.
 struct Made<'a> {
     code: u32,
     text: &'a [u8],
     marks: &'a [u8],
     line: &'a mut usize,
+    start: &'a mut u8,
     a: &'a mut u64,
     b: &'a mut u64,
 }
@@ -112,16 +111,17 @@ impl Port for Load {
         first: u32,
         page: &mut [u8],
         marks: &mut [u8],
-        line: &mut usize,
-        (a, b): (&mut u64, &mut u64),
+        (line, start): Places,
+        (a, b, c): Numbers,
     ) -> u32 {
         let before = marks.to_vec();
-        let code = Real.load_srecords(text, first, page, marks, line, (a, b));
+        let code = Real.load_srecords(text, first, page, marks, (line, start), (a, b, c));
         let mut made = Made {
             code,
             text,
             marks: &before,
             line,
+            start,
             a,
             b,
         };
@@ -152,6 +152,7 @@ pub fn all() -> Vec<Wrong> {
         placings(),
         counts(),
         ends(),
+        starts(),
         buffers(),
     ];
     parts.into_iter().flatten().collect()
@@ -480,6 +481,54 @@ fn ends() -> Vec<Wrong> {
                 code if code == REFUSED + 13 => 0,
                 code => code,
             })),
+        ),
+    ]
+}
+
+/// Those that tell another start.
+fn starts() -> Vec<Wrong> {
+    let start = |name, start| ruled(name, Rules { start, ..RIGHT });
+    let load = |name, change| -> Wrong { (name, Box::new(Load(change))) };
+    vec![
+        start("tells no start for an end with address 0", |_, address| {
+            Some((5, address.into(), 0)).filter(|_| address != 0)
+        }),
+        start("tells no start of S-records", |_, _| None),
+        start("tells no start for an S8", |kind, address| {
+            Some((5, address.into(), 0)).filter(|_| kind != 8)
+        }),
+        start("tells the address of an S9 as IP", |kind, address| {
+            Some(match kind {
+                9 => (3, 0, address.into()),
+                _ => (5, address.into(), 0),
+            })
+        }),
+        start("tells 16 bits of an S8's address", |kind, address| {
+            let most = if kind == 8 { 0xFFFF } else { u32::MAX };
+            Some((5, (address & most).into(), 0))
+        }),
+        start("tells 24 bits of an S7's address", |_, address| {
+            Some((5, (address & 0xFF_FFFF).into(), 0))
+        }),
+        load(
+            "tells a start of S-records that it refuses",
+            |made, _, _| {
+                if made.code == REFUSED + 17 {
+                    *made.start = 5;
+                }
+                made.code
+            },
+        ),
+        load(
+            "tells the address of the last line, also after the end",
+            |made, _, _| {
+                let last = made.text.rsplit(|&byte| byte == b'\n').next();
+                let address = last.and_then(|line| read(RIGHT, line).ok());
+                if let Some(said) = address.filter(|_| made.code == 0) {
+                    *made.b = said.address.into();
+                }
+                made.code
+            },
         ),
     ]
 }
