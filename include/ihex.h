@@ -26,9 +26,9 @@ extern "C" {
 #define IHEX_DATA 0                     /* a: offset; b, c: position and length of the payload in the pool */
 #define IHEX_END_OF_FILE 1              /* no values */
 #define IHEX_EXTENDED_SEGMENT_ADDRESS 2 /* a: bits 4 to 19 of the segment base address */
-#define IHEX_START_SEGMENT_ADDRESS 3    /* a: CS; b: IP */
+#define IHEX_START_SEGMENT_ADDRESS 3    /* a: CS; b: IP. A load has them in b and c */
 #define IHEX_EXTENDED_LINEAR_ADDRESS 4  /* a: bits 16 to 31 of the linear base address */
-#define IHEX_START_LINEAR_ADDRESS 5     /* a: EIP */
+#define IHEX_START_LINEAR_ADDRESS 5     /* a: EIP. A load has it in b */
 
 /* The types of S-records: what ihex_read_srecord returns for a record. a: the address; b, c: position and length of the data in the pool */
 #define IHEX_S0 0 /* a header: 2 address bytes */
@@ -97,7 +97,7 @@ extern "C" {
 #define IHEX_IN_CHUNK 1 /* len bytes of the chunk, from `from` on */
 #define IHEX_IN_CARRY 2 /* the carry's first len bytes; from is 0 */
 
-/* What an accepted load says of the start address: `start`. It is this, IHEX_START_SEGMENT_ADDRESS or IHEX_START_LINEAR_ADDRESS. */
+/* What an accepted load says of the start address: `start`. It is IHEX_NO_START, IHEX_START_SEGMENT_ADDRESS or IHEX_START_LINEAR_ADDRESS. */
 #define IHEX_NO_START 0 /* the text states none */
 
 /* A page has at most so many places, its marks at most so many bytes, and its file at most so many bytes: 7 for each place, and 58. */
@@ -235,7 +235,8 @@ uint32_t ihex_create_object_file_representation(const void *list, size_t list_le
  *   IHEX_START_LINEAR_ADDRESS   by a type 05; b: the address; c is 0
  *
  * The same start may be stated more than once. A start that differs from the first is refusal 21 at its line. Starts are compared as they are
- * stated: a type 03 and a type 05 always differ, and so do 1000:0000 and 0FFF:0010. After a refusal start and c are 0.
+ * stated: a type 03 and a type 05 always differ, and so do 1000:0000 and 0FFF:0010. After a refusal start is IHEX_NO_START, and c, like any
+ * value that a refusal does not have, is 0. What follows the line of the end record is not read: it changes no answer, page or mark.
  * A line ends at an LF, and one CR directly before the LF is not part of it. A last line without LF counts. Empty lines are skipped, but
  * counted: line numbers start at 1.
  * marks_len is IHEX_MARKS(page_len); what the marks held before does not matter. After an accepted load a place is marked exactly if the
@@ -249,7 +250,8 @@ uint32_t ihex_create_object_file_representation(const void *list, size_t list_le
  * exactly when B is, unless both state a start and the two differ. Where it is accepted, the counts of data records add, and its start is A's,
  * or B's if A states none; loading A and then B leaves the page that the joined text leaves on the same old page, and the marks of the joined
  * text are the union of the marks of both loads. Else it is refused as B is, at B's line plus the lines of A before its end record plus 1 (13
- * keeps 0). But if B states a start that differs from A's, before any line at which B is refused, that is 21 at that start's line, moved so too.
+ * keeps 0). But if B states a start that differs from A's, before its end record and before any line at which B is refused, that is 21 at that
+ * start's line, moved so too.
  * Noise: let a text be accepted, and then be damaged in one of these ways. One byte is changed, lost or added, or two neighbours are
  * swapped. It is cut off after any byte. Each line has at most one such slip, and every LF stays as it is. The load of the damaged text
  * into the same window is refused, or it is the very same load: what is returned, start, page and marks. Other damage can go unnoticed: two
@@ -312,7 +314,7 @@ uint32_t ihex_write_page(uint32_t first,
  * is.
  * Noise: what ihex_read_record promises about one wrong character holds for Intel HEX alone. The checksum of an S-record does not cover
  * the digit of its type. S1050000AABB95 puts AA at 0 and BB at 1. If its type is changed to 2, it puts BB at AA. As type 0 it is a header, as
- * type 3 a data record without data, and as type 7 an end: each is accepted. */
+ * type 3 a data record without data, and as type 7 an end, whose address a load returns as the start: each is accepted. */
 uint32_t ihex_read_srecord(const uint8_t *line, size_t line_len,
                            uint8_t *pool, size_t pool_len, size_t at,
                            uint64_t *a, uint64_t *b, uint64_t *c);
@@ -337,7 +339,7 @@ uint32_t ihex_to_srecord_string(uint8_t type, uint32_t address, size_t at, size_
  * numbers, page, marks and their lengths are as there. Returns 0 and counts data records (S1 to S3) in a; or IHEX_REFUSED and 16; or the
  * refusal of the first line that is refused, 1 to 9, 17 or 20, with that line's number in line (else 0); or 13, if no line is refused and none
  * is an end. The refusal's values are in a and b. The address of the end is the start: after an accepted load start is
- * IHEX_START_LINEAR_ADDRESS, b the address and c 0. So S9030000FC states the start 0, and 21 is not given. After a refusal start and c are 0.
+ * IHEX_START_LINEAR_ADDRESS, b the address and c 0. So S9030000FC states the start 0, and 21 is not given. After a refusal start is IHEX_NO_START, and c is 0.
  * Byte i of a data record lies at (address + i) modulo 2^32. There are no segments: S105FFFFAABB97 puts AA at FFFF and BB at 10000.
  * An S0 places nothing and is not counted. An S5 may stand anywhere, and more than once. It is compared with all data records before it, those
  * without data too, and not modulo 65,536: after 65,536 data records S5030000FC is refusal 20 with a = 0 and b = 65,536.

@@ -8,6 +8,7 @@ use mathlib.Core.Option.{Option, none, some}
 use mathlib.Core.List.{List, [], _∷_, _++_}
 use native.Mathlib.Omega.{arith}
 use lib.ListN.{length, getD}
+use Rattle.digits.specs.Common.{Every}
 use Rattle.marks.specs.Marks.{mark-at, flags, Unused-clear}
 use Rattle.record.specs.Refusals.{Refusal}
 use Rattle.record.specs.Meaning.{end-of-file}
@@ -32,10 +33,12 @@ use Rattle.srecload.specs.Claims as s-claims
 use Rattle.srecload.specs.Claims.{record-on as srecord-on, account as s-account}
 use Rattle.srecload.proofs.Claims.{reasons as s-reasons}
 use Rattle.srecload.proofs.OneReason.{one-reason as s-one-reason}
+use Rattle.srecload.specs.Stored.{No-end}
+use Rattle.srecload.proofs.Stored.{none-ends as s-none-ends}
 use Rattle.codes.specs.Codes.{OK, Load-numbers, load-numbers, kind-of-start, start-values}
 use Rattle.codes.proofs.Says.{was-accepted, was-refused}
 use Rattle.ihex.specs.Entries.{IhexLoadBy}
-use Rattle.ihex.specs.Loads.{Load-non-interference, Load-what-is-stored, Load-keeps, Load-packed-as-bytes, Load-reasoned, In-numbers, no-start, cs-ip, linear, Up-to, Ihex-load-start, Ihex-load-srecords-start, Load-refused-no-start, Ihex-refused-no-start, Ihex-load-srecords-refused-no-start, Ihex-non-interference, Ihex-what-is-stored, Ihex-load-keeps, Ihex-load-reasons, Ihex-packed-as-bytes, Ihex-load-srecords-non-interference, Ihex-load-srecords-what-is-stored, Ihex-load-srecords-keeps, Ihex-load-srecords-reasons, Ihex-load-srecords-packed-as-bytes, Ihex-both-kinds}
+use Rattle.ihex.specs.Loads.{Load-non-interference, Load-what-is-stored, Load-keeps, Load-packed-as-bytes, Load-reasoned, In-numbers, no-start, cs-ip, linear, Up-to, S-end, Ihex-load-start, Ihex-load-srecords-start, Load-refused-no-start, Ihex-refused-no-start, Ihex-load-srecords-refused-no-start, Ihex-non-interference, Ihex-what-is-stored, Ihex-load-keeps, Ihex-load-reasons, Ihex-packed-as-bytes, Ihex-load-srecords-non-interference, Ihex-load-srecords-what-is-stored, Ihex-load-srecords-keeps, Ihex-load-srecords-reasons, Ihex-load-srecords-packed-as-bytes, Ihex-both-kinds}
 
 -- ---- of any source
 
@@ -137,6 +140,10 @@ ihex-load-start text first page marks r p m x ok =
     go t e (no-end w all) q = let z : _≡_ {A = ℕ} 0 1 = cc in absurd (omega arith)
     go t e (at-line n v w d) q = at-end t e (d .ahead) (d .line) (d .later) n v (d .whole) (d .pass) (d .stops) q
 
+none-earlier : (ls : List (List ℕ)) → Every No-end ls → Every (λ (line : List ℕ). ¬ S-end line) ls
+none-earlier [] h = tt
+none-earlier (l ∷ ls) (n, h) = (λ e. n (e .0) (e .1), none-earlier ls h)
+
 pub ihex-load-srecords-start : Ihex-load-srecords-start
 ihex-load-srecords-start text first page marks r p m x ok =
     let (t, k) = accepts s-records text first page marks r p m x ok in
@@ -146,22 +153,21 @@ ihex-load-srecords-start text first page marks r p m x ok =
     inside = within first (length page)
 
     Told : Type 0
-    Told = (ahead : List (List ℕ)) × (line : List ℕ) × (later : List (List ℕ)) × (address : ℕ)
-        × (lines text ≡ ahead ++ (line ∷ later)) × (srecord-on line ≡ some (s-end address)) × In-numbers r (some (linear-address address))
+    Told = (ahead : List (List ℕ)) × (u : Up-to S-end (lines text) ahead) × In-numbers r (some (linear-address (u .last .0)))
 
     at-end : (t : Tally) → r ≡ load-numbers (accepted t) → (ahead : List (List ℕ)) (line : List ℕ) (later : List (List ℕ)) (n : ℕ) (v : Verdict)
-        → lines text ≡ ahead ++ (line ∷ later) → s-claims.Stops inside ahead line n v → v ≡ accepted t → Told
-    at-end t e ahead line later n v w (s-claims.the-end address is) q =
+        → lines text ≡ ahead ++ (line ∷ later) → All-pass (s-account inside) [] ahead → s-claims.Stops inside ahead line n v → v ≡ accepted t → Told
+    at-end t e ahead line later n v w pass (s-claims.the-end address is) q =
         let same : record { records = s-claims.data-records ahead; start = some (linear-address address) } ≡ t = cc in
-        (ahead, line, later, address, w, is, start-numbers r _ (rw (← same) at e))
-    at-end t e ahead line later n v w (s-claims.no-record f b is) q = let z : _≡_ {A = ℕ} 0 1 = cc in absurd (omega arith)
-    at-end t e ahead line later n v w (s-claims.first-outside before after pl is i o) q = let z : _≡_ {A = ℕ} 0 1 = cc in absurd (omega arith)
-    at-end t e ahead line later n v w (s-claims.count-differs c is d) q = let z : _≡_ {A = ℕ} 0 1 = cc in absurd (omega arith)
+        (ahead, record { line = line; later = later; whole = w; last = (address, is); none-earlier = none-earlier ahead (s-none-ends inside [] ahead pass) }, start-numbers r _ (rw (← same) at e))
+    at-end t e ahead line later n v w pass (s-claims.no-record f b is) q = let z : _≡_ {A = ℕ} 0 1 = cc in absurd (omega arith)
+    at-end t e ahead line later n v w pass (s-claims.first-outside before after pl is i o) q = let z : _≡_ {A = ℕ} 0 1 = cc in absurd (omega arith)
+    at-end t e ahead line later n v w pass (s-claims.count-differs c is d) q = let z : _≡_ {A = ℕ} 0 1 = cc in absurd (omega arith)
 
     go : (t : Tally) → r ≡ load-numbers (accepted t) → {v : Verdict} → s-claims.Why text first page marks v → v ≡ accepted t → Told
     go t e (bad-one w) q = let z : _≡_ {A = ℕ} 0 1 = cc in absurd (omega arith)
     go t e (no-end w all) q = let z : _≡_ {A = ℕ} 0 1 = cc in absurd (omega arith)
-    go t e (at-line n v w d) q = at-end t e (d .ahead) (d .line) (d .later) n v (d .whole) (d .stops) q
+    go t e (at-line n v w d) q = at-end t e (d .ahead) (d .line) (d .later) n v (d .whole) (d .pass) (d .stops) q
 
 pub ihex-refused-no-start : Ihex-refused-no-start
 ihex-refused-no-start = load-refused-no-start intel

@@ -116,12 +116,15 @@ Ihex-load-start =
     → (ahead : List (List ℕ)) × (o : Option Start)
     × Up-to (λ (line : List ℕ). record-on line ≡ some end-of-file) (lines text) ahead × Starts-at start-on ahead o × In-numbers r o
 
--- where `ihex_load_srecords` does, it is the address of the end, as a linear address
+-- a line is an end of S-records, with this address
+abbrev pub S-end : (line : List ℕ) → Type 0
+S-end line = (address : ℕ) × (srecord-on line ≡ some (s-end address))
+
+-- where `ihex_load_srecords` does, it is the address of the first end, as a linear address
 abbrev pub Ihex-load-srecords-start : Type 0
 Ihex-load-srecords-start =
     (text : List ℕ) (first : ℕ) (page marks : List ℕ) (r : Load-numbers) (p m : List ℕ) → IhexLoadSrecords text first page marks r p m → r .code ≡ OK
-    → (ahead : List (List ℕ)) × (line : List ℕ) × (later : List (List ℕ)) × (address : ℕ)
-    × (lines text ≡ ahead ++ (line ∷ later)) × (srecord-on line ≡ some (s-end address)) × In-numbers r (some (linear-address address))
+    → (ahead : List (List ℕ)) × (u : Up-to S-end (lines text) ahead) × In-numbers r (some (linear-address (u .last .0)))
 
 -- a refusal reports no start
 abbrev pub Load-refused-no-start : {S : Type 0} → Source S → Type 0

@@ -134,7 +134,7 @@ fn put(base: Base, offset: u16, bytes: &[u8], first: u32, page: &mut [u8], marks
     }
 }
 
-// What a start comes to in the first pass: the first is kept, and another is refused.
+// What a start comes to in the first pass: it is kept if it is the first or the same again, and else it is refused.
 fn judge_start(there: Walk, tally: Tally, stated: Start) -> Turn
     ensures { λ r. ⌜ MeetsStart there tally stated r ⌝ }
 {

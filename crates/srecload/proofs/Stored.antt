@@ -82,7 +82,7 @@ lie inside ahead l (counts-right c e h) = rw e tt
 -- ---- a load that is accepted
 
 -- each line that passes is no end
-none-ends : (inside : ℕ → Bool) (ahead ls : List (List ℕ)) → All-pass (account inside) ahead ls → Every No-end ls
+pub none-ends : (inside : ℕ → Bool) (ahead ls : List (List ℕ)) → All-pass (account inside) ahead ls → Every No-end ls
 none-ends inside ahead [] p = tt
 none-ends inside ahead (l ∷ ls) (p, ps) = (go p, none-ends inside (ahead ++ (l ∷ [])) ls ps)
   where

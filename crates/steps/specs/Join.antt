@@ -186,7 +186,7 @@ Joined-one-answer =
 abbrev pub No-start : List Step → Type 0
 No-start s = Every (λ (x : Step). (n : ℕ) (start : Start) → x ≢ step n (starts start)) s
 
--- so where at most one of both states a start, the answer is B's, after A's tally and lines
+-- so where A states no start, or no step of B states one, the answer is B's, after A's tally and lines
 abbrev pub Joined-with-one-start : Type 1
 Joined-with-one-start =
     (S : Type 0) (src : Source S) (reset : List ℕ) → Joinable src reset

@@ -15,13 +15,13 @@ unfoldable pub first-start : (start-on : List ℕ → Option Start) → List (Li
 first-start start-on [] = none
 first-start start-on (line ∷ ls) = or-else (start-on line) (first-start start-on ls)
 
--- lines start at none if no line states a start, and else at the start that the first such line states
+-- the start of lines: none if no line states a start, and else the one that the first such line states
 pub data Starts-at (start-on : List ℕ → Option Start) (ls : List (List ℕ)) : Option Start → Type 0 where
   nowhere : Every (λ (line : List ℕ). start-on line ≡ none) ls → Starts-at start-on ls none
   there : (before : List (List ℕ)) (line : List ℕ) (after : List (List ℕ)) (s : Start) → ls ≡ before ++ (line ∷ after)
       → Every (λ (earlier : List ℕ). start-on earlier ≡ none) before → start-on line ≡ some s → Starts-at start-on ls (some s)
 
--- lines start where the first start is, and nowhere else
+-- `first-start` is the start of lines, and nothing else is
 abbrev pub Starts-at-made-so : Type 0
 Starts-at-made-so = (start-on : List ℕ → Option Start) (ls : List (List ℕ)) → Starts-at start-on ls (first-start start-on ls)
 

@@ -123,7 +123,7 @@ unfoldable pub verdict : Option Decision → Verdict
 verdict none = refused missing-end-of-file-record 0
 verdict (some (by line v)) = v
 
--- the placements before the first step that ends the text or is refused, in order
+-- the placements before the first step that ends the text or fails by itself, in order: meant for steps that are accepted
 unfoldable pub stated : List Step → List Placement
 stated [] = []
 stated (step n (places what) ∷ steps) = what ++ stated steps

@@ -4,7 +4,7 @@ fn main() {
     let (mut page, mut marks) = ([0; 4], [0; marks_len(4)]);
     let mut start_of = |text: &str| load(text, 0, &mut page, &mut marks).map(|loaded| loaded.start);
 
-    // A record of type 03 states CS and IP, and one of type 05 a linear address. Most texts have neither.
+    // A record of type 03 states CS and IP, and one of type 05 a linear address. A text may have neither.
     let segment = ":0400000310000000E9\n:00000001FF\n";
     let stated = start_of(segment).unwrap().unwrap();
     assert_eq!(stated, Start::Segment { cs: 0x1000, ip: 0 });

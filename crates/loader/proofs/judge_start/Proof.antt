@@ -1,4 +1,4 @@
--- `loader::judge_start` meets its contract: the first start is kept, and another is refused.
+-- `loader::judge_start` meets its contract: the first start, or the same again, is kept, and another is refused.
 -- Assumes nothing.
 use mathlib.Core.Path.{_≡_, sym, _∙_}
 use borrow.Author.Needs.{needs}
