@@ -8,7 +8,7 @@ use Rattle.steps.specs.Steps.{cs-with-ip, linear-address}
 use Rattle.codes.specs.declared.Coded.{Coded}
 use Rattle.codes.specs.declared.Spot.{Spot}
 use Rattle.codes.specs.Codes.{Message, Coded-as}
-use Rattle.codes.specs.Claims.{Code-answer-unique, Code-sanswer-unique, Code-reply-unique, Code-chunk-reply-unique, Code-attempt-unique, Code-sattempt-unique, Code-loading-unique, Code-paged-unique, Line-at-unique, Start-kind-unique, Start-returns, State-from-unique, Flags-from-unique, Chunks-from-unique, Chunk-flags-from-unique, Spot-of-unique, Place-from-unique}
+use Rattle.codes.specs.Claims.{Code-answer-unique, Code-sanswer-unique, Code-reply-unique, Code-chunk-reply-unique, Code-attempt-unique, Code-sattempt-unique, Code-loading-unique, Code-paged-unique, Code-salvaged-unique, Line-at-unique, Start-kind-unique, Start-returns, State-from-unique, Flags-from-unique, Chunks-from-unique, Chunk-flags-from-unique, Spot-of-unique, Place-from-unique}
 
 one-coding : {m : Message} {r r′ : Coded} → Coded-as m r → Coded-as m r′ → r ≡ r′
 one-coding {r = r} {r′ = r′} x y =
@@ -45,6 +45,9 @@ code-loading-unique answer r r′ x y = one-coding x y
 
 pub code-paged-unique : Code-paged-unique
 code-paged-unique answer r r′ x y = one-coding x y
+
+pub code-salvaged-unique : Code-salvaged-unique
+code-salvaged-unique answer r r′ x y = one-coding x y
 
 pub line-at-unique : Line-at-unique
 line-at-unique answer r r′ x y = x .answer ∙ sym (y .answer)

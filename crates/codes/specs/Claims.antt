@@ -22,9 +22,11 @@ use Rattle.steps.specs.Steps.{Start}
 use Rattle.steps.specs.Told.{told-loading}
 use Rattle.page.specs.declared.Paged.{Paged}
 use Rattle.page.specs.Told.{told-page}
+use Rattle.salvage.specs.declared.Salvaged.{Salvaged}
+use Rattle.salvage.specs.Told.{told-salvage}
 use Rattle.codes.specs.declared.Coded.{Coded}
 use Rattle.codes.specs.declared.Spot.{Spot}
-use Rattle.codes.specs.Codes.{Message, Coded-as, reading, reading-chunk, writing, loading, LineAt, start-values, kind-of-start, StartKind}
+use Rattle.codes.specs.Codes.{Message, Coded-as, reading, reading-chunk, writing, loading, salvaging, LineAt, start-values, kind-of-start, StartKind}
 use Rattle.codes.specs.States.{state-of, flags-of, chunks-of, chunk-flags-of, lies-of, from-of, len-of, place-of, StateFrom, FlagsFrom, ChunksFrom, ChunkFlagsFrom, Spot-as, PlaceFrom}
 
 -- ---- no second answer meets a contract
@@ -56,6 +58,9 @@ Code-loading-unique = One-coding Loading (λ x. loading (told-loading x))
 
 abbrev pub Code-paged-unique : Type 0
 Code-paged-unique = One-coding Paged (λ x. writing (some (told-page x)))
+
+abbrev pub Code-salvaged-unique : Type 0
+Code-salvaged-unique = One-coding Salvaged (λ x. salvaging (told-salvage x))
 
 abbrev pub Line-at-unique : Type 0
 Line-at-unique = (x : Loading) (r r′ : ℕ) → LineAt (told-loading x) r → LineAt (told-loading x) r′ → r ≡ r′

@@ -10,6 +10,7 @@ use Rattle.reader.specs.Told.{Told, gives, refuses, done}
 use Rattle.writer.specs.Told.{Told-written, wrote, refuses as refuses-to-write}
 use Rattle.chunks.specs.Next.{Word, tells, used-up}
 use Rattle.steps.specs.Steps.{Start, cs-with-ip, linear-address, Verdict, accepted, refused}
+use Rattle.salvage.specs.Told.{Told-salvage, saves, refuses as refuses-to-salvage}
 use Rattle.codes.specs.declared.Coded.{Coded}
 
 -- a code, and values
@@ -78,6 +79,11 @@ start-values (some (linear-address address)) = address ∷ []
 abbrev pub loading : Verdict → Message
 loading (accepted tally) = message OK (tally .records ∷ start-values (tally .start))
 loading (refused r line) = refused-with r
+
+-- OK, the length of the clean file, and how many entries the list has
+abbrev pub salvaging : Told-salvage → Message
+salvaging (saves length entries) = message OK (length ∷ entries ∷ [])
+salvaging (refuses-to-salvage r) = refused-with r
 
 -- the number of the line that a refusal names, and 0 where it names none
 abbrev pub line-at : Verdict → ℕ

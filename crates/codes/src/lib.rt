@@ -15,6 +15,8 @@ use reader::Values;
 use record::Record;
 use record::refusals;
 use record::types;
+use salvage::SalvageError;
+use salvage::Salvaged;
 use srec::SAnswer;
 use srec::SRecord;
 use srec::SWriterError;
@@ -38,7 +40,8 @@ ghost use Rattle.chunks.specs.Next.{word-of};
 ghost use Rattle.steps.specs.Told.{told-loading, loader-refusal, tallied};
 ghost use Rattle.steps.specs.Steps.{accepted};
 ghost use Rattle.page.specs.Told.{told-page, page-refusal};
-ghost use Rattle.codes.specs.Codes.{Coded-as, refused-with, reading, reading-chunk, writing, loading, LineAt, StartKind};
+ghost use Rattle.salvage.specs.Told.{told-salvage, salvage-refusal};
+ghost use Rattle.codes.specs.Codes.{Coded-as, refused-with, reading, reading-chunk, writing, loading, salvaging, LineAt, StartKind};
 ghost use Rattle.codes.specs.States.{Flag, StateFrom, FlagsFrom, ChunksFrom, ChunkFlagsFrom, Spot-as, PlaceFrom};
 
 // The codes that are not the type of a record. A refusal's number is added to REFUSED.
@@ -312,6 +315,25 @@ pub fn code_paged(answer: Paged) -> Coded
     match answer {
         Paged::Wrote(n) => four(OK, n as u64, 0, 0),
         Paged::Refused(e) => code_page_error(e),
+    }
+}
+
+fn code_salvage_error(e: SalvageError) -> Coded
+    ensures { λ r. ⌜ Coded-as (refused-with (salvage-refusal e)) r ⌝ }
+{
+    match e {
+        SalvageError::OutputFull => refused(refusals::OUTPUT_FULL, 0, 0),
+        SalvageError::ListFull => refused(refusals::LIST_FULL, 0, 0),
+    }
+}
+
+// The length of the clean file, and how many entries the list has.
+pub fn code_salvaged(answer: Salvaged) -> Coded
+    ensures { λ r. ⌜ Coded-as (salvaging (told-salvage answer)) r ⌝ }
+{
+    match answer {
+        Salvaged::Saved { length, entries } => four(OK, length as u64, entries as u64, 0),
+        Salvaged::Refused(e) => code_salvage_error(e),
     }
 }
 

@@ -12,3 +12,4 @@ pub mod Objects
 pub mod Pages
 pub mod Noise
 pub mod Joined
+pub mod Salvage

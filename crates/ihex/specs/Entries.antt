@@ -25,8 +25,10 @@ use Rattle.window.specs.Load.{load-window}
 use Rattle.loader.specs.Placing.{intel}
 use Rattle.srecload.specs.Placing.{s-records}
 use Rattle.page.specs.File.{page-text}
+use Rattle.salvage.specs.Salvage.{refusal-for}
+use Rattle.salvage.specs.Told.{places-in, answered-by, output-by, list-by}
 use Rattle.entries.specs.Attempts.{told-of, output-with, record-text, srecord-text, list-text}
-use Rattle.codes.specs.Codes.{value, Numbers, Load-numbers, reading, reading-chunk, writing, load-numbers}
+use Rattle.codes.specs.Codes.{value, Numbers, Load-numbers, reading, reading-chunk, writing, load-numbers, salvaging}
 use Rattle.codes.specs.States.{flags-of, chunk-flags-of, Spotted, place-of}
 
 -- what is returned for one line, in numbers, and the pool after it
@@ -131,6 +133,14 @@ IhexLoad text first page marks r page′ marks′ = IhexLoadBy intel text first 
 
 abbrev pub IhexLoadSrecords : (text : List ℕ) (first : ℕ) (page marks : List ℕ) (r : Load-numbers) (page′ marks′ : List ℕ) → Type 0
 IhexLoadSrecords text first page marks r page′ marks′ = IhexLoadBy s-records text first page marks r page′ marks′
+
+-- what can be saved of a text was saved: an answer in three numbers, and the output and the list after it
+pub record IhexSalvage (text out list : List ℕ) (r a b : ℕ) (out′ list′ : List ℕ) : Type 0 where
+  pub code-is : r ≡ salvaging (answered-by (refusal-for text (length out) (places-in list)) text) .code
+  pub a-is : a ≡ value (salvaging (answered-by (refusal-for text (length out) (places-in list)) text)) 0
+  pub b-is : b ≡ value (salvaging (answered-by (refusal-for text (length out) (places-in list)) text)) 1
+  pub output-is : out′ ≡ output-by (refusal-for text (length out) (places-in list)) text out
+  pub list-is : list′ ≡ list-by (refusal-for text (length out) (places-in list)) text list
 
 -- how long the file of a page is: an answer in two numbers
 pub record IhexPageFileLength (first : ℕ) (page marks : List ℕ) (r v : ℕ) : Type 0 where

@@ -11,3 +11,4 @@ pub mod Claims
 pub mod RoundTrip
 pub mod Noise
 pub mod Joined
+pub mod Salvage

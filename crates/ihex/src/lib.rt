@@ -4,7 +4,7 @@ use chunks::Place;
 ghost use mathlib.Core.Path.{_≡_};
 ghost use Rattle.checksum.specs.Checksum.{Checksum};
 ghost use Rattle.codes.specs.States.{state-of, chunks-of, place-of};
-ghost use Rattle.ihex.specs.Entries.{start-of, six, TellStep, IhexReadRecord, IhexReadSrecord, IhexNext, IhexNextChunk, IhexFinish, IhexShown, IhexToRecordString, IhexToSrecordString, IhexCreateObjectFileRepresentation, IhexLoad, IhexLoadSrecords, IhexPageFileLength, IhexWritePage};
+ghost use Rattle.ihex.specs.Entries.{start-of, six, TellStep, IhexReadRecord, IhexReadSrecord, IhexNext, IhexNextChunk, IhexFinish, IhexShown, IhexToRecordString, IhexToSrecordString, IhexCreateObjectFileRepresentation, IhexLoad, IhexLoadSrecords, IhexPageFileLength, IhexWritePage, IhexSalvage};
 
 // The checksum of the bytes.
 #[no_mangle]
@@ -363,5 +363,22 @@ pub extern "C" fn ihex_write_page(
 {
     let told = codes::code_paged(page::write_page(first, page, marks, out));
     *value = told.a;
+    told.code
+}
+
+// What can be saved of a text, and a list of what was dropped.
+#[no_mangle]
+pub extern "C" fn ihex_salvage(
+    text: &[u8],
+    out: &mut [u8],
+    list: &mut [u8],
+    a: &mut u64,
+    b: &mut u64,
+) -> u32
+    ensures { λ r. ⌜ IhexSalvage (now (text .entry)) (now (out .entry)) (now (list .entry)) r (now (a .exit)) (now (b .exit)) (now (out .exit)) (now (list .exit)) ⌝ }
+{
+    let told = codes::code_salvaged(salvage::salvage(text, out, list));
+    *a = told.a;
+    *b = told.b;
     told.code
 }

@@ -98,7 +98,7 @@ finishes-so s text pool = go (s .finished) refl (next-line 0 (drop (s .position)
         used (answered (judge line) (length pool) 0) (is-full (answered (judge line) (length pool) 0)) refl
         (length text - length left) (next-number s n) (poured (judge line) pool 0)
 
-module _ (s : State) (text pool : List ℕ) (r : Replied) (pool′ : List ℕ) (o : s .options ≡ default-options) (c : Countable s text) (room : length pool ≡ 255) (next : Next s text pool 0 r pool′) where
+module _ {opts : ReaderOptions} (s : State) (text pool : List ℕ) (r : Replied) (pool′ : List ℕ) (o : s .options ≡ opts) (c : Countable s text) (room : length pool ≡ 255) (next : Next s text pool 0 r pool′) where
   -- the pool has room for whatever a line says
   fits : (line : List ℕ) (said : Said) → judge line ≡ said → is-full (answered said (length pool) 0) ≡ false
   fits line said j = subst (λ (y : Said). is-full (answered y (length pool) 0) ≡ false) j (never-full line (length pool) 0 (omega arith))
@@ -144,6 +144,32 @@ module _ (s : State) (text pool : List ℕ) (r : Replied) (pool′ : List ℕ) (
           let z : _≡_ {A = ℕ} 0 1 = cc in
           absurd (omega arith)
 
+  -- a line was refused: what is left after it
+  pub record After-refused (e : ReaderError) : Type 0 where
+    pub more : List Numbered
+    pub first : unread s text ≡ on (r .state .line) (wrong (refusal-of e)) ∷ more
+    pub left : unread (r .state) text ≡ (if opts .«stop_after_first_error» then [] else more)
+    pub options : r .state .options ≡ opts
+    pub countable : Countable (r .state) text
+
+  pub after-refused : (e : ReaderError) → r .reply ≡ Refused e → After-refused e
+  unfolding answered stops
+  after-refused e q =
+      let (more, u) = came-refused e q in
+      let n = r .state .line in
+      let said = wrong (refusal-of e) in
+      let h = heard s text pool 0 c n said more u in
+      let (line, j) = unread-judged s text n said more u in
+      let nf = fits line said j in
+      record {
+        more = more;
+        first = u;
+        left = ap (λ (y : State). unread y text) (next .state) ∙ h .left nf
+            ∙ ap (λ (b : Bool). if b then [] else more) (ends-stops (s .options) said (length pool) 0 nf ∙ ap (λ (y : ReaderOptions). stops y said) o);
+        options = ap (λ (y : State). y .options) (next .state) ∙ h .options ∙ o;
+        countable = subst (λ (y : State). Countable y text) (sym (next .state)) (h .countable);
+      }
+
   -- a record was read
   pub record One (x : Record) : Type 0 where
     pub kind : ℕ
@@ -153,9 +179,9 @@ module _ (s : State) (text pool : List ℕ) (r : Replied) (pool′ : List ℕ) (
     pub first : unread s text ≡ on (r .state .line) (says kind address payload) ∷ more
     pub means : meant x pool′ ≡ meaning kind address payload
     pub lies : length pool′ ≡ 255 → Lies-in x pool′
-    pub left : unread (r .state) text ≡ (if is-end (meaning kind address payload) && true then [] else more)
-    pub finished : r .state .finished ≡ is-end (meaning kind address payload) && true
-    pub options : r .state .options ≡ default-options
+    pub left : unread (r .state) text ≡ (if is-end (meaning kind address payload) && opts .«stop_after_eof» then [] else more)
+    pub finished : r .state .finished ≡ is-end (meaning kind address payload) && opts .«stop_after_eof»
+    pub options : r .state .options ≡ opts
     pub countable : Countable (r .state) text
 
   pub came-read : (x : Record) → r .reply ≡ Read x → One x
@@ -194,6 +220,6 @@ module _ (s : State) (text pool : List ℕ) (r : Replied) (pool′ : List ℕ) (
           again e = cc
 
           ends : (kind address : ℕ) (payload : List ℕ) → is-full (given (meaning kind address payload) (length pool) 0) ≡ false
-              → ends-row (s .options) (given (meaning kind address payload) (length pool) 0) ≡ is-end (meaning kind address payload) && true
+              → ends-row (s .options) (given (meaning kind address payload) (length pool) 0) ≡ is-end (meaning kind address payload) && opts .«stop_after_eof»
           ends kind address payload nf =
               ends-stops (s .options) (says kind address payload) (length pool) 0 nf ∙ ap (λ (y : ReaderOptions). stops y (says kind address payload)) o

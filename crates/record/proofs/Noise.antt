@@ -223,7 +223,7 @@ one-answer-to-wrong A refuse same position c d line a a′ (other-case h i t) (o
 -- ---- lengths
 
 -- a line's length, from its payload's
-format-length : {line : List ℕ} {kind address : ℕ} {payload : List ℕ} → Format line kind address payload → length line ≡ 11 + 2 * length payload
+pub format-length : {line : List ℕ} {kind address : ℕ} {payload : List ℕ} → Format line kind address payload → length line ≡ 11 + 2 * length payload
 format-length {line} {kind} {address} {payload} f =
     omega (arith, ap length (f .starts), spells-length (f .spells), length-append payload (f .check ∷ []))
 

@@ -86,6 +86,11 @@ count-mismatch stated seen = refusal 20 (stated ∷ seen ∷ [])
 abbrev pub start-conflict : Refusal
 start-conflict = refusal 21 []
 
+-- of a salvage, beside 15; its list also names lines by 1 to 9, and an added end record by 13
+
+abbrev pub list-full : Refusal
+list-full = refusal 22 []
+
 -- of an S-record to be written, beside 9, 11, 12 and 15
 
 abbrev pub address-too-wide : Refusal

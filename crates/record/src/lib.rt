@@ -75,6 +75,8 @@ pub mod refusals {
 
     pub const START_CONFLICT: u8 = 21;
 
+    pub const LIST_FULL: u8 = 22;
+
     pub const ADDRESS_TOO_WIDE: u8 = 25;
 }
 

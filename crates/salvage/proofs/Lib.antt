@@ -1,0 +1,13 @@
+pub mod Examples
+pub mod Fates
+pub mod Stating
+pub mod Clean
+pub mod Accounts
+pub mod Claims
+pub mod Broken
+pub mod Room
+pub mod Bytes
+pub mod Counting
+pub mod Sorting
+pub mod Putting
+pub mod Told
