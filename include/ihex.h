@@ -70,6 +70,7 @@ extern "C" {
 #define IHEX_BAD_MARK 19                    /* a page to be written; value: the place of the lowest unused bit of its marks that is set */
 #define IHEX_COUNT_MISMATCH 20              /* an S5; a: the count that it states; b: how many data records the text has before it */
 #define IHEX_START_CONFLICT 21              /* a type 03 or 05 that states another start than the first that the text states */
+#define IHEX_LIST_FULL 22                   /* a salvage; its list has more entries than there is room for */
 #define IHEX_ADDRESS_TOO_WIDE 25            /* an S-record to be written; its address needs more bytes than its type has */
 
 /* The flags of a state. The other bits are not read, and are 0 at exit; ihex_next has the first three only. */
@@ -128,6 +129,19 @@ struct ihex_record {
 };
 
 #define IHEX_RECORD_SIZE 24
+
+/* An entry in the list of a salvage: a line that was dropped, or the end record that was added. Its 16 bytes, each number low byte first:
+ * 0 to 3 why, 4 and 5 a, 6 and 7 b, 8 to 15 line; so on a little-endian machine a list is an array of this struct. */
+struct ihex_dropped {
+    uint32_t why;  /* IHEX_BASE_UNKNOWN, the number of a refusal, 1 to 9, or IHEX_MISSING_END_OF_FILE_RECORD */
+    uint16_t a, b; /* the values of the refusal; 0 where there is none */
+    uint64_t line; /* the number of the line, from 1 on; 0 with IHEX_MISSING_END_OF_FILE_RECORD */
+};
+
+#define IHEX_DROPPED_SIZE 16
+
+/* Why a good data record is dropped: a line before it was refused, and no type 02 or 04 has come since. */
+#define IHEX_BASE_UNKNOWN 0
 
 /* The sum of the bytes, left to wrap at 256, then negated modulo 256.
  * Of no bytes it is 0. */
@@ -281,6 +295,44 @@ uint32_t ihex_write_page(uint32_t first,
                          const uint8_t *marks, size_t marks_len,
                          uint8_t *out, size_t out_len,
                          uint64_t *value);
+
+/* Saves what can be saved of a noisy capture. A clean file goes into the output, from its start on, and a list of what was dropped into
+ * the list. Returns 0, with the length of the clean file in a and the number of entries in b. Or it returns IHEX_REFUSED and 15, if the clean
+ * file is longer than the output; or else IHEX_REFUSED and 22, if there are more than list_len / IHEX_DROPPED_SIZE entries. Then a and b are
+ * 0, and no byte of output or list changes. After the two lengths no byte changes either.
+ * Lines are cut and numbered as in ihex_load. Reading goes on past refused lines and ends at the first end record: what follows it is not
+ * read. After a refused line the base is unknown, since the line may stand for a type 02 or 04. Data records are dropped then, also those
+ * without data, until the next good type 02 or 04. At the beginning the base is known. Every other record up to the end is kept, in order, and
+ * written as ihex_to_record_string writes it, with one LF after it. If the text has no end record, one is added.
+ * The list has an entry for each line that was dropped, in order. An end record that was added is its last entry.
+ *
+ *   why                              a and b     line
+ *   IHEX_BASE_UNKNOWN                0           a data record, dropped for its base
+ *   1 to 9                           its values  a refused line
+ *   IHEX_MISSING_END_OF_FILE_RECORD  0           0: an end record was added
+ *
+ * The clean file has at most 13 bytes more than the text. The list has at most one entry for each line that has a byte, and one.
+ * Nothing is lost in silence: each line with a byte, through the end record, is in the clean file as its record, or in the list. Line numbers
+ * ascend in the list.
+ * ihex_load accepts the clean file unless it refuses with 17 or 21: two starts that differ are both kept. Salvaged again, the clean file is
+ * itself, and the list is empty.
+ * What can be relied on: let the lines of the capture stand, in order, for the first lines of an undamaged text. Lines that are not refused
+ * are equal. A stretch of one or more refused lines may stand for any stretch of lines that does not hold the end record. Then each byte that
+ * the clean file states is stated by the undamaged text before its end record, at the same address. The same holds for an undamaged
+ * text that is cut off after any byte; and for one with nothing but empty lines after its end record, in which one byte is changed, lost or
+ * added.
+ * Not promised, each with a smallest text:
+ * - A kept byte may be older than the last one stated. In :0100000011EE, :0100000022DE, :00000001FF the second line was damaged, and stated 22
+ *   at address 0. The clean file states 11 there.
+ * - If the end record is damaged, what follows it gets in. In :00000001FE, :020000040000FA, :010000009966, :00000001FF the first line was the
+ *   end record. The clean file states 99 at address 0. Line 1 is in the list, with refusal 6.
+ * - A line that was emptied or lost whole leaves no trace. In an empty line, :0100000011EE, :00000001FF the first line was :020000040001F9.
+ *   The clean file states 11 at address 0, not at 10000, and the list is empty.
+ * - Two wrong characters in one line can cancel each other. Such a line is not refused: :0100000012ED for :0100000011EE. */
+uint32_t ihex_salvage(const uint8_t *text, size_t text_len,
+                      uint8_t *out, size_t out_len,
+                      uint8_t *list, size_t list_len,
+                      uint64_t *a, uint64_t *b);
 
 /* ---- S-records
  *

@@ -9,7 +9,7 @@
 //! [`Record::from_record_bytes`]), line numbers and columns ([`Reader::numbered`],
 //! [`ReaderError::column`]), a text that comes in chunks ([`ChunkReader`]), the loading of a text
 //! into a page with marks, and its start ([`load`], [`Marks`], [`Start`]), the writing of such a page
-//! ([`write_page`]), and S-records ([`srec`]).
+//! ([`write_page`]), what can be saved of a noisy capture ([`salvage`](fn@salvage)), and S-records ([`srec`]).
 //!
 //! No function panics, whatever its arguments.
 //!
@@ -34,6 +34,7 @@ mod marks;
 mod page;
 mod reader;
 mod record;
+mod salvage;
 pub mod srec;
 mod writer;
 
@@ -44,6 +45,7 @@ pub use marks::*;
 pub use page::*;
 pub use reader::*;
 pub use record::*;
+pub use salvage::*;
 pub use writer::*;
 
 /// Ends the program where the archive answers a code that the function it calls does not have, so

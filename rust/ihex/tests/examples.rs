@@ -24,5 +24,6 @@ example!(load, "../examples/load.rs");
 example!(start, "../examples/start.rs");
 example!(marks, "../examples/marks.rs");
 example!(page, "../examples/page.rs");
+example!(salvage, "../examples/salvage.rs");
 example!(srecord, "../examples/srecord.rs");
 example!(srecords, "../examples/srecords.rs");

@@ -41,6 +41,13 @@ pub const START_LINEAR_ADDRESS: u8 = 5;
 /// How many bytes stand for a record in the list that an object is written from.
 pub const ENTRY: usize = 24;
 
+/// How many bytes stand for an entry in the list of a salvage.
+pub const DROPPED: usize = 16;
+/// Why an entry is in the list: it is a data record, and its base is unknown.
+pub const BASE_UNKNOWN: u32 = 0;
+/// Why an entry is in the list: the text has no end record, and one was added.
+pub const MISSING_END_OF_FILE_RECORD: u32 = 13;
+
 /// The most places of a page.
 pub const MAX_PAGE: usize = 65_536;
 /// The most bytes of a page's file.
@@ -179,6 +186,16 @@ mod c {
             out: *mut u8,
             out_len: usize,
             value: *mut u64,
+        ) -> u32;
+        pub fn ihex_salvage(
+            text: *const u8,
+            text_len: usize,
+            out: *mut u8,
+            out_len: usize,
+            list: *mut u8,
+            list_len: usize,
+            a: *mut u64,
+            b: *mut u64,
         ) -> u32;
         pub fn ihex_read_srecord(
             line: *const u8,
@@ -405,6 +422,14 @@ pub fn write_page(first: u32, page: &[u8], marks: &[u8], out: &mut [u8], value: 
     let (marks, marks_len) = (marks.as_ptr(), marks.len());
     let (out, out_len) = (out.as_mut_ptr(), out.len());
     unsafe { c::ihex_write_page(first, page, page_len, marks, marks_len, out, out_len, value) }
+}
+
+/// What can be saved of a text, into the output, and what was dropped, into the list: [`DROPPED`] bytes an entry.
+pub fn salvage(text: &[u8], out: &mut [u8], list: &mut [u8], a: &mut u64, b: &mut u64) -> u32 {
+    let (text, text_len) = (text.as_ptr(), text.len());
+    let (out, out_len) = (out.as_mut_ptr(), out.len());
+    let (list, list_len) = (list.as_mut_ptr(), list.len());
+    unsafe { c::ihex_salvage(text, text_len, out, out_len, list, list_len, a, b) }
 }
 
 /// One line of S-records to a record or a refusal.

@@ -13,7 +13,7 @@ fn defined(name: &str) -> Option<u64> {
 
 #[test]
 fn numbers_are_the_headers() {
-    let numbers: [(&str, u64); 20] = [
+    let numbers: [(&str, u64); 23] = [
         ("REFUSED", ihex_sys::REFUSED.into()),
         ("DONE", ihex_sys::DONE.into()),
         ("USED_UP", ihex_sys::USED_UP.into()),
@@ -39,6 +39,12 @@ fn numbers_are_the_headers() {
             ihex_sys::START_LINEAR_ADDRESS.into(),
         ),
         ("RECORD_SIZE", ihex_sys::ENTRY as u64),
+        ("DROPPED_SIZE", ihex_sys::DROPPED as u64),
+        ("BASE_UNKNOWN", ihex_sys::BASE_UNKNOWN.into()),
+        (
+            "MISSING_END_OF_FILE_RECORD",
+            ihex_sys::MISSING_END_OF_FILE_RECORD.into(),
+        ),
         ("MAX_PAGE", ihex_sys::MAX_PAGE as u64),
         ("MAX_PAGE_FILE", ihex_sys::MAX_PAGE_FILE as u64),
         ("MAX_SRECORD_DATA", ihex_sys::MAX_SRECORD_DATA as u64),
