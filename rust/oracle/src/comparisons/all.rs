@@ -3,7 +3,7 @@
 use crate::comparisons::run::{Kind, Plan};
 use crate::comparisons::seen::{Answers, Places};
 use crate::comparisons::{
-    chunks, dumps, forms, joined, lines, loads, long, pages, srecords, sums, texts, writes,
+    chunks, dumps, forms, joined, lines, loads, long, pages, salvage, srecords, sums, texts, writes,
 };
 use crate::subjects::face::RealFace;
 use crate::subjects::port::Port;
@@ -39,6 +39,7 @@ pub fn of_face(plan: Plan) -> Vec<Kind<'static>> {
         loads::of_face(plan),
         long::of_face(plan),
         srecords::of_face(plan),
+        salvage::of_face(plan),
     ];
     parts.into_iter().flatten().collect()
 }
@@ -57,6 +58,7 @@ fn answers() -> impl Iterator<Item = &'static Answers> {
         ])
         .chain(&pages::SEEN)
         .chain(srecords::answers())
+        .chain(&salvage::SEEN)
         .chain(&loads::SEEN_WRAPS)
 }
 
@@ -72,6 +74,7 @@ fn places() -> impl Iterator<Item = &'static Places> {
     .into_iter()
     .chain(&joined::SEEN_CUTS)
     .chain(srecords::places())
+    .chain([&salvage::SEEN_PLACES])
 }
 
 /// Prints how often each answer, each kind of place, each form of a page and each way to stop was called
@@ -84,5 +87,5 @@ pub fn show_seen() -> bool {
     for row in places() {
         whole &= row.show();
     }
-    whole & forms::show_seen() & dumps::show_seen()
+    whole & forms::show_seen() & dumps::show_seen() & salvage::show_seen()
 }

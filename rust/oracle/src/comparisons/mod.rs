@@ -13,6 +13,7 @@ pub mod long;
 pub mod pages;
 pub mod replay;
 pub mod run;
+pub mod salvage;
 pub mod seen;
 pub mod srecords;
 pub mod stored;

@@ -7,6 +7,7 @@ pub mod lines;
 pub mod loads;
 pub mod pages;
 pub mod replay;
+pub mod salvage;
 pub mod srecords;
 pub mod texts;
 pub mod writes;

@@ -114,6 +114,16 @@ pub trait Port: Sync {
         ihex_sys::write_page(first, page, marks, out, value)
     }
 
+    fn salvage(
+        &self,
+        text: &[u8],
+        out: &mut [u8],
+        list: &mut [u8],
+        (a, b): (&mut u64, &mut u64),
+    ) -> u32 {
+        ihex_sys::salvage(text, out, list, a, b)
+    }
+
     fn read_srecord(
         &self,
         line: &[u8],

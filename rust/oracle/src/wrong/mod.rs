@@ -12,6 +12,7 @@ pub mod named;
 pub mod pages;
 pub mod places;
 pub mod replay;
+pub mod salvage;
 pub mod srecords;
 pub mod starts;
 pub mod sums;
