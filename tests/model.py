@@ -82,3 +82,29 @@ def listing(text):
             if out[-1] == b"E":
                 break
     return b"".join(line + b"\n" for line in [b"records"] + out + [b"%d answers" % len(out)])
+
+
+def salvaged(text):
+    """What can be saved of a text: the clean file, and for each line that was dropped its number and its refusal, which is None where the
+    base is unknown. An end record that was added has the number 0 and refusal 13."""
+    kept, dropped, known = [], [], True
+    for number, line in enumerate(lines_of(text), 1):
+        if not line:
+            continue
+        refusal, given = read(line)
+        if refusal is not None:
+            dropped.append((number, refusal))
+            known = False
+            continue
+        kind, address, payload = given
+        if kind == 0 and not known:
+            dropped.append((number, None))
+            continue
+        kept.append(record(kind, address if kind == 0 else 0, payload))
+        known = known or kind in (2, 4)
+        if kind == 1:
+            break
+    else:
+        kept.append(record(1, 0, b""))
+        dropped.append((0, "! 13"))
+    return "".join(line + "\n" for line in kept).encode(), dropped
