@@ -34,6 +34,8 @@ LOADS = {
     "linear": "after a type 04",
     "across": "each across the end of segment 0",
 }
+# Captures that are saved, by what is dropped of them.
+CAPTURES = {"salvage": "nothing", "noisy": "all, after a first line that is refused"}
 # Pages by which of their places are marked: the multiples of a number.
 PLACES = 16 * FULL
 PAGES = {1: "all", 2: "every second", PLACES: "one"}
@@ -159,6 +161,21 @@ def show_loads(reading):
     return max(n for n, _ in found.values())
 
 
+def show_captures(reading):
+    """Shows what it costs to save a capture, and returns the dearest."""
+    print(f"Instructions a record of 16 bytes, of a capture of {FULL:,} that is saved:\n")
+    rows, dearest = [], 0
+    for what, dropped in CAPTURES.items():
+        found = {one: instructions(one, what, 16, FULL) for one in ("face", "port")}
+        if len({result for _, result in found.values()}) != 1:
+            sys.exit(f"captures, dropped {dropped}: the results differ, {found}")
+        port = found["port"][0]
+        dearest = max(dearest, port)
+        rows.append([dropped] + [whole(n) for n, _ in found.values()] + [f"{port / reading:.2f}"])
+    table(["Dropped", "face", "port", "port, times reading the text"], rows)
+    return dearest
+
+
 def show_srecords(count):
     """Shows what S-records cost beside Intel HEX, and returns the dearest of each work as a multiple of Intel's."""
     print(f"Instructions a record of 16 bytes, of {FULL:,} S-records; Intel HEX beside them is the port's:\n")
@@ -226,11 +243,12 @@ def under(bar):
     return f"under {bar}", lambda is_: is_ < bar
 
 
-def show_bars(who, count, loading, unmarked, chunks, srecords):
+def show_bars(who, count, loading, unmarked, chunks, srecords, saving):
     reading, writing = count["port", "text", 16], count["port", "object", 16]
     bars = [
         ("the dearest load, as a multiple of reading", loading / reading, at_most(2.5)),
         (f"loading a full page, as a multiple of {BYTE_MARKS:,}, with a byte for each mark", count["port", "load", 16] / BYTE_MARKS, at_most(1.1)),
+        ("saving a capture, the dearest, as a multiple of reading", saving / reading, at_most(2.5)),
         ("writing a page, instructions for a place without a mark", unmarked, under(15)),
         ("reading an S-record, the dearest type, as a multiple of Intel's", srecords["srecord"], at_most(1.15)),
         ("loading S-records, the dearest type, as a multiple of Intel's", srecords["srecords"], at_most(1.15)),
@@ -264,7 +282,8 @@ def main():
     chunks = in_chunks()
     show_chunks(chunks)
     srecords = show_srecords(count)
-    show_bars(who, count, loading, unmarked, chunks, srecords)
+    saving = show_captures(count["port", "text", 16])
+    show_bars(who, count, loading, unmarked, chunks, srecords, saving)
 
 
 main()

@@ -5,6 +5,7 @@
 //!     bench port segment|linear|across BYTES RECORDS REPETITIONS
 //!     bench WHO page BYTES RECORDS REPETITIONS EVERY
 //!     bench port|face|floor srecord|srecords BYTES RECORDS REPETITIONS TYPE
+//!     bench port|face salvage|noisy BYTES RECORDS REPETITIONS
 //!
 //! WHO is crate, port, face or floor. WHAT is record or text (reading), line or object (writing), or
 //! load. BYTES are a record's payload, RECORDS how many there are in a text, or calls a repetition.
@@ -12,7 +13,9 @@
 //! `linear` load it behind a type 02 and a type 04, `across` so many records across a segment's end,
 //! each to the number that `load` prints. `page` writes all payloads as a page in which each multiple of
 //! EVERY is marked; the crate is given its records. `srecord` and `srecords` read a record and load the
-//! text as S-records of at most 252 bytes, each to the number that `record` and `load` print.
+//! text as S-records of at most 252 bytes, each to the number that `record` and `load` print. `salvage` saves
+//! what can be of the text, which is all of it, and `noisy` of the text after a line that is refused, which is
+//! its end record.
 //! It prints a number that comes from the results, the same for all, and the nanoseconds taken.
 
 mod floor;
@@ -38,6 +41,8 @@ pub struct Given {
     segment: String,
     linear: String,
     across: String,
+    /// The text after a line that is refused.
+    noisy: String,
     /// The text as S-records, and its first line.
     srecords: String,
     srecord: String,
@@ -54,6 +59,7 @@ pub struct Given {
     out: Vec<u8>,
     page: Vec<u8>,
     marks: Vec<u8>,
+    dropped: Vec<u8>,
 }
 
 /// The inputs; `step` is a chunk's length, which places of a page are marked, or the type of S-records.
@@ -82,12 +88,13 @@ fn given(n: usize, records: usize, step: usize) -> Given {
         segment: format!(":020000020000FC\n{text}"),
         linear: format!(":020000040000FA\n{text}"),
         across: across(n, &pool),
+        noisy: format!("x\n{text}"),
         srecord: srecord(data_type(step), 0, &pool[..n.min(pool.len())]),
         srecords: srecords(data_type(step), n, &pool),
         marked: marked(pool.len(), step),
         of_page: of_page(&pool, step),
         pool,
-        out: vec![0; text.len().max(ihex::MAX_PAGE_FILE)],
+        out: vec![0; (text.len() + 13).max(ihex::MAX_PAGE_FILE)],
         text,
         line,
         of_crate,
@@ -96,6 +103,7 @@ fn given(n: usize, records: usize, step: usize) -> Given {
         chunk: step,
         page: vec![0; 65_536],
         marks: vec![0; ihex::marks_len(65_536)],
+        dropped: vec![0; ihex::DROPPED_SIZE * (records + 2)],
     }
 }
 
@@ -246,6 +254,22 @@ fn face_srecord(given: &mut Given) -> u64 {
 fn face_srecords(given: &mut Given) -> u64 {
     let loaded = ihex::srec::load_srecords(&given.srecords, 0, &mut given.page, &mut given.marks);
     loaded.map_or(0, |loaded| loaded.data_records as u64)
+}
+
+/// How long the clean file of a text is, and how many entries its list has, in one number.
+fn face_saved(text: &str) -> u64 {
+    let saved = ihex::salvage(text);
+    saved.map_or(0, |saved| {
+        (saved.clean.len() + saved.dropped().len()) as u64
+    })
+}
+
+fn face_salvage(given: &mut Given) -> u64 {
+    face_saved(&given.text)
+}
+
+fn face_noisy(given: &mut Given) -> u64 {
+    face_saved(&given.noisy)
 }
 
 /// What a program does that has the crate's writer alone, once it has made the records.
@@ -428,6 +452,20 @@ mod by_port {
         loaded(&given.across, &mut given.page, &mut given.marks)
     }
 
+    fn saved(text: &str, out: &mut [u8], list: &mut [u8]) -> u64 {
+        let (mut a, mut b) = (0, 0);
+        ihex_sys::salvage(text.as_bytes(), out, list, &mut a, &mut b);
+        a + b
+    }
+
+    pub fn salvage(given: &mut Given) -> u64 {
+        saved(&given.text, &mut given.out, &mut given.dropped)
+    }
+
+    pub fn noisy(given: &mut Given) -> u64 {
+        saved(&given.noisy, &mut given.out, &mut given.dropped)
+    }
+
     pub fn page(given: &mut Given) -> u64 {
         let mut value = 0;
         let (page, marks) = (&given.pool, &given.marked);
@@ -507,6 +545,8 @@ fn work(who: &str, what: &str) -> Option<Work> {
         ("face", "page") => face_page,
         ("face", "srecord") => face_srecord,
         ("face", "srecords") => face_srecords,
+        ("face", "salvage") => face_salvage,
+        ("face", "noisy") => face_noisy,
         ("port", "record") => by_port::record,
         ("port", "text") => by_port::text,
         ("port", "chunks") => by_port::chunks,
@@ -519,6 +559,8 @@ fn work(who: &str, what: &str) -> Option<Work> {
         ("port", "page") => by_port::page,
         ("port", "srecord") => by_port::srecord,
         ("port", "srecords") => by_port::srecords,
+        ("port", "salvage") => by_port::salvage,
+        ("port", "noisy") => by_port::noisy,
         ("floor", "record") => by_floor::record,
         ("floor", "text") => by_floor::text,
         ("floor", "line") => by_floor::line,
@@ -536,7 +578,8 @@ usage: bench crate|port|face|floor record|text|line|object|load BYTES RECORDS RE
        bench port chunks BYTES RECORDS REPETITIONS CHUNK
        bench port segment|linear|across BYTES RECORDS REPETITIONS
        bench crate|port|face|floor page BYTES RECORDS REPETITIONS EVERY
-       bench port|face|floor srecord|srecords BYTES RECORDS REPETITIONS TYPE";
+       bench port|face|floor srecord|srecords BYTES RECORDS REPETITIONS TYPE
+       bench port|face salvage|noisy BYTES RECORDS REPETITIONS";
 
 fn main() {
     let words: Vec<String> = env::args().skip(1).collect();
