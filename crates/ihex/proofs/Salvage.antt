@@ -2,16 +2,16 @@
 -- Assumes nothing.
 use Prim.Native.Nat.{ℕ, _+_, _*_, _/_, _≤_, _<_}
 use mathlib.Core.Path.{_≡_, refl, sym, _∙_, ap, subst}
-use mathlib.Core.Logic.{_≢_}
+use mathlib.Core.Logic.{_≢_, _⊎_, inl, inr}
 use native.Mathlib.Omega.{arith}
 use mathlib.Core.Option.{Option, none, some}
-use mathlib.Core.List.{List, [], _∷_, List·Memᴰ}
+use mathlib.Core.List.{List, [], _∷_, List·Memᴰ, List·Memᴰ·head, List·Memᴰ·tail, List·Memᴰ·cases-cons, List·Memᴰ·not-nil}
 use lib.ListN.{length, take, drop}
 use Rattle.digits.specs.Common.{pasted}
 use Rattle.digits.proofs.Pasting.{pasted-none, pasted-part, pasted-behind}
-use Rattle.record.specs.Refusals.{Refusal, refusal}
-use Rattle.steps.specs.Steps.{Placement}
-use Rattle.loader.specs.Load.{placements}
+use Rattle.record.specs.Refusals.{Refusal, refusal, number-of}
+use Rattle.steps.specs.Steps.{Placement, Tally, Verdict, accepted, refused as not-loaded}
+use Rattle.loader.specs.Load.{placements, load}
 use Rattle.salvage.specs.Salvage.{Entry, clean, removed, refusal-for}
 use Rattle.salvage.specs.Standing.{Among}
 use Rattle.salvage.specs.Told.{Told-salvage, saves, refuses, places-in, list-bytes, answered-by, output-by, list-by, Why, output-short, list-short, both-fit}
@@ -20,9 +20,10 @@ use Rattle.salvage.proofs.Clean.{clean-is-clean}
 use Rattle.salvage.proofs.Room.{clean-short, removed-few}
 use Rattle.salvage.proofs.Putting.{list-length}
 use Rattle.salvage.proofs.Told.{reasons, one-reason}
-use Rattle.codes.specs.Codes.{OK, value, salvaging}
+use Rattle.salvage.proofs.Loads.{clean-loads}
+use Rattle.codes.specs.Codes.{OK, REFUSED, value, loading, load-numbers, salvaging}
 use Rattle.ihex.specs.Entries.{IhexSalvage}
-use Rattle.ihex.specs.Salvage.{Ihex-salvage-unique, Ihex-salvage-reasons, Saved-both, Ihex-salvage-saves, Ihex-salvage-keeps, Ihex-salvage-room, Ihex-salvage-is-stated, Ihex-salvage-as-asked, Ihex-salvage-again}
+use Rattle.ihex.specs.Salvage.{Ihex-salvage-unique, Ihex-salvage-reasons, Saved-both, Ihex-salvage-saves, Ihex-salvage-keeps, Ihex-salvage-room, Ihex-salvage-is-stated, Ihex-salvage-as-asked, Ihex-salvage-loads, Ihex-salvage-again}
 
 pub ihex-salvage-unique : Ihex-salvage-unique
 ihex-salvage-unique text out list r a b o l r′ a′ b′ o′ l′ x y = (
@@ -106,6 +107,34 @@ ihex-salvage-is-stated text undamaged out list a b o l x s u =
 pub ihex-salvage-as-asked : Ihex-salvage-as-asked
 ihex-salvage-as-asked text undamaged out list a b o l x s u p m =
     as-asked text undamaged s u p (subst (λ (f : List ℕ). List·Memᴰ p (placements f)) (ihex-salvage-saves text out list a b o l x .file) m)
+
+pub ihex-salvage-loads : Ihex-salvage-loads
+ihex-salvage-loads text out list a b o l x first page marks r p m y =
+    let f = ihex-salvage-saves text out list a b o l x .file in
+    rw (y .numbers, f) (go (load (clean text) first page marks .answer) (clean-loads text first page marks))
+  where
+    codes : List ℕ
+    codes = OK ∷ (REFUSED + 16) ∷ (REFUSED + 17) ∷ (REFUSED + 21) ∷ []
+
+    refused-so : (r : Refusal) (line : ℕ) → List·Memᴰ (number-of r) (16 ∷ 17 ∷ 21 ∷ []) → List·Memᴰ (loading (not-loaded r line) .code) codes
+    refused-so (refusal n vs) line m = by-number (List·Memᴰ·cases-cons m)
+      where
+        by-number : (n ≡ 16) ⊎ List·Memᴰ n (17 ∷ 21 ∷ []) → List·Memᴰ (REFUSED + n) codes
+        by-number (inl e) = List·Memᴰ·tail (List·Memᴰ·head (ap (λ (k : ℕ). REFUSED + k) e))
+        by-number (inr k) = later (List·Memᴰ·cases-cons k)
+          where
+            later : (n ≡ 17) ⊎ List·Memᴰ n (21 ∷ []) → List·Memᴰ (REFUSED + n) codes
+            later (inl e) = List·Memᴰ·tail (List·Memᴰ·tail (List·Memᴰ·head (ap (λ (k : ℕ). REFUSED + k) e)))
+            later (inr k) = last (List·Memᴰ·cases-cons k)
+              where
+                last : (n ≡ 21) ⊎ List·Memᴰ n [] → List·Memᴰ (REFUSED + n) codes
+                last (inl e) = List·Memᴰ·tail (List·Memᴰ·tail (List·Memᴰ·tail (List·Memᴰ·head (ap (λ (k : ℕ). REFUSED + k) e))))
+                last (inr z) = absurd (List·Memᴰ·not-nil z)
+
+    go : (v : Verdict) → ((tally : Tally) × (v ≡ accepted tally)) ⊎ ((r : Refusal) × (line : ℕ) × (v ≡ not-loaded r line) × List·Memᴰ (number-of r) (16 ∷ 17 ∷ 21 ∷ []))
+        → List·Memᴰ (load-numbers v .code) codes
+    go v (inl (t, e)) = rw e (List·Memᴰ·head refl)
+    go v (inr (r, line, e, m)) = rw e (refused-so r line m)
 
 none-pasted : (buffer : List ℕ) → pasted buffer 0 (list-bytes []) ≡ buffer
 unfolding list-bytes

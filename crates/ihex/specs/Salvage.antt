@@ -1,21 +1,18 @@
 -- What is claimed of `ihex_salvage`, in its numbers. Each claim is proved in `proofs/Salvage.antt`.
 -- Assumes nothing.
-use Prim.Native.Nat.{ℕ, suc, _+_, _*_, _≤_, _<_}
+use Prim.Native.Nat.{ℕ, _+_, _*_, _≤_}
 use mathlib.Core.Path.{_≡_}
-use mathlib.Core.Logic.{_≢_, _⊎_}
-use mathlib.Core.Option.{some}
-use mathlib.Core.List.{List, List·Memᴰ}
+use mathlib.Core.Logic.{_≢_}
+use mathlib.Core.List.{List, [], _∷_, List·Memᴰ}
 use lib.ListN.{length, take, drop}
 use Rattle.reader.specs.Lines.{lines}
 use Rattle.steps.specs.Steps.{Placement}
 use Rattle.loader.specs.Load.{placements}
 use Rattle.salvage.specs.Salvage.{clean, removed}
-use Rattle.salvage.specs.Fates.{Reached}
 use Rattle.salvage.specs.Standing.{Stands, Differs-in-refused, Undamaged, Among}
-use Rattle.salvage.specs.Claims.{Accounted}
 use Rattle.salvage.specs.Told.{Told-salvage, places-in, list-bytes, Why}
-use Rattle.codes.specs.Codes.{OK, value, salvaging}
-use Rattle.ihex.specs.Entries.{IhexSalvage}
+use Rattle.codes.specs.Codes.{OK, REFUSED, value, Load-numbers, salvaging}
+use Rattle.ihex.specs.Entries.{IhexLoad, IhexSalvage}
 
 -- no second answer, and no second content of output or list, meets the contract
 abbrev pub Ihex-salvage-unique : Type 0
@@ -75,6 +72,13 @@ Ihex-salvage-as-asked =
     (text undamaged out list : List ℕ) (a b : ℕ) (o l : List ℕ) → IhexSalvage text out list OK a b o l
     → Differs-in-refused (lines text) (lines undamaged) → Undamaged undamaged
     → (p : Placement) → List·Memᴰ p (placements (take a o)) → List·Memᴰ p (placements undamaged)
+
+-- the file, loaded into any window, is accepted, or refused with 16 for the window, with 17 for a byte outside, or with 21 for a start that differs
+abbrev pub Ihex-salvage-loads : Type 0
+Ihex-salvage-loads =
+    (text out list : List ℕ) (a b : ℕ) (o l : List ℕ) → IhexSalvage text out list OK a b o l
+    → (first : ℕ) (page marks : List ℕ) (r : Load-numbers) (p m : List ℕ) → IhexLoad (take a o) first page marks r p m
+    → List·Memᴰ (r .code) (OK ∷ (REFUSED + 16) ∷ (REFUSED + 17) ∷ (REFUSED + 21) ∷ [])
 
 -- salvaged again, the file is returned as it is, with no entry
 abbrev pub Ihex-salvage-again : Type 0

@@ -11,3 +11,5 @@ pub mod Counting
 pub mod Sorting
 pub mod Putting
 pub mod Told
+pub mod Loads
+pub mod Entries

@@ -6,7 +6,7 @@ use mathlib.Core.Logic.{_≢_, _↔_, _⊎_}
 use mathlib.Core.List.{List, [], _∷_, _++_, map, List·Memᴰ}
 use lib.ListN.{length, getD}
 use Rattle.digits.specs.Common.{Every, text}
-use Rattle.record.specs.Refusals.{missing-start-code, checksum-mismatch}
+use Rattle.record.specs.Refusals.{Refusal, number-of, missing-start-code, checksum-mismatch}
 use Rattle.record.specs.Meaning.{Meaning, end-of-file}
 use Rattle.record.specs.declared.Record.{Record}
 use Rattle.record.specs.Record.{meant, Inside}
@@ -18,7 +18,7 @@ use Rattle.writer.specs.Text.{chars}
 use Rattle.writer.specs.Object.{object}
 use Rattle.page.specs.Spoken.{said-of}
 use Rattle.marks.specs.Marks.{mark-at}
-use Rattle.steps.specs.Steps.{Placement, Tally, accepted}
+use Rattle.steps.specs.Steps.{Placement, Tally, accepted, refused as not-loaded}
 use Rattle.loader.specs.Placing.{Base, from-start, stated-by, base-behind}
 use Rattle.loader.specs.Load.{placements, load}
 use Rattle.salvage.specs.Salvage.{refused, base-unknown, Reason, Fate, kept, dropped, Sorted, of, fates, Entry, entry, end-added, saved, clean, removed}
@@ -131,6 +131,12 @@ Clean-is-object =
 -- salvaged again it is itself, and nothing is removed
 abbrev pub Clean-is-clean : Type 0
 Clean-is-clean = (text : List ℕ) → (clean (clean text) ≡ clean text) × (removed (clean text) ≡ [])
+
+-- loaded into any window, it is accepted, or refused with 16 for the window, with 17 for a byte outside, or with 21 for a start that differs
+abbrev pub Clean-loads : Type 0
+Clean-loads =
+    (text : List ℕ) (first : ℕ) (page marks : List ℕ) → let v = (load (clean text) first page marks) .answer in
+    ((tally : Tally) × (v ≡ accepted tally)) ⊎ ((r : Refusal) × (line : ℕ) × (v ≡ not-loaded r line) × List·Memᴰ (number-of r) (16 ∷ 17 ∷ 21 ∷ []))
 
 -- it is at most 13 bytes longer than the text: an end record and a LF may be added
 abbrev pub Clean-short : Type 0

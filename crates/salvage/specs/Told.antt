@@ -1,10 +1,10 @@
 -- What a salvage returns and leaves: the answer, the output and the list, whose entries are numbers in bytes.
 -- Assumes nothing.
-use Prim.Native.Nat.{ℕ, zero, suc, _+_, _*_, _/_, _%_, _≤_, _<_}
+use Prim.Native.Nat.{ℕ, zero, suc, _+_, _*_, _/_, _%_, _^_, _≤_, _<_}
 use mathlib.Core.Path.{_≡_}
 use mathlib.Core.Option.{Option, none, some}
-use mathlib.Core.List.{List, [], _∷_, _++_}
-use lib.ListN.{length, getD}
+use mathlib.Core.List.{List, [], _∷_, _++_, List·Memᴰ}
+use lib.ListN.{length, take, drop, getD}
 use Rattle.digits.specs.Common.{pasted}
 use Rattle.record.specs.Refusals.{Refusal, refusal, output-full, list-full}
 use Rattle.salvage.specs.declared.SalvageError.{SalvageError}
@@ -110,3 +110,20 @@ One-reason = (text : List ℕ) (room places : ℕ) (t t′ : Told-salvage) → W
 unfoldable pub number-in : List ℕ → ℕ
 number-in [] = 0
 number-in (b ∷ bytes) = b + 256 * number-in bytes
+
+-- an entry's numbers fit their bytes, so that they are read from them again
+abbrev pub Entries-fit : Type 0
+Entries-fit =
+    (text : List ℕ) (line : ℕ) (why : Reason) → List·Memᴰ (entry line why) (removed text)
+    → (reason-number why < 14) × (reason-value why 0 < 65536) × (reason-value why 1 < 65536) × (line ≤ length text)
+
+pub record Read-from (bytes : List ℕ) (line : ℕ) (why : Reason) : Type 0 where
+  pub why-is : number-in (take 4 bytes) ≡ reason-number why
+  pub a-is : number-in (take 2 (drop 4 bytes)) ≡ reason-value why 0
+  pub b-is : number-in (take 2 (drop 6 bytes)) ≡ reason-value why 1
+  pub line-is : number-in (take 8 (drop 8 bytes)) ≡ line
+
+abbrev pub Entry-reads-back : Type 0
+Entry-reads-back =
+    (line : ℕ) (why : Reason) → reason-number why < 2 ^ 32 → reason-value why 0 < 65536 → reason-value why 1 < 65536 → line < 2 ^ 64
+    → Read-from (entry-bytes (entry line why)) line why
