@@ -41,7 +41,7 @@ extern "C" {
 #define IHEX_S9 9 /* the end: 2 address bytes; b and c are 0 */
 
 /* The other codes that are returned. */
-#define IHEX_OK 0             /* a writer wrote all, a length is returned, or a load was accepted */
+#define IHEX_OK 0             /* a writer wrote all, a length is returned, a load was accepted, or a capture was saved */
 #define IHEX_REFUSED 256      /* and the number of a refusal, below */
 #define IHEX_DONE 512         /* the text has no more answers */
 #define IHEX_USED_UP 513      /* the chunk has no more answers: the next one is wanted, or ihex_finish; no values */
@@ -61,7 +61,7 @@ extern "C" {
 #define IHEX_POOL_FULL 10                   /* a good data record; position + length exceeds the pool */
 #define IHEX_PAYLOAD_OUTSIDE_POOL 11        /* a record to be written; position + length exceeds the pool */
 #define IHEX_DATA_EXCEEDS_MAXIMUM_LENGTH 12 /* a payload over 255 bytes; a, or value: its length */
-#define IHEX_MISSING_END_OF_FILE_RECORD 13  /* the list's last record is not an end record; the text has no end record */
+#define IHEX_MISSING_END_OF_FILE_RECORD 13  /* the list's last record is not an end record; the text has no end record; in the list of a salvage: one was added */
 #define IHEX_MULTIPLE_END_OF_FILE_RECORDS 14 /* a, or value: how many end records the list has */
 #define IHEX_OUTPUT_FULL 15                 /* the whole result is longer than the output */
 #define IHEX_BAD_WINDOW 16                  /* marks_len is not IHEX_MARKS(page_len), page_len is over IHEX_MAX_PAGE, or the page ends beyond 2^32 */
@@ -312,12 +312,12 @@ uint32_t ihex_write_page(uint32_t first,
  *   IHEX_MISSING_END_OF_FILE_RECORD  0           0: an end record was added
  *
  * The clean file has at most 13 bytes more than the text. The list has at most one entry for each line that has a byte, and one.
- * Nothing is lost in silence: each line with a byte, through the end record, is in the clean file as its record, or in the list. Line numbers
- * ascend in the list.
- * ihex_load accepts the clean file unless it refuses with 17 or 21: two starts that differ are both kept. Salvaged again, the clean file is
- * itself, and the list is empty.
- * What can be relied on: let the lines of the capture stand, in order, for the first lines of an undamaged text. Lines that are not refused
- * are equal. A stretch of one or more refused lines may stand for any stretch of lines that does not hold the end record. Then each byte that
+ * Nothing is lost in silence: each line with a byte, through the end record, is in the clean file as its record, or in the list. The numbers
+ * of lines ascend in the list; only an added end record, which is last, has 0.
+ * ihex_load accepts the clean file, or refuses it with 16 for the window, 17 for a byte outside it, or 21: two starts that differ are both
+ * kept. Salvaged again, the clean file is itself, and the list is empty.
+ * What can be relied on: a text is undamaged if no line of it is refused up to its end record, or up to its end if it has none. Let the lines
+ * of the capture stand, in order, for the first lines of an undamaged text. Lines that are not refused are equal. A stretch of one or more refused lines may stand for any stretch of lines that does not hold the end record. Then each byte that
  * the clean file states is stated by the undamaged text before its end record, at the same address. The same holds for an undamaged
  * text that is cut off after any byte; and for one with nothing but empty lines after its end record, in which one byte is changed, lost or
  * added.

@@ -116,6 +116,9 @@ if DEV_FULL:
     ran('a full device', in_shell('>' + DEV_FULL, SCRIPT), 2, b'', b'cannot write\n', input=TANK)
     ran('a full device for the list', in_shell('2>' + DEV_FULL, SCRIPT), 2, END, b'', input=b'')
     ran('a full device for an empty list', in_shell('2>' + DEV_FULL, SCRIPT), 0, END, b'', input=END)
+    ran('a full device, and a file that is not there', in_shell('2>' + DEV_FULL, SCRIPT + ['no/such']), 2, b'', b'')
+    ran('a full device, and two files', in_shell('2>' + DEV_FULL, SCRIPT + ['samples/tank.hex'] * 2), 2, b'', b'')
+    ran('a full device, and a closed standard input', in_shell('<&- 2>' + DEV_FULL, SCRIPT), 2, b'', b'')
 reads, writes = os.pipe()
 os.close(reads)
 ran('a pipe that nobody reads', SCRIPT, 2, b'', b'cannot write\n', input=TANK, stdout=writes)
@@ -123,6 +126,8 @@ os.close(writes)
 with tempfile.TemporaryDirectory() as folder:
     run = subprocess.run(SCRIPT, input=END, stdout=subprocess.PIPE, stderr=subprocess.PIPE, cwd=ROOT, env=dict(os.environ, IHEX_LIB_DIR=folder, CARGO_TARGET_DIR=folder))
     told('no archive', run.returncode == 2 and run.stdout == b'' and b'there is no' in run.stderr, '%d, %r' % (run.returncode, run.stderr))
+run = subprocess.run(SCRIPT, input=END, stdout=subprocess.PIPE, stderr=subprocess.PIPE, cwd=ROOT, env=dict(os.environ, TMPDIR='/dev/null/none'))
+told('no place for temporary files', run.returncode == 2 and run.stdout == b'', '%d, %r' % (run.returncode, run.stderr))
 helps('./salvage', [b'usage: ./salvage [FILE]', b'any length that fits in memory', b'0 nothing was dropped', b'1 something was dropped, or an end record was added',
                     b'2 the input cannot be read, the output cannot be written, memory ran out, or the usage is wrong'])
 

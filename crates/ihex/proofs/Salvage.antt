@@ -95,7 +95,7 @@ ihex-salvage-keeps text out list r a b o l x h =
 
 pub ihex-salvage-room : Ihex-salvage-room
 ihex-salvage-room text out list r a b o l x h k =
-    let e = none-of text (length out) (places-in list) (omega (arith, clean-short text)) (omega (arith, removed-few text)) in
+    let e = none-of text (length out) (places-in list) (omega (arith, clean-short text)) (omega (arith, removed-few text .0)) in
     x .code-is ∙ ap (λ (r : Option Refusal). salvaging (answered-by r text) .code) e
 
 -- ---- what the file states

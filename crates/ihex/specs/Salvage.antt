@@ -9,6 +9,7 @@ use Rattle.reader.specs.Lines.{lines}
 use Rattle.steps.specs.Steps.{Placement}
 use Rattle.loader.specs.Load.{placements}
 use Rattle.salvage.specs.Salvage.{clean, removed}
+use Rattle.salvage.specs.Claims.{with-a-byte}
 use Rattle.salvage.specs.Standing.{Stands, Differs-in-refused, Undamaged, Among}
 use Rattle.salvage.specs.Told.{Told-salvage, places-in, list-bytes, Why}
 use Rattle.codes.specs.Codes.{OK, REFUSED, value, Load-numbers, salvaging}
@@ -53,11 +54,11 @@ abbrev pub Ihex-salvage-keeps : Type 0
 Ihex-salvage-keeps =
     (text out list : List ℕ) (r a b : ℕ) (o l : List ℕ) → IhexSalvage text out list r a b o l → r ≢ OK → (o ≡ out) × (l ≡ list)
 
--- an output of 13 bytes more than the text, and a list of one entry more than the text has bytes, are enough
+-- an output of 13 bytes more than the text, and a list of an entry for each line that has a byte and one more, are enough
 abbrev pub Ihex-salvage-room : Type 0
 Ihex-salvage-room =
     (text out list : List ℕ) (r a b : ℕ) (o l : List ℕ) → IhexSalvage text out list r a b o l
-    → length text + 13 ≤ length out → 16 * (length text + 1) ≤ length list → r ≡ OK
+    → length text + 13 ≤ length out → 16 * (with-a-byte text + 1) ≤ length list → r ≡ OK
 
 -- document 02's theorem, and more: if the capture stands for an undamaged text, each byte that the file states is stated there, at that address, before
 -- the end record, and in the same order

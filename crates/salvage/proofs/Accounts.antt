@@ -232,29 +232,37 @@ list-rises text = rising 0 (fates text) (numbers-ascend text)
 
 -- ---- how many
 
-counted-from : (xs : List Sorted) → Tidy xs → (length (records xs) + length (entries xs) ≡ length xs) ⊎ ((length (records xs) + length (entries xs) ≡ length xs + 2) × Endless xs)
+Counts : List Sorted → Type 0
 unfolding Tidy records entries
+Counts xs =
+    ((length (records xs) + length (entries xs) ≡ length xs) × (¬ Endless xs)) ⊎ ((length (records xs) + length (entries xs) ≡ length xs + 2) × Endless xs)
+
+endless-later : (x : Sorted) (xs : List Sorted) → ¬ Endless xs → ¬ Endless (x ∷ xs)
+endless-later x xs h f = h (λ n m. f n (List·Memᴰ·tail m))
+
+counted-from : (xs : List Sorted) → Tidy xs → Counts xs
+unfolding Tidy Counts records entries
 counted-from [] t = inr (refl, λ n h. List·Memᴰ·not-nil h)
 counted-from (of n (kept m) ∷ xs) (f, t) = go (is-end m) refl (counted-from xs t)
   where
-    go : (b : Bool) → is-end m ≡ b → (length (records xs) + length (entries xs) ≡ length xs) ⊎ ((length (records xs) + length (entries xs) ≡ length xs + 2) × Endless xs)
-        → (suc (length (if b then [] else records xs)) + length (if b then [] else entries xs) ≡ suc (length xs))
+    go : (b : Bool) → is-end m ≡ b → Counts xs
+        → ((suc (length (if b then [] else records xs)) + length (if b then [] else entries xs) ≡ suc (length xs)) × (¬ Endless (of n (kept m) ∷ xs)))
         ⊎ ((suc (length (if b then [] else records xs)) + length (if b then [] else entries xs) ≡ suc (length xs) + 2) × Endless (of n (kept m) ∷ xs))
-    go true e h = inl (rw (f e))
-    go false e (inl h) = inl (omega arith)
+    go true e h = inl (rw (f e), λ g. g n (List·Memᴰ·head (ap (λ (x : Meaning). of n (kept x)) (sym (is-the-end m e)))))
+    go false e (inl (h, g)) = inl (omega arith, endless-later (of n (kept m)) xs g)
     go false e (inr (h, g)) = inr (omega arith, endless-cons n (kept m) xs (λ q. is-no-end m e (cc)) g)
 counted-from (of n (dropped why) ∷ xs) t = go (counted-from xs t)
   where
-    go : (length (records xs) + length (entries xs) ≡ length xs) ⊎ ((length (records xs) + length (entries xs) ≡ length xs + 2) × Endless xs)
-        → (length (records xs) + suc (length (entries xs)) ≡ suc (length xs)) ⊎ ((length (records xs) + suc (length (entries xs)) ≡ suc (length xs) + 2) × Endless (of n (dropped why) ∷ xs))
-    go (inl h) = inl (omega arith)
+    go : Counts xs → Counts (of n (dropped why) ∷ xs)
+    go (inl (h, g)) = inl (omega arith, endless-later (of n (dropped why)) xs g)
     go (inr (h, g)) = inr (omega arith, endless-cons n (dropped why) xs (λ q. let z : _≡_ {A = ℕ} 0 1 = cc in omega arith) g)
 
 pub counted : Counted
-unfolding saved removed
+unfolding saved removed Counts
 counted text = go (counted-from (fates text) (fates-tidy text))
   where
-    go : (length (records (fates text)) + length (entries (fates text)) ≡ length (fates text)) ⊎ ((length (records (fates text)) + length (entries (fates text)) ≡ length (fates text) + 2) × Endless (fates text))
-        → (length (records (fates text)) + length (entries (fates text)) ≡ length (fates text)) ⊎ ((length (records (fates text)) + length (entries (fates text)) ≡ length (fates text) + 2) × No-end text)
-    go (inl e) = inl e
+    go : Counts (fates text)
+        → ((length (records (fates text)) + length (entries (fates text)) ≡ length (fates text)) × (¬ No-end text))
+        ⊎ ((length (records (fates text)) + length (entries (fates text)) ≡ length (fates text) + 2) × No-end text)
+    go (inl (e, f)) = inl (e, λ g. f (text-endless text g))
     go (inr (e, f)) = inr (e, endless-text text f)

@@ -12,7 +12,7 @@ use Rattle.loader.specs.Placing.{from-start, intel-by}
 use Rattle.loader.proofs.Demand3.{what-is-stored}
 use Rattle.salvage.specs.Salvage.{fates, saved, clean}
 use Rattle.salvage.specs.Standing.{Stands, broken-off, same, damaged, Stretch-stands, Differs-in-refused, no-lines, equal, instead, Among, none, this, over}
-use Rattle.salvage.specs.Claims.{Salvage-in-order, Salvage-is-stated, As-asked, Loaded-is-stated, Undamaged-stays}
+use Rattle.salvage.specs.Claims.{Salvage-in-order, Salvage-is-stated, Asked-is-a-case, As-asked, Loaded-is-stated, Undamaged-stays}
 use Rattle.salvage.proofs.Stating.{stated-there, all-stated-there}
 use Rattle.salvage.proofs.Clean.{clean-states}
 
@@ -42,6 +42,9 @@ line-for-line : {ls us : List (List ℕ)} → Differs-in-refused ls us → Stand
 line-for-line no-lines = broken-off
 line-for-line (equal d) = same (line-for-line d)
 line-for-line (instead {u = u} r h g d) = damaged r (u ∷ []) h (g, tt) (line-for-line d)
+
+pub asked-is-a-case : Asked-is-a-case
+asked-is-a-case captured undamaged d = line-for-line d
 
 pub as-asked : As-asked
 as-asked text undamaged d u = salvage-is-stated text undamaged (line-for-line d) u

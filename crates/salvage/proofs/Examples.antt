@@ -36,8 +36,13 @@ limits =
       older-kept = refl;
       older-stated = refl;
       tail-kept = refl;
+      tail-removed = refl;
       tail-stated = refl;
       emptied-kept = refl;
       emptied-removed = refl;
       emptied-stated = refl;
+      lost-kept = refl;
+      lost-removed = refl;
+      cancelled-kept = refl;
+      cancelled-removed = refl;
     }

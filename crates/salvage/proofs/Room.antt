@@ -21,7 +21,7 @@ use Rattle.reader.specs.Row.{Numbered, on, sayings, is-end, through-stop, row, 
 use Rattle.reader.proofs.Texts.{lines-few, sayings-few}
 use Rattle.salvage.specs.Salvage.{kept, dropped, base-unknown, fate-of, still-known, known-behind, Sorted, of, sorted, past-refusals, fates, records, text-of, saved, clean, removed}
 use Rattle.salvage.specs.Fates.{Says}
-use Rattle.salvage.specs.Claims.{No-end, Clean-short, Removed-few}
+use Rattle.salvage.specs.Claims.{No-end, Clean-short, with-a-byte, Removed-few}
 use Rattle.salvage.proofs.Fates.{said-so}
 use Rattle.salvage.proofs.Stating.{said-case, keeps, keeps-record, keeps-refused}
 use Rattle.salvage.proofs.Clean.{says-sayable}
@@ -43,10 +43,9 @@ stop-length (on n s ∷ ns) = go (stops past-refusals s) (stop-length ns)
     go true h = omega arith
     go false h = omega arith
 
-fates-few : (text : List ℕ) → length (fates text) ≤ length text
+fates-few : (text : List ℕ) → length (fates text) ≤ with-a-byte text
 unfolding fates row
-fates-few text =
-    omega (arith, sorted-length true (through-stop past-refusals (sayings 1 (lines text))), stop-length (sayings 1 (lines text)), sayings-few 1 (lines text), lines-few text .0)
+fates-few text = omega (arith, sorted-length true (through-stop past-refusals (sayings 1 (lines text))), stop-length (sayings 1 (lines text)))
 
 -- an end record at least is saved
 one-saved : (xs : List Sorted) → 1 ≤ length (records xs)
@@ -57,11 +56,11 @@ one-saved (of n (dropped why) ∷ xs) = one-saved xs
 
 pub removed-few : Removed-few
 unfolding saved
-removed-few text = go (counted text) (one-saved (fates text)) (fates-few text)
+removed-few text = (go (counted text) (one-saved (fates text)) (fates-few text), omega (arith, sayings-few 1 (lines text), lines-few text .0))
   where
-    go : (length (saved text) + length (removed text) ≡ length (fates text)) ⊎ ((length (saved text) + length (removed text) ≡ length (fates text) + 2) × No-end text)
-        → 1 ≤ length (saved text) → length (fates text) ≤ length text → length (removed text) ≤ length text + 1
-    go (inl e) h f = omega arith
+    go : ((length (saved text) + length (removed text) ≡ length (fates text)) × (¬ No-end text)) ⊎ ((length (saved text) + length (removed text) ≡ length (fates text) + 2) × No-end text)
+        → 1 ≤ length (saved text) → length (fates text) ≤ with-a-byte text → length (removed text) ≤ with-a-byte text + 1
+    go (inl (e, n)) h f = omega arith
     go (inr (e, n)) h f = omega arith
 
 -- ---- lines

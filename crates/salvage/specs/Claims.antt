@@ -12,7 +12,7 @@ use Rattle.record.specs.declared.Record.{Record}
 use Rattle.record.specs.Record.{meant, Inside}
 use Rattle.record.specs.Written.{Sayable, line-of}
 use Rattle.reader.specs.Lines.{LF, lines}
-use Rattle.reader.specs.Row.{Numbered, on, row}
+use Rattle.reader.specs.Row.{Numbered, on, sayings, row}
 use Rattle.reader.specs.Text.{default-options}
 use Rattle.writer.specs.Text.{chars}
 use Rattle.writer.specs.Object.{object}
@@ -79,11 +79,11 @@ Rising above (entry n why ∷ later) = ((above < n) × Rising n later) ⊎ ((ent
 abbrev pub List-rises : Type 0
 List-rises = (text : List ℕ) → Rising 0 (removed text)
 
--- together, clean file and list have as many lines as were read. An added end stands in both
+-- together, clean file and list have as many lines as were read. An added end stands in both, and there is one exactly where no line is an end
 abbrev pub Counted : Type 0
 Counted =
     (text : List ℕ)
-    → (length (saved text) + length (removed text) ≡ length (fates text))
+    → ((length (saved text) + length (removed text) ≡ length (fates text)) × (¬ No-end text))
     ⊎ ((length (saved text) + length (removed text) ≡ length (fates text) + 2) × No-end text)
 
 -- ---- the clean file
@@ -142,9 +142,12 @@ Clean-loads =
 abbrev pub Clean-short : Type 0
 Clean-short = (text : List ℕ) → length (clean text) ≤ length text + 13
 
--- the list has at most one entry more than the text has bytes
+-- the list has at most one entry for each line that has a byte, and one more. There are at most as many such lines as bytes
+abbrev pub with-a-byte : (text : List ℕ) → ℕ
+with-a-byte text = length (sayings 1 (lines text))
+
 abbrev pub Removed-few : Type 0
-Removed-few = (text : List ℕ) → length (removed text) ≤ length text + 1
+Removed-few = (text : List ℕ) → (length (removed text) ≤ with-a-byte text + 1) × (with-a-byte text ≤ length text)
 
 -- ---- what can be relied on
 
@@ -158,7 +161,10 @@ Salvage-is-stated =
     (text undamaged : List ℕ) → Stands (lines text) (lines undamaged) → Undamaged undamaged
     → (p : Placement) → List·Memᴰ p (placements (clean text)) → List·Memᴰ p (placements undamaged)
 
--- document 02's own form
+-- document 02's own form, which is a case
+abbrev pub Asked-is-a-case : Type 0
+Asked-is-a-case = (captured undamaged : List (List ℕ)) → Differs-in-refused captured undamaged → Stands captured undamaged
+
 abbrev pub As-asked : Type 0
 As-asked =
     (text undamaged : List ℕ) → Differs-in-refused (lines text) (lines undamaged) → Undamaged undamaged
@@ -210,11 +216,18 @@ pub record Limits : Type 0 where
   pub older-stated : placements (lf eleven (lf (text ":0100000022DD") (lf the-end []))) ≡ at-0 0x11 ∷ at-0 0x22 ∷ []
   -- where the end record itself was damaged, the lines after it are kept. The list names the damaged line
   pub tail-kept : placements (clean (lf eleven (lf (text ":00000001FE") (lf linear-0 (lf (text ":010000009966") (lf the-end [])))))) ≡ at-0 0x11 ∷ at-0 0x99 ∷ []
+  pub tail-removed : removed (lf eleven (lf (text ":00000001FE") (lf linear-0 (lf (text ":010000009966") (lf the-end []))))) ≡ entry 2 (refused (checksum-mismatch 0xFF 0xFE)) ∷ []
   pub tail-stated : placements (lf eleven (lf the-end (lf linear-0 (lf (text ":010000009966") (lf the-end []))))) ≡ at-0 0x11 ∷ []
   -- a line that was emptied is not refused: nothing is listed, and bytes may lie at another address
   pub emptied-kept : placements (clean (lf [] (lf eleven (lf the-end [])))) ≡ at-0 0x11 ∷ []
   pub emptied-removed : removed (lf [] (lf eleven (lf the-end []))) ≡ []
   pub emptied-stated : placements (lf (text ":020000040001F9") (lf eleven (lf the-end []))) ≡ record { address = 0x10000; byte = 0x11 } ∷ []
+  -- nor is one that was lost whole
+  pub lost-kept : placements (clean (lf eleven (lf the-end []))) ≡ at-0 0x11 ∷ []
+  pub lost-removed : removed (lf eleven (lf the-end [])) ≡ []
+  -- two wrong characters in one line can cancel each other. It was `:0100000011EE`
+  pub cancelled-kept : placements (clean (lf (text ":0100000012ED") (lf the-end []))) ≡ at-0 0x12 ∷ []
+  pub cancelled-removed : removed (lf (text ":0100000012ED") (lf the-end [])) ≡ []
 
 pub record Examples : Type 0 where
   -- nothing at all: the end is added

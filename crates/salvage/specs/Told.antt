@@ -2,6 +2,7 @@
 -- Assumes nothing.
 use Prim.Native.Nat.{ℕ, zero, suc, _+_, _*_, _/_, _%_, _^_, _≤_, _<_}
 use mathlib.Core.Path.{_≡_}
+use mathlib.Core.Logic.{_⊎_}
 use mathlib.Core.Option.{Option, none, some}
 use mathlib.Core.List.{List, [], _∷_, _++_, List·Memᴰ}
 use lib.ListN.{length, take, drop, getD}
@@ -11,7 +12,7 @@ use Rattle.salvage.specs.declared.SalvageError.{SalvageError}
 use Rattle.salvage.specs.declared.SalvageError.the-variants.{OutputFull, ListFull}
 use Rattle.salvage.specs.declared.Salvaged.{Salvaged}
 use Rattle.salvage.specs.declared.Salvaged.the-variants.{Saved, Refused}
-use Rattle.salvage.specs.Salvage.{Reason, refused, base-unknown, Entry, entry, clean, removed, refusal-for}
+use Rattle.salvage.specs.Salvage.{Reason, refused, base-unknown, Entry, entry, end-added, clean, removed, refusal-for}
 
 -- ---- the list in bytes
 
@@ -111,11 +112,12 @@ unfoldable pub number-in : List ℕ → ℕ
 number-in [] = 0
 number-in (b ∷ bytes) = b + 256 * number-in bytes
 
--- an entry's numbers fit their bytes, so that they are read from them again
+-- the numbers of an entry: 0 or 1 to 9, on a line of the text, or those of an added end. All fit their bytes
 abbrev pub Entries-fit : Type 0
 Entries-fit =
     (text : List ℕ) (line : ℕ) (why : Reason) → List·Memᴰ (entry line why) (removed text)
-    → (reason-number why < 14) × (reason-value why 0 < 65536) × (reason-value why 1 < 65536) × (line ≤ length text)
+    → (((reason-number why ≤ 9) × (1 ≤ line)) ⊎ (entry line why ≡ end-added))
+    × (reason-value why 0 < 65536) × (reason-value why 1 < 65536) × (line ≤ length text)
 
 pub record Read-from (bytes : List ℕ) (line : ℕ) (why : Reason) : Type 0 where
   pub why-is : number-in (take 4 bytes) ≡ reason-number why
@@ -127,3 +129,14 @@ abbrev pub Entry-reads-back : Type 0
 Entry-reads-back =
     (line : ℕ) (why : Reason) → reason-number why < 2 ^ 32 → reason-value why 0 < 65536 → reason-value why 1 < 65536 → line < 2 ^ 64
     → Read-from (entry-bytes (entry line why)) line why
+
+-- so the bytes of an entry tell its line and its reason: no two entries of lists have the same bytes
+abbrev pub Entries-apart : Type 0
+Entries-apart =
+    (text text′ : List ℕ) (e e′ : Entry) → length text < 2 ^ 64 → length text′ < 2 ^ 64
+    → List·Memᴰ e (removed text) → List·Memᴰ e′ (removed text′) → entry-bytes e ≡ entry-bytes e′ → e ≡ e′
+
+-- they stand one after the other
+abbrev pub Entries-in-order : Type 0
+Entries-in-order =
+    (before after : List Entry) (e : Entry) → take ENTRY (drop (ENTRY * length before) (list-bytes (before ++ (e ∷ after)))) ≡ entry-bytes e

@@ -25,7 +25,7 @@ ghost use Rattle.salvage.specs.Helpers.{Tells, SortsRecord, Under-way, S
 // How many bytes an entry of the list has.
 const ENTRY: usize = 16;
 
-// Where in an entry each number begins: why, its two values, the line. And how many bytes each has.
+// How many bytes each number of an entry has: why, each of its two values, the line.
 const WHY: usize = 4;
 
 const VALUE: usize = 2;
@@ -48,7 +48,7 @@ pub enum Salvaged {
     Refused(SalvageError),
 }
 
-// A dropped line: its number, the number of the refusal, and its values, 0 where there is none.
+// A dropped line: its number, the number of the reason, and its values, 0 where there is none.
 struct Entry {
     line: usize,
     why: u8,
@@ -74,7 +74,7 @@ enum Turn {
     Missing,
 }
 
-// What is left of the spare for the file and of the places of the list, and whether either was too little.
+// What is left of the output and of the places of the list, and whether either was too little.
 struct Spare {
     space: usize,
     full: bool,
@@ -244,7 +244,7 @@ fn begin() -> Walk
     }
 }
 
-// The first pass: what a salvage leaves of this much spare and so many places. Nothing is written.
+// The first pass: what a salvage leaves of an output of this length and of so many places. Nothing is written.
 fn survey(text: &[u8], space: usize, places: usize) -> Spare
     ensures { λ r. ⌜ Surveyed (now (text .entry)) space places r ⌝ }
 {
@@ -323,7 +323,7 @@ fn end_added() -> Entry
     }
 }
 
-// The second pass: the clean file and the list, where both have spare.
+// The second pass: the clean file and the list, where both fit.
 fn write_all(text: &[u8], out: &mut [u8], list: &mut [u8])
     requires { ⌜ Fits (now text) (now out) (now list) ⌝ }
     ensures { λ _. ⌜ Wrote-all (now (text .entry)) (now (out .entry)) (now (list .entry)) (now (out .exit)) (now (list .exit)) ⌝ }

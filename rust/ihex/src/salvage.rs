@@ -103,7 +103,7 @@ impl fmt::Display for Dropped {
     }
 }
 
-/// The entries of a list, in order: line numbers ascend, and an end record that was added is last.
+/// The entries of a list, in order. Line numbers ascend; only an end record that was added, which is last, has 0.
 #[derive(Clone, Debug)]
 pub struct DroppedLines<'a> {
     entries: ChunksExact<'a, u8>,
@@ -222,13 +222,14 @@ fn room(length: Option<usize>) -> Result<Vec<u8>, SalvageError> {
 /// after it. If the text has no end record, one is added. Each line that was dropped is in the list, and last the
 /// end record that was added.
 ///
-/// What can be relied on: let the lines of the capture stand, in order, for the first lines of an undamaged text.
+/// What can be relied on: a text is undamaged if no line of it is refused up to its end record, or up to its end if it
+/// has none. Let the lines of the capture stand, in order, for the first lines of an undamaged text.
 /// Lines that are not refused are equal. A stretch of one or more refused lines may stand for any stretch of lines
 /// that does not hold the end record. Then each byte that the clean file states is stated by the undamaged text
 /// before its end record, at the same address. The same holds for an undamaged text that is cut off after any byte;
 /// and for one with nothing but empty lines after its end record, in which one byte is changed, lost or added.
-/// Salvaged again, the clean file is itself, and the list is empty. [`load`](crate::load) accepts it, unless a byte
-/// lies outside the window or two starts differ: both are kept.
+/// Salvaged again, the clean file is itself, and the list is empty. [`load`](crate::load) accepts it, unless the window
+/// is refused, a byte lies outside it, or two starts differ: both are kept.
 ///
 /// Not promised:
 ///

@@ -41,7 +41,7 @@ fn read(mut input: impl Read) -> Result<Vec<u8>, Failure> {
 }
 
 /// Reads a capture, writes its clean file, and then the list of what was dropped, a line an entry. It says whether
-/// something was dropped. Where it fails, no list is written.
+/// something was dropped. The list is not begun unless all of the clean file is written.
 pub fn run(input: impl Read, mut clean: impl Write, mut list: impl Write) -> Result<bool, Failure> {
     let text = read(input)?;
     let saved = ihex::salvage(&text).map_err(|_| Failure::Memory)?;
