@@ -91,6 +91,11 @@ start-conflict = refusal 21 []
 abbrev pub list-full : Refusal
 list-full = refusal 22 []
 
+-- of a load through a window table, in place of 16
+
+abbrev pub bad-table : Refusal
+bad-table = refusal 23 []
+
 -- of an S-record to be written, beside 9, 11, 12 and 15
 
 abbrev pub address-too-wide : Refusal

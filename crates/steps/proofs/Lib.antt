@@ -10,3 +10,4 @@ pub mod Join
 pub mod Joined
 pub mod Firsts
 pub mod Puts
+pub mod Owners

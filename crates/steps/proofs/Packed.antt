@@ -33,7 +33,7 @@ marked-flags site i ps [] f j = f j
 marked-flags site i ps (old ∷ marks) f zero = shown-flag (site i) ps old (f zero)
 marked-flags site i ps (old ∷ marks) f (suc j) = marked-flags site (suc i) ps marks (λ k. f (suc k)) j
 
-stored-flags : (site : ℕ → Option ℕ) (ps : List Placement) (page marks : List ℕ) (v : Verdict) → All-flags marks → All-flags ((store site ps page marks v) .marks)
+pub stored-flags : (site : ℕ → Option ℕ) (ps : List Placement) (page marks : List ℕ) (v : Verdict) → All-flags marks → All-flags ((store site ps page marks v) .marks)
 unfolding store
 stored-flags site ps page marks (accepted tally) f = marked-flags site 0 ps marks f
 stored-flags site ps page marks (refused r line) f = f

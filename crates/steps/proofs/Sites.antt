@@ -62,7 +62,7 @@ pub refusal-changes-nothing : Refusal-changes-nothing
 refusal-changes-nothing S src room text page marks r n e =
     rw (refused-load src room text page marks r n (sym (load-answer src room text page marks) ∙ e)) (refl, refl)
 
-stored-sizes : (site : ℕ → Option ℕ) (ps : List Placement) (page marks : List ℕ) (v : Verdict)
+pub stored-sizes : (site : ℕ → Option ℕ) (ps : List Placement) (page marks : List ℕ) (v : Verdict)
     → (length ((store site ps page marks v) .page) ≡ length page) × (length ((store site ps page marks v) .marks) ≡ length marks)
 unfolding store
 stored-sizes site ps page marks (accepted k) = (length-painted site ps 0 page, length-marked site ps 0 marks)

@@ -8,3 +8,4 @@ pub mod Runs
 pub mod Join
 pub mod Puts
 pub mod Account
+pub mod Owners

@@ -5,4 +5,6 @@ pub mod Claims
 pub mod Spread
 pub mod Loads
 pub mod AsBytes
+pub mod Table
+pub mod Tables
 pub mod Reasons

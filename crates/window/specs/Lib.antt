@@ -3,4 +3,6 @@ pub mod Contracts
 pub mod Claims
 pub mod Load
 pub mod Loads
+pub mod Table
+pub mod Tables
 pub mod Reasons
