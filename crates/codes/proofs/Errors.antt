@@ -6,23 +6,10 @@ use Rattle.record.specs.Refusals.{number-of}
 use Rattle.reader.specs.declared.ReaderError.{ReaderError}
 use Rattle.reader.specs.declared.ReaderError.the-variants.{MissingStartCode, RecordTooShort, RecordTooLong, RecordNotEvenLength, ContainsInvalidCharacters, ChecksumMismatch, PayloadLengthMismatch, UnsupportedRecordType, InvalidLengthForType, PoolFull}
 use Rattle.reader.specs.declared.Values.{Values}
-use Rattle.reader.specs.declared.Values.the-variants.{Nothing, Position, Byte, Bytes}
 use Rattle.reader.specs.declared.Figures.{Figures}
-use Rattle.reader.specs.Told.{refusal-of, values-in, FiguresOf}
+use Rattle.reader.specs.Told.{refusal-of, values-in, first-of, second-of, FiguresOf}
 use Rattle.codes.specs.declared.Coded.{Coded}
 use Rattle.codes.specs.Codes.{refused-with, Coded-as}
-
-abbrev first-of : Values → ℕ
-first-of Nothing = 0
-first-of (Position place) = place
-first-of (Byte byte) = byte
-first-of (Bytes first second) = first
-
-abbrev second-of : Values → ℕ
-second-of Nothing = 0
-second-of (Position place) = 0
-second-of (Byte byte) = 0
-second-of (Bytes first second) = second
 
 abbrev pub with-values : (number : ℕ) → Values → Coded
 with-values number values = record { code = 256 + number; a = first-of values; b = second-of values; c = 0 }

@@ -28,9 +28,9 @@ use Rattle.loader.specs.Claims.{record-on, start-on, Stops, the-end, no-record,
 use Rattle.loader.proofs.Claims.{reasons}
 use Rattle.loader.proofs.OneReason.{one-reason}
 use Rattle.loader.proofs.Stored.{none-ends}
-use Rattle.srecload.specs.Placing.{s-end, s-records}
+use Rattle.srecload.specs.Placing.{s-records}
 use Rattle.srecload.specs.Claims as s-claims
-use Rattle.srecload.specs.Claims.{record-on as srecord-on, account as s-account}
+use Rattle.srecload.specs.Claims.{account as s-account}
 use Rattle.srecload.proofs.Claims.{reasons as s-reasons}
 use Rattle.srecload.proofs.OneReason.{one-reason as s-one-reason}
 use Rattle.srecload.specs.Stored.{No-end}

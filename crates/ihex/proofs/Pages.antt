@@ -15,7 +15,6 @@ use Rattle.record.specs.Refusals.{output-full}
 use Rattle.digits.proofs.Tests.{branch}
 use Rattle.writer.specs.Told.{Told-written, wrote, refuses}
 use Rattle.writer.specs.Text.{Text, chars, refused, place-behind, if-room}
-use Rattle.steps.specs.Steps.{Verdict}
 use Rattle.loader.specs.Load.{load}
 use Rattle.page.specs.declared.PageError.the-variants.{BadWindow, BadMark, OutputFull}
 use Rattle.page.specs.declared.Paged.{Paged}

@@ -1,6 +1,6 @@
 -- The claims of `specs/Salvage.antt`: those of the crate `salvage`, in numbers. The code says whether anything was written.
 -- Assumes nothing.
-use Prim.Native.Nat.{ℕ, _+_, _*_, _/_, _≤_, _<_}
+use Prim.Native.Nat.{ℕ, _+_, _*_, _≤_}
 use mathlib.Core.Path.{_≡_, refl, sym, _∙_, ap, subst}
 use mathlib.Core.Logic.{_≢_, _⊎_, inl, inr}
 use native.Mathlib.Omega.{arith}
@@ -10,11 +10,11 @@ use lib.ListN.{length, take, drop}
 use Rattle.digits.specs.Common.{pasted}
 use Rattle.digits.proofs.Pasting.{pasted-none, pasted-part, pasted-behind}
 use Rattle.record.specs.Refusals.{Refusal, refusal, number-of}
-use Rattle.steps.specs.Steps.{Placement, Tally, Verdict, accepted, refused as not-loaded}
+use Rattle.steps.specs.Steps.{Tally, Verdict, accepted, refused as not-loaded}
 use Rattle.loader.specs.Load.{placements, load}
 use Rattle.salvage.specs.Salvage.{Entry, clean, removed, refusal-for}
 use Rattle.salvage.specs.Standing.{Among}
-use Rattle.salvage.specs.Told.{Told-salvage, saves, refuses, places-in, list-bytes, answered-by, output-by, list-by, Why, output-short, list-short, both-fit}
+use Rattle.salvage.specs.Told.{Told-salvage, saves, places-in, list-bytes, answered-by, output-by, list-by, Why, output-short, list-short, both-fit}
 use Rattle.salvage.proofs.Claims.{salvage-in-order, as-asked}
 use Rattle.salvage.proofs.Clean.{clean-is-clean}
 use Rattle.salvage.proofs.Room.{clean-short, removed-few}
@@ -23,7 +23,7 @@ use Rattle.salvage.proofs.Told.{reasons, one-reason}
 use Rattle.salvage.proofs.Loads.{clean-loads}
 use Rattle.codes.specs.Codes.{OK, REFUSED, value, loading, load-numbers, salvaging}
 use Rattle.ihex.specs.Entries.{IhexSalvage}
-use Rattle.ihex.specs.Salvage.{Ihex-salvage-unique, Ihex-salvage-reasons, Saved-both, Ihex-salvage-saves, Ihex-salvage-keeps, Ihex-salvage-room, Ihex-salvage-is-stated, Ihex-salvage-as-asked, Ihex-salvage-loads, Ihex-salvage-again}
+use Rattle.ihex.specs.Salvage.{Ihex-salvage-unique, Ihex-salvage-reasons, Ihex-salvage-saves, Ihex-salvage-keeps, Ihex-salvage-room, Ihex-salvage-is-stated, Ihex-salvage-as-asked, Ihex-salvage-loads, Ihex-salvage-again}
 
 pub ihex-salvage-unique : Ihex-salvage-unique
 ihex-salvage-unique text out list r a b o l r′ a′ b′ o′ l′ x y = (

@@ -27,7 +27,7 @@ use Rattle.reader.specs.Told.{Told, gives, refuses, done, refusal-of, told}
 use Rattle.reader.specs.Answer.{given, kept, answered, poured}
 use Rattle.reader.specs.Lines.{Found, a-line, no-line, next-line}
 use Rattle.reader.specs.Row.{Numbered, on, is-end, stops}
-use Rattle.reader.specs.Text.{told-reply, is-full, ends-row, default-options, behind, next-number, Outcome, of-found, outcome, Next}
+use Rattle.reader.specs.Text.{told-reply, is-full, ends-row, behind, next-number, Outcome, of-found, outcome, Next}
 use Rattle.reader.proofs.Claims.{told-apart}
 use Rattle.reader.proofs.Room.{never-full, ends-stops}
 use Rattle.reader.specs.Along.{unread, Countable}

@@ -1,27 +1,16 @@
 -- The passes from beginning to end: each turn hands on that what is left comes to the same as the whole, and at the end nothing is left.
 -- So the first pass returns the load's verdict and the second leaves its page and marks. `window` makes the load of both.
 -- Assumes nothing.
-use mathlib.Core.Path.{_≡_, refl, sym, ap, _∙_, subst}
+use mathlib.Core.Path.{_≡_, refl, ap, _∙_, subst}
 use Prim.Native.Nat.{ℕ, _^_, _<_}
-use mathlib.Core.Bool.{Bool, true, false}
+use mathlib.Core.Bool.{Bool}
 use mathlib.Core.List.{List}
-use lib.ListN.{length, replicate}
-use Rattle.record.specs.Refusals.{Refusal, bad-window}
+use lib.ListN.{length}
 use Rattle.reader.specs.Along.{unread}
-use Rattle.steps.specs.Steps.{nothing-yet, refused, decision, verdict}
-use Rattle.steps.specs.Sites.{Loaded, marked, stopping-by}
-use Rattle.steps.proofs.Places.{painted-none}
-use Rattle.steps.specs.Packed.{row-after, repacked, load-packed}
+use Rattle.steps.specs.Steps.{nothing-yet, decision, verdict}
 use Rattle.steps.proofs.Sites as general
-use Rattle.window.specs.Window.{within, window, unfit, one-window}
 use Rattle.window.specs.Contracts.{Painted}
-use Rattle.window.proofs.Tests.{good-window}
-use Rattle.window.proofs.Packed.{row-same, row-both, packed-anew}
-use Rattle.marks.specs.Marks.{flags, bits, packed}
-use Rattle.steps.specs.declared.LoaderError.{LoaderError}
-use Rattle.steps.specs.declared.LoaderError.the-variants.{BadWindow}
 use Rattle.steps.specs.declared.Loading.{Loading}
-use Rattle.steps.specs.declared.Loading.the-variants.{Accepted, Refused}
 use Rattle.steps.specs.declared.Start.the-variants.{Unstated}
 use Rattle.steps.specs.declared.Tally.{Tally as CodeTally}
 use Rattle.loader.specs.declared.Turn.{Turn}
@@ -29,10 +18,9 @@ use Rattle.loader.specs.declared.Turn.the-variants.{On, Stop}
 use Rattle.loader.specs.declared.Further.{Further}
 use Rattle.loader.specs.declared.Further.the-variants as further
 use Rattle.loader.specs.declared.Walk.{Walk}
-use Rattle.loader.specs.Placing.{intel}
-use Rattle.window.specs.Load.{room-of, Same-painting}
-use Rattle.loader.specs.Load.{placements, steps-of, stopping, load, Load}
-use Rattle.steps.specs.Told.{loader-refusal, tallied, told-loading, is-accepted}
+use Rattle.window.specs.Load.{Same-painting}
+use Rattle.loader.specs.Load.{placements, steps-of, load, Load}
+use Rattle.steps.specs.Told.{tallied, told-loading}
 use Rattle.loader.specs.Helpers.{ahead-of, Under-way, Few, Onward, Judged, Written-on, Wrote}
 use Rattle.window.proofs.Loads.{painting-start, painting-on, painting-end}
 use Rattle.loader.proofs.Passes.{start, start-under-way, start-few, start-ahead}

@@ -1,7 +1,7 @@
 -- What a record comes to: in the first pass it passes or decides, whatever stands behind it; and the base behind it. Once its type is
 -- known its step computes, and a data record goes by the part of the pool that holds its bytes.
 -- Assumes nothing.
-use mathlib.Core.Path.{_≡_, refl, sym, ap}
+use mathlib.Core.Path.{_≡_, refl, ap}
 use Prim.Native.Nat.{ℕ, suc, _+_, _-_, _≤_}
 use native.Mathlib.Numerals.{add-one}
 use native.Mathlib.Omega.{arith}

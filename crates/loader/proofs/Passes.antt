@@ -5,8 +5,7 @@ use mathlib.Core.Path.{_≡_, refl, sym, ap, ap₂, _∙_}
 use Prim.Native.Nat.{ℕ, _+_, _^_, _≤_, _<_}
 use native.Mathlib.Omega.{arith}
 use mathlib.Core.Bool.{Bool, true, false, _&&_}
-use mathlib.Core.Option.{Option}
-use mathlib.Core.List.{List, [], _∷_, _++_, map, map-append}
+use mathlib.Core.List.{List, [], _∷_, _++_}
 use lib.ListN.{length}
 use Rattle.digits.specs.Common.{if_then_else_}
 use Rattle.record.specs.Refusals.{missing-end-of-file-record}
@@ -24,13 +23,8 @@ use Rattle.reader.specs.Text.{default-options, new-state, Next}
 use Rattle.reader.proofs.Texts.{lines-few, sayings-few}
 use Rattle.reader.specs.Along.{unread}
 use Rattle.steps.specs.Steps.{Placement, Step, refused, turn, decision, verdict, stated}
-use Rattle.steps.specs.Sites.{painted}
-use Rattle.steps.specs.Runs.{as-mark}
-use Rattle.steps.proofs.Places.{length-painted, painted-append}
-use Rattle.window.specs.Window.{window}
 use Rattle.window.specs.Contracts.{Painted}
 use Rattle.window.proofs.Loads.{painting-step}
-use Rattle.marks.specs.Marks.{bits}
 use Rattle.loader.specs.declared.Base.{Base as CodeBase}
 use Rattle.loader.specs.declared.Base.the-variants.{Segment}
 use Rattle.steps.specs.declared.Start.the-variants.{Unstated}

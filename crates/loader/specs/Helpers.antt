@@ -2,8 +2,8 @@
 -- Assumes nothing.
 use Prim.Native.Nat.{ℕ, suc, _+_, _≤_, _<_}
 use mathlib.Core.Path.{_≡_}
-use mathlib.Core.Bool.{Bool, true, false}
-use mathlib.Core.Option.{some, Option·map}
+use mathlib.Core.Bool.{Bool, false}
+use mathlib.Core.Option.{some}
 use mathlib.Core.List.{List, [], _++_, map}
 use lib.ListN.{length}
 use Rattle.record.specs.Meaning.{Meaning}
@@ -14,17 +14,9 @@ use Rattle.record.specs.declared.Record.the-variants.{Data, EndOfFile, Extended
 use Rattle.reader.specs.Row.{Numbered, is-end}
 use Rattle.reader.specs.Text.{default-options}
 use Rattle.reader.specs.Along.{unread, Countable}
-use Rattle.marks.specs.Marks.{bits}
-use Rattle.steps.specs.Steps.{Start, Step, step, outside, Turn as Came, on, stop, at-start, decision, verdict, stated}
-use Rattle.steps.specs.Sites.{painted}
-use Rattle.steps.specs.Runs.{as-mark}
-use Rattle.window.specs.declared.Reach.{Reach}
-use Rattle.window.specs.Window.{within, window}
-use Rattle.window.specs.Contracts.{first-byte, Row-kept}
+use Rattle.steps.specs.Steps.{Start, Step, step, Turn as Came, on, stop, at-start, decision, verdict, stated}
 use Rattle.loader.specs.declared.Base.{Base as CodeBase}
 use Rattle.loader.specs.declared.Base.the-variants.{Segment, Linear}
-use Rattle.steps.specs.declared.Loading.{Loading}
-use Rattle.steps.specs.declared.Loading.the-variants.{Accepted, Refused}
 use Rattle.steps.specs.declared.Start.{Start as CodeStart}
 use Rattle.steps.specs.declared.Tally.{Tally as CodeTally}
 use Rattle.loader.specs.declared.Walk.{Walk}
@@ -32,7 +24,7 @@ use Rattle.loader.specs.declared.Turn.{Turn}
 use Rattle.loader.specs.declared.Turn.the-variants.{On, Stop}
 use Rattle.loader.specs.declared.Further.{Further}
 use Rattle.loader.specs.declared.Further.the-variants as further
-use Rattle.loader.specs.Placing.{Base, segment, linear, byte-address, placed, base-behind, does, along}
+use Rattle.loader.specs.Placing.{Base, segment, linear, base-behind, does, along}
 unfoldable pub use Rattle.loader.specs.Placing.{stated-by}
 use Rattle.steps.specs.Told.{told-start, tallied, told-loading}
 use Rattle.window.specs.Load.{Same-painting}

@@ -55,6 +55,19 @@ values-in (refusal number []) = Nothing
 values-in (refusal number (v ∷ [])) = if eqb number 2 then Position v else Byte v
 values-in (refusal number (v ∷ w ∷ more)) = Bytes v w
 
+-- the first and the second of them, 0 where there is none
+abbrev pub first-of : Values → ℕ
+first-of Nothing = 0
+first-of (Position place) = place
+first-of (Byte byte) = byte
+first-of (Bytes first second) = first
+
+abbrev pub second-of : Values → ℕ
+second-of Nothing = 0
+second-of (Position place) = 0
+second-of (Byte byte) = 0
+second-of (Bytes first second) = second
+
 -- the contract of `ReaderError::figures`
 pub record FiguresOf (e : ReaderError) (r : Figures) : Type 0 where
   pub number-is : r .number ≡ number-of (refusal-of e)

@@ -5,7 +5,7 @@ use mathlib.Core.Path.{_≡_, refl, sym, ap, ap₂, _∙_, subst}
 use mathlib.Core.Logic.{_≢_}
 use native.Mathlib.Omega.{arith}
 use mathlib.Core.Bool.{Bool, true, false}
-use mathlib.Core.List.{List, [], _∷_, _++_}
+use mathlib.Core.List.{List, [], _∷_}
 use lib.Dec.{ltb}
 use lib.ListN.{length, length-append, length-drop, take, drop}
 use lib.Seq.{length-take-le}
@@ -29,7 +29,7 @@ use Rattle.salvage.specs.declared.Turn.{Turn}
 use Rattle.salvage.specs.declared.Turn.the-variants.{Keeps, Drops, Ends, Missing}
 use Rattle.salvage.specs.declared.Spare.{Spare}
 use Rattle.salvage.specs.Salvage.{Sorted, past-refusals, fates, records, Entry, entries, text-of, saved, clean, removed}
-use Rattle.salvage.specs.Helpers.{left, Under-way, Onward, Kept-on, Dropped-on, SortsNext, spare-after, WithLine, WithEntry, LineLength, Surveyed}
+use Rattle.salvage.specs.Helpers.{left, Under-way, Kept-on, Dropped-on, SortsNext, spare-after, WithLine, WithEntry, LineLength, Surveyed}
 
 -- ---- one more
 

@@ -1,6 +1,6 @@
 -- The numbers of an entry fit their bytes, and are read from them again.
 -- Assumes nothing.
-use Prim.Native.Nat.{ℕ, zero, suc, _+_, _*_, _/_, _%_, _^_, _≤_, _<_, min}
+use Prim.Native.Nat.{ℕ, suc, _+_, _*_, _/_, _%_, _^_, _≤_, _<_}
 use mathlib.Core.Path.{_≡_, refl, sym, ap, _∙_, subst}
 use mathlib.Core.Logic.{_⊎_, inl, inr}
 use native.Mathlib.Omega.{arith}
@@ -13,7 +13,7 @@ use Rattle.digits.specs.Common.{if_then_else_}
 use Rattle.digits.proofs.Hex.{spells-small}
 use Rattle.checksum.proofs.Laws.{negated-small}
 use Rattle.record.specs.Refusals.{Refusal, refusal, missing-end-of-file-record}
-use Rattle.record.specs.Line.{wrong, judge}
+use Rattle.record.specs.Line.{judge}
 use Rattle.record.specs.Faults.{Fault, no-colon, no-digit, short, long, odd, sum-differs, length-differs, type-unknown, size-differs}
 use Rattle.record.proofs.Standing.{Stands, stands}
 use Rattle.reader.specs.Lines.{lines}

@@ -1,7 +1,7 @@
 -- The clean file, loaded: no line of it is refused by itself, and its last line ends the text.
 -- Assumes nothing.
 use Prim.Native.Nat.{ℕ}
-use mathlib.Core.Path.{_≡_, refl, sym, ap, _∙_}
+use mathlib.Core.Path.{_≡_, refl, ap, _∙_}
 use mathlib.Core.Logic.{_≢_, _⊎_, inl, inr}
 use native.Mathlib.Omega.{arith}
 use mathlib.Core.Bool.{Bool}
@@ -10,18 +10,17 @@ use mathlib.Core.List.{List, [], _∷_, _++_, map, List·Memᴰ, List·Memᴰ·h
 use lib.ListN.{length}
 use Rattle.digits.specs.Common.{Every}
 use Rattle.record.specs.Refusals.{Refusal, number-of}
-use Rattle.record.specs.Line.{Said, says, wrong, judge}
-use Rattle.record.specs.Meaning.{Meaning, end-of-file, meaning}
+use Rattle.record.specs.Line.{wrong, judge}
+use Rattle.record.specs.Meaning.{Meaning, end-of-file}
 use Rattle.record.specs.Written.{Sayable, line-of}
 use Rattle.record.proofs.Writing.{reads-back}
 use Rattle.reader.specs.Lines.{lines}
 use Rattle.steps.specs.Steps.{Tally, Verdict, accepted, refused}
-use Rattle.steps.specs.Account.{All-pass}
 use Rattle.steps.proofs.Firsts.{every-at}
 use Rattle.window.specs.Window.{within}
 use Rattle.window.specs.Reasons.{bad-one, no-end, at-line}
 use Rattle.loader.specs.Load.{load}
-use Rattle.loader.specs.Claims.{said-record, record-on, Stops, the-end, no-record, first-outside, start-differs, account, Why}
+use Rattle.loader.specs.Claims.{said-record, record-on, Stops, the-end, no-record, first-outside, start-differs, Why}
 use Rattle.loader.proofs.Claims.{reasons}
 use Rattle.loader.proofs.Stored.{none-ends}
 use Rattle.salvage.specs.Salvage.{saved, clean}

@@ -1,17 +1,16 @@
 -- The second pass: numbers in bytes, an entry, a line, and then all of a text, each after what was put before it.
 -- Assumes nothing.
 use Prim.Native.Nat.{ℕ, zero, suc, _+_, _*_, _-_, _/_, _%_, _^_, _≤_, _<_}
-use mathlib.Core.Path.{_≡_, refl, sym, ap, ap₂, _∙_, subst}
+use mathlib.Core.Path.{_≡_, refl, sym, ap, _∙_, subst}
 use native.Mathlib.Omega.{arith}
-use mathlib.Core.Bool.{Bool, true, false}
 use mathlib.Core.Option.{none}
 use mathlib.Core.List.{List, [], _∷_, _++_, append-assoc, append-nil}
 use lib.Dec.{leb}
 use lib.ListN.{length, length-append, length-set, length-drop, set, take, drop}
 use lib.Seq.{length-take-le}
 use borrow.Author.Tests.{le-leb}
-use Rattle.digits.specs.Common.{if_then_else_, pasted}
-use Rattle.digits.proofs.Pasting.{pasted-none, pasted-one, pasted-length, pasted-more}
+use Rattle.digits.specs.Common.{pasted}
+use Rattle.digits.proofs.Pasting.{pasted-none, pasted-one, pasted-more}
 use Rattle.record.specs.Refusals.{missing-end-of-file-record}
 use Rattle.record.specs.Meaning.{Meaning, end-of-file}
 use Rattle.record.specs.Record.{meant}
@@ -19,21 +18,20 @@ use Rattle.record.specs.Written.{line-of}
 use Rattle.record.specs.declared.Record.{Record}
 use Rattle.record.specs.declared.Record.the-variants.{Data, EndOfFile, ExtendedSegmentAddress, StartSegmentAddress, ExtendedLinearAddress, StartLinearAddress}
 use Rattle.reader.specs.Lines.{LF}
-use Rattle.reader.specs.Along.{unread}
 use Rattle.writer.specs.declared.WriterError.{WriterError}
 use Rattle.writer.specs.declared.Written.{Written}
 use Rattle.writer.specs.declared.Written.the-variants.{Wrote, Refused}
-use Rattle.writer.specs.Told.{Told-written, wrote, refuses, told-written}
+use Rattle.writer.specs.Told.{wrote, told-written}
 use Rattle.writer.specs.Line.{line-refusal, WriteStep}
 use Rattle.loader.specs.Helpers.{Lies-in}
 use Rattle.salvage.specs.declared.Entry.{Entry as CodeEntry}
 use Rattle.salvage.specs.declared.Walk.{Walk}
 use Rattle.salvage.specs.declared.Turn.{Turn}
 use Rattle.salvage.specs.declared.Turn.the-variants.{Keeps, Drops, Ends, Missing}
-use Rattle.salvage.specs.Salvage.{Reason, refused, Sorted, fates, records, Entry, entry, end-added, entries, text-of, saved, clean, removed}
-use Rattle.salvage.specs.Told.{low-first, reason-number, reason-value, ENTRY, entry-bytes, list-bytes}
+use Rattle.salvage.specs.Salvage.{refused, Sorted, records, Entry, entry, end-added, entries, text-of, saved, clean, removed}
+use Rattle.salvage.specs.Told.{low-first, reason-number, reason-value, entry-bytes, list-bytes}
 use Rattle.salvage.specs.Helpers.{Tells, left, Under-way, Kept-on, Dropped-on, SortsNext, PutLine, PutEntry, Fits, Wrote-all}
-use Rattle.salvage.proofs.Counting.{start, start-under-way, start-left, text-cons, text-none}
+use Rattle.salvage.proofs.Counting.{start, start-under-way, start-left, text-cons}
 
 -- ---- a number
 

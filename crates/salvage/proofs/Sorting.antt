@@ -1,51 +1,35 @@
 -- What a line comes to: the call of the reader says what stands on it, and what is left after it is what was left without it.
 -- Assumes nothing.
-use Prim.Native.Nat.{ℕ, suc, _+_, _<_}
-use mathlib.Core.Path.{_≡_, refl, sym, ap, ap₂, _∙_, subst}
+use Prim.Native.Nat.{ℕ, suc, _<_}
+use mathlib.Core.Path.{_≡_, refl, sym, ap, ap₂, _∙_}
 use native.Mathlib.Omega.{arith}
 use mathlib.Core.Bool.{Bool, true, false, _&&_}
 use mathlib.Core.List.{List, [], _∷_}
 use lib.ListN.{length}
 use Rattle.digits.specs.Common.{if_then_else_}
 use Rattle.record.specs.Refusals.{number-of}
-use Rattle.record.specs.Line.{says, wrong}
-use Rattle.record.specs.Meaning.{Meaning, data-at, end-of-file, extended-segment, start-segment, extended-linear, start-linear, meaning}
+use Rattle.record.specs.Meaning.{end-of-file, meaning}
 use Rattle.record.specs.Record.{meant}
 use Rattle.record.specs.declared.Record.{Record}
 use Rattle.reader.specs.declared.ReaderError.{ReaderError}
 use Rattle.reader.specs.declared.ReaderError.the-variants.{MissingStartCode, RecordTooShort, RecordTooLong, RecordNotEvenLength, ContainsInvalidCharacters, ChecksumMismatch, PayloadLengthMismatch, UnsupportedRecordType, InvalidLengthForType, PoolFull}
 use Rattle.reader.specs.declared.Values.{Values}
-use Rattle.reader.specs.declared.Values.the-variants.{Nothing, Position, Byte, Bytes}
 use Rattle.reader.specs.declared.Figures.{Figures}
-use Rattle.reader.specs.declared.State.{State}
 use Rattle.reader.specs.declared.Replied.{Replied}
 use Rattle.reader.specs.declared.Reply.the-variants.{Read, Refused, Done}
-use Rattle.reader.specs.Told.{refusal-of, values-in, FiguresOf}
+use Rattle.reader.specs.Told.{refusal-of, values-in, first-of, second-of, FiguresOf}
 use Rattle.reader.specs.Row.{Numbered, on, is-end, stops, through-stop}
 use Rattle.reader.specs.Text.{Next}
 use Rattle.reader.specs.Along.{unread}
-use Rattle.loader.proofs.Calls.{One, After-refused, after-refused, came-done}
+use Rattle.loader.proofs.Calls.{One, after-refused, came-done}
 use Rattle.salvage.specs.declared.Entry.{Entry as CodeEntry}
 use Rattle.salvage.specs.declared.Walk.{Walk}
 use Rattle.salvage.specs.declared.Turn.{Turn}
 use Rattle.salvage.specs.declared.Turn.the-variants.{Keeps, Drops, Ends, Missing}
-use Rattle.salvage.specs.Salvage.{refused, base-unknown, Fate, kept, dropped, fate-of, fate, still-known, known-behind, Sorted, of, sorted, past-refusals, records, Entry, entry, end-added, entries}
-use Rattle.salvage.specs.Told.{reason-number, reason-value}
-use Rattle.salvage.specs.Helpers.{Tells, Sorts, left, Under-way, Onward, Kept-on, Dropped-on, SortsNext}
+use Rattle.salvage.specs.Salvage.{refused, base-unknown, Fate, kept, dropped, fate-of, fate, still-known, known-behind, Sorted, of, sorted, past-refusals, records, Entry, end-added, entries}
+use Rattle.salvage.specs.Helpers.{Tells, Sorts, left, Under-way, Onward, Dropped-on, SortsNext}
 
 -- ---- the numbers of a refusal
-
-abbrev first-of : Values → ℕ
-first-of Nothing = 0
-first-of (Position place) = place
-first-of (Byte byte) = byte
-first-of (Bytes first second) = first
-
-abbrev second-of : Values → ℕ
-second-of Nothing = 0
-second-of (Position place) = 0
-second-of (Byte byte) = 0
-second-of (Bytes first second) = second
 
 tells-so : (e : ReaderError) (line : ℕ) → let r = refusal-of e in
     Tells (record { line = line; why = number-of r; a = first-of (values-in r); b = second-of (values-in r) }) line (refused r)

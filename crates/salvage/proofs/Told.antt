@@ -11,7 +11,6 @@ use lib.ListN.{length}
 use borrow.Author.Tests.{ltb-true, ltb-false}
 use Rattle.record.specs.Refusals.{number-of, output-full, list-full}
 use Rattle.salvage.specs.declared.SalvageError.the-variants.{OutputFull, ListFull}
-use Rattle.salvage.specs.declared.Salvaged.{Salvaged}
 use Rattle.salvage.specs.declared.Salvaged.the-variants.{Saved, Refused}
 use Rattle.salvage.specs.declared.Spare.{Spare}
 use Rattle.salvage.specs.Salvage.{clean, removed, refusal-for}

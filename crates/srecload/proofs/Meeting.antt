@@ -1,19 +1,18 @@
 -- The first pass, step by step: what a record and a line come to, and that the decision on what is left stays the whole decision.
 -- Assumes nothing.
-use mathlib.Core.Path.{_≡_, refl, sym, ap, ap₂, _∙_, subst}
+use mathlib.Core.Path.{_≡_, refl, sym, ap, _∙_, subst}
 use mathlib.Core.Logic.{_≢_}
-use Prim.Native.Nat.{ℕ, suc, _+_, _-_, _^_, _≤_, _<_}
+use Prim.Native.Nat.{ℕ, suc, _+_, _-_, _≤_, _<_}
 use native.Mathlib.Numerals.{add-one}
 use native.Mathlib.Omega.{arith}
-use mathlib.Core.Bool.{Bool, true, false}
+use mathlib.Core.Bool.{Bool}
 use mathlib.Core.Option.{some}
-use mathlib.Core.List.{List, [], _∷_, _++_, map, append-nil}
+use mathlib.Core.List.{List, [], _∷_, _++_, map}
 use lib.Dec.{eqb, leb}
 use lib.ListN.{length, take, drop, length-drop, drop-of-length-le}
 use borrow.Author.Tests.{eq-eqb, ne-eqb, le-leb, lt-leb}
-use Rattle.digits.specs.Common.{if_then_else_}
 use Rattle.record.specs.Refusals.{missing-end-of-file-record, outside-window, count-mismatch}
-use Rattle.record.specs.Line.{says, wrong}
+use Rattle.record.specs.Line.{wrong}
 use Rattle.reader.specs.declared.ReaderError.{ReaderError}
 use Rattle.reader.specs.Told.{refusal-of}
 use Rattle.reader.specs.Lines.{first-line, rest, lines}
@@ -33,7 +32,7 @@ use Rattle.window.specs.Contracts.{Surveyed}
 use Rattle.srecload.specs.declared.Walk.{Walk}
 use Rattle.srecload.specs.declared.Turn.{Turn}
 use Rattle.srecload.specs.declared.Turn.the-variants.{On, Stop}
-use Rattle.srecload.specs.Placing.{S-meaning, s-header, s-data, s-count, s-end, s-meaning, s-address, s-placed, s-does, s-act, s-records, line-steps}
+use Rattle.srecload.specs.Placing.{s-header, s-data, s-count, s-end, s-meaning, s-address, s-placed, s-does, s-act, s-records, line-steps}
 use Rattle.srecload.specs.Load.{steps-of}
 use Rattle.srecload.specs.Helpers.{so-far, Passed, Met, ahead-of, Under-way, Onward, Judged}
 use Rattle.srecload.proofs.Reading.{Came}

@@ -9,7 +9,6 @@ use lib.ListN.{length, take, drop}
 use Rattle.reader.specs.Lines.{lines}
 use Rattle.srec.specs.declared.SRecord.{SRecord}
 use Rattle.srec.specs.Record.{digit-of}
-use Rattle.steps.specs.declared.Loading.{Loading}
 use Rattle.steps.specs.Steps.{places, counts, Step, step, Tally, decision, verdict, stated}
 use Rattle.steps.specs.Source.{steps}
 use Rattle.steps.specs.Told.{told-loading}

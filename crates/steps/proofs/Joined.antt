@@ -23,7 +23,7 @@ use Rattle.steps.proofs.Places.{marked-at, painted-append, painted-none
 use Rattle.steps.proofs.Sites.{load-answer, accepted-load, accepted-by}
 use Rattle.steps.proofs.Firsts.{every-at}
 use Rattle.steps.proofs.Cut.{ends-there, not-there, as-closed, before-end-made-so, before-end-only-so, lines-ahead-counts}
-use Rattle.steps.proofs.Join.{no-end-lines, Handed, handed, no-acceptance, Meets, Quiet, one-line-meets, Fate, alike, conflict, after-tally, stated-anywhere, steps-append, state-append, none-append}
+use Rattle.steps.proofs.Join.{no-end-lines, Handed, handed, no-acceptance, Meets, one-line-meets, Fate, alike, conflict, after-tally, stated-anywhere, steps-append, state-append, none-append}
 
 -- ---- an accepted text has an end
 

@@ -11,11 +11,10 @@ use native.Mathlib.Omega.{arith}
 use mathlib.Core.Option.{Option, none, some}
 use mathlib.Core.List.{List, [], _∷_}
 use lib.ListN.{length, getD, List·getD-eq-default}
-use lib.Seq.{ext-getD}
 use Rattle.marks.proofs.Below.{split}
 use Rattle.steps.specs.Steps.{Placement, Step, Verdict, accepted, refused, stated}
 use Rattle.steps.specs.Sites.{byte-shown, mark-shown, Shown, store, Room, load-steps}
-use Rattle.steps.specs.Owners.{Apart, Buffers, after, answer-of, Same-at, Leaves-the-others, Answers-alone, Loads-commute, Event, load-by, row-after, answers-to, loads-of, Isolation}
+use Rattle.steps.specs.Owners.{Apart, Buffers, after, answer-of, Same-at, Leaves-the-others, Answers-alone, Event, load-by, row-after, answers-to, loads-of, Isolation}
 use Rattle.steps.proofs.Places.{length-painted, length-marked, painted-at, marked-at}
 use Rattle.steps.proofs.Sites.{judged, stored-answer}
 
@@ -68,7 +67,7 @@ unfolding byte-shown
 kept-byte none ps old e = refl
 kept-byte (some a) ps old e = let z : _≡_ {A = ℕ} 0 1 = cc in absurd (omega arith)
 
-kept-mark : (shows : Option ℕ) (ps : List Placement) (old : ℕ) → shows ≡ none → mark-shown shows ps old ≡ old
+pub kept-mark : (shows : Option ℕ) (ps : List Placement) (old : ℕ) → shows ≡ none → mark-shown shows ps old ≡ old
 unfolding mark-shown
 kept-mark none ps old e = refl
 kept-mark (some a) ps old e = let z : _≡_ {A = ℕ} 0 1 = cc in absurd (omega arith)
@@ -80,8 +79,8 @@ not-mine mine others ap i own = go (ap i)
     go (inl e) = e
     go (inr e) = let z : _≡_ {A = ℕ} 0 1 = cc (own .1) in absurd (omega arith)
 
--- places after the end hold nothing
-beyond : (l₁ l₂ : List ℕ) → length l₁ ≡ length l₂ → (i : ℕ) → length l₁ ≤ i → getD l₁ i 0 ≡ getD l₂ i 0
+-- numbers after the end of a list are 0
+pub beyond : (l₁ l₂ : List ℕ) → length l₁ ≡ length l₂ → (i : ℕ) → length l₁ ≤ i → getD l₁ i 0 ≡ getD l₂ i 0
 beyond l₁ l₂ e i h = List·getD-eq-default l₁ 0 {n = i} h ∙ sym (List·getD-eq-default l₂ 0 {n = i} (omega arith))
 
 pub leaves-the-others : Leaves-the-others
@@ -102,61 +101,6 @@ answer-is room steps b = stored-answer (room .site) (stated steps) (b .page) (b 
 
 pub answers-alone : Answers-alone
 answers-alone room steps b₁ b₂ = answer-is room steps b₁ ∙ sym (answer-is room steps b₂)
-
--- ---- two loads change places
-
-swap-byte : (s₁ s₂ : Option ℕ) (ps qs : List Placement) (old : ℕ) → (s₁ ≡ none) ⊎ (s₂ ≡ none) → byte-shown s₂ qs (byte-shown s₁ ps old) ≡ byte-shown s₁ ps (byte-shown s₂ qs old)
-swap-byte s₁ s₂ ps qs old (inl e) = ap (byte-shown s₂ qs) (kept-byte s₁ ps old e) ∙ sym (kept-byte s₁ ps (byte-shown s₂ qs old) e)
-swap-byte s₁ s₂ ps qs old (inr e) = kept-byte s₂ qs (byte-shown s₁ ps old) e ∙ ap (byte-shown s₁ ps) (sym (kept-byte s₂ qs old e))
-
-swap-mark : (s₁ s₂ : Option ℕ) (ps qs : List Placement) (old : ℕ) → (s₁ ≡ none) ⊎ (s₂ ≡ none) → mark-shown s₂ qs (mark-shown s₁ ps old) ≡ mark-shown s₁ ps (mark-shown s₂ qs old)
-swap-mark s₁ s₂ ps qs old (inl e) = ap (mark-shown s₂ qs) (kept-mark s₁ ps old e) ∙ sym (kept-mark s₁ ps (mark-shown s₂ qs old) e)
-swap-mark s₁ s₂ ps qs old (inr e) = kept-mark s₂ qs (mark-shown s₁ ps old) e ∙ ap (mark-shown s₁ ps) (sym (kept-mark s₂ qs old e))
-
-still-apart : (v₁ v₂ : Verdict) (s₁ s₂ : Option ℕ) → (s₁ ≡ none) ⊎ (s₂ ≡ none) → (shows-by v₁ s₁ ≡ none) ⊎ (shows-by v₂ s₂ ≡ none)
-still-apart v₁ v₂ s₁ s₂ (inl e) = inl (unshown v₁ s₁ e)
-still-apart v₁ v₂ s₁ s₂ (inr e) = inr (unshown v₂ s₂ e)
-
-module _ (room₁ room₂ : Room) (apart : Apart (room₁ .site) (room₂ .site)) (steps₁ steps₂ : List Step) (b : Buffers) where
-  abbrev b₁ : Buffers
-  b₁ = after room₁ steps₁ b
-
-  abbrev b₂ : Buffers
-  b₂ = after room₂ steps₂ b
-
-  pages-swap : (after room₂ steps₂ b₁) .page ≡ (after room₁ steps₁ b₂) .page
-  pages-swap =
-      let l₁ = after-lengths room₁ steps₁ b .0 in
-      let l₂ = after-lengths room₂ steps₂ b .0 in
-      let l₁₂ = after-lengths room₂ steps₂ b₁ .0 in
-      let l₂₁ = after-lengths room₁ steps₁ b₂ .0 in
-      ext-getD 0 ((after room₂ steps₂ b₁) .page) ((after room₁ steps₁ b₂) .page) (l₁₂ ∙ l₁ ∙ sym l₂ ∙ sym l₂₁)
-      (λ i h.
-      let g : i < length (b .page) = omega (arith, l₁₂, l₁) in
-      let s₁ = shows-by (judged room₁ steps₁) (room₁ .site i) in
-      let s₂ = shows-by (judged room₂ steps₂) (room₂ .site i) in
-      after-byte room₂ steps₂ b₁ i (omega (arith, l₁)) ∙ ap (byte-shown s₂ (stated steps₂)) (after-byte room₁ steps₁ b i g)
-      ∙ swap-byte s₁ s₂ (stated steps₁) (stated steps₂) (getD (b .page) i 0) (still-apart (judged room₁ steps₁) (judged room₂ steps₂) (room₁ .site i) (room₂ .site i) (apart i))
-      ∙ ap (byte-shown s₁ (stated steps₁)) (sym (after-byte room₂ steps₂ b i g)) ∙ sym (after-byte room₁ steps₁ b₂ i (omega (arith, l₂))))
-
-  marks-swap : (after room₂ steps₂ b₁) .marks ≡ (after room₁ steps₁ b₂) .marks
-  marks-swap =
-      let l₁ = after-lengths room₁ steps₁ b .1 in
-      let l₂ = after-lengths room₂ steps₂ b .1 in
-      let l₁₂ = after-lengths room₂ steps₂ b₁ .1 in
-      let l₂₁ = after-lengths room₁ steps₁ b₂ .1 in
-      ext-getD 0 ((after room₂ steps₂ b₁) .marks) ((after room₁ steps₁ b₂) .marks) (l₁₂ ∙ l₁ ∙ sym l₂ ∙ sym l₂₁)
-      (λ i h.
-      let g : i < length (b .marks) = omega (arith, l₁₂, l₁) in
-      let s₁ = shows-by (judged room₁ steps₁) (room₁ .site i) in
-      let s₂ = shows-by (judged room₂ steps₂) (room₂ .site i) in
-      after-mark room₂ steps₂ b₁ i (omega (arith, l₁)) ∙ ap (mark-shown s₂ (stated steps₂)) (after-mark room₁ steps₁ b i g)
-      ∙ swap-mark s₁ s₂ (stated steps₁) (stated steps₂) (getD (b .marks) i 0) (still-apart (judged room₁ steps₁) (judged room₂ steps₂) (room₁ .site i) (room₂ .site i) (apart i))
-      ∙ ap (mark-shown s₁ (stated steps₁)) (sym (after-mark room₂ steps₂ b i g)) ∙ sym (after-mark room₁ steps₁ b₂ i (omega (arith, l₂))))
-
-pub loads-commute : Loads-commute
-loads-commute room₁ room₂ apart steps₁ steps₂ b =
-    λ i. record { page = pages-swap room₁ room₂ apart steps₁ steps₂ b i; marks = marks-swap room₁ room₂ apart steps₁ steps₂ b i }
 
 -- ---- a row of loads
 

@@ -9,7 +9,7 @@ use mathlib.Core.Option.{Option, none, some, Option·getD}
 use mathlib.Core.List.{List, [], _∷_, _++_, List·Memᴰ}
 use lib.ListN.{length, getD}
 use Rattle.digits.specs.Common.{if_then_else_, or-else, Every}
-use Rattle.record.specs.Refusals.{Refusal, start-conflict}
+use Rattle.record.specs.Refusals.{start-conflict}
 use Rattle.reader.specs.Lines.{LF, lines, through}
 use Rattle.steps.specs.Steps.{Start, Action, places, starts, counts, finishes, fails, Step, step, Tally, nothing-yet, Verdict, accepted, refused, decision, stated}
 use Rattle.steps.specs.Source.{Source, steps-of}

@@ -44,12 +44,6 @@ Leaves-the-others = (room : Room) (others : ℕ → Option ℕ) → Apart (room 
 abbrev pub Answers-alone : Type 0
 Answers-alone = (room : Room) (steps : List Step) (b₁ b₂ : Buffers) → answer-of room steps b₁ ≡ answer-of room steps b₂
 
--- two loads through rooms apart may change places
-abbrev pub Loads-commute : Type 0
-Loads-commute =
-    (room₁ room₂ : Room) → Apart (room₁ .site) (room₂ .site) → (steps₁ steps₂ : List Step) (b : Buffers)
-    → after room₂ steps₂ (after room₁ steps₁ b) ≡ after room₁ steps₁ (after room₂ steps₂ b)
-
 -- ---- a row of loads, each by an owner
 
 pub data Event : Type 0 where

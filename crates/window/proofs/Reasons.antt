@@ -1,6 +1,6 @@
 -- Why a load answers as it does: where it goes is bad, or the walk over its lines has found the line that decides, or none.
 -- Assumes nothing.
-use mathlib.Core.Path.{_≡_, refl, sym, _∙_}
+use mathlib.Core.Path.{_≡_, refl, _∙_}
 use Prim.Native.Nat.{ℕ}
 use native.Mathlib.Omega.{arith}
 use mathlib.Core.Bool.{Bool, true, false}
@@ -18,9 +18,9 @@ use Rattle.steps.proofs.Firsts.{Sound, Walked, none-decided, one-decided, as-de
 use Rattle.window.specs.Window.{within, unfit, one-window}
 use Rattle.window.specs.Claims.{Window}
 use Rattle.window.specs.Load.{stopping-by-window}
-use Rattle.window.specs.Table.{Row, inside-of, fits, owned, Bad-table}
+use Rattle.window.specs.Table.{inside-of, fits, owned, Bad-table}
 use Rattle.window.specs.Tables.{load-table}
-use Rattle.window.specs.Reasons.{Why-in, bad-one, no-end, at-line, Why, Load-reasons, Load-one-reason, Why-table, Table-reasons, Table-one-reason}
+use Rattle.window.specs.Reasons.{Why-in, bad-one, no-end, at-line, Why, Load-reasons, Load-one-reason, Table-reasons, Table-one-reason}
 use Rattle.window.proofs.Tests.{good-window, no-window}
 use Rattle.window.proofs.Loads.{load-answer}
 use Rattle.window.proofs.Table.{within-limits, breaks}

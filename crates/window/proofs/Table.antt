@@ -4,18 +4,17 @@ use mathlib.Core.Path.{_≡_, refl, sym, ap, _∙_, subst}
 use mathlib.Core.Logic.{_⊎_, inl, inr}
 use Prim.Native.Nat.{ℕ, _+_, _-_, _^_, _≤_, _<_}
 use native.Mathlib.Omega.{arith}
-use mathlib.Core.Bool.{Bool, true, false, not, _&&_, _||_}
-use mathlib.Core.Option.{Option, none, some}
+use mathlib.Core.Bool.{Bool, true, false, not, _&&_, _||_, true≢false}
+use mathlib.Core.Option.{none, some}
 use mathlib.Core.List.{List, [], _∷_, _++_, List·Memᴰ, List·Memᴰ·head, List·Memᴰ·tail, List·Memᴰ·cases-cons, List·Memᴰ·not-nil}
 use lib.Dec.{eqb, leb, ltb}
 use lib.ListN.{length}
-use borrow.Author.Tests.{eqb-true, eq-eqb, leb-true, leb-false, ltb-true, ltb-false, lt-ltb, le-leb}
+use borrow.Author.Tests.{eqb-true, eq-eqb, leb-true, leb-false, ltb-true, ltb-false, lt-ltb, le-leb, not-false}
 use Rattle.digits.specs.Common.{if_then_else_}
 use Rattle.digits.proofs.Tests.{both, or-false, or-true, split}
 use Rattle.marks.specs.Marks.{row-length}
-use Rattle.steps.specs.Sites.{Room}
 use Rattle.window.specs.Window.{within, window, unfit, one-window}
-use Rattle.window.specs.Table.{Row, has, takes, site-of, inside-of, MOST-WINDOWS, MOST-PLACES, overlap, clash, clashes, any-clash, is-owner, good-row, good-rows, fits, owned, Is-owner, Lies-in, Two-of, Bad-table, too-many, call-of-nobody, window-of-nobody, pool-too-long, marks-differ, beyond-addresses, beyond-pool, address-shared, place-shared, Refused-exactly, Overlap-is-shared, Owners-apart, Shown-is-inside, Inside-is-shown, Shown-once, One-window-table, Examples}
+use Rattle.window.specs.Table.{Row, has, takes, site-of, inside-of, overlap, clash, clashes, any-clash, is-owner, good-row, good-rows, fits, owned, Is-owner, Two-of, Bad-table, too-many, call-of-nobody, window-of-nobody, pool-too-long, marks-differ, beyond-addresses, beyond-pool, address-shared, place-shared, Refused-exactly, Overlap-is-shared, Owners-apart, Shown-is-inside, Inside-is-shown, Shown-once, One-window-table, Examples}
 use Rattle.window.proofs.Tests.{within-true, true-within}
 
 -- ---- stretches
@@ -44,7 +43,7 @@ overlap-is-shared s n s′ n′ = (shared, overlaps)
 -- ---- two windows that do not clash
 
 false-is-not-true : (b : Bool) → b ≡ false → b ≡ true → ⊥
-false-is-not-true b e q = let z : _≡_ {A = ℕ} 0 1 = cc in omega arith
+false-is-not-true b e q = true≢false (sym q ∙ e)
 
 no-place : (r r′ : Row) (i : ℕ) → clash r r′ ≡ false → within (r .place) (r .size) i ≡ true → within (r′ .place) (r′ .size) i ≡ true → ⊥
 no-place r r′ i e h g =
@@ -223,9 +222,6 @@ is-owner-so owner (inr e) = rw e
 nobody : (owner : ℕ) → is-owner owner ≡ false → ¬ Is-owner owner
 nobody owner e h = false-is-not-true (is-owner owner) e (is-owner-so owner h)
 
-lies : (start size x : ℕ) → within start size x ≡ true → Lies-in start size x
-lies start size x e = within-true start size x e
-
 -- a test that is not true is false
 falsely : (b : Bool) → (b ≡ true → ⊥) → b ≡ false
 falsely true h = absurd (h refl)
@@ -247,11 +243,11 @@ shared rows r r′ t e =
     let p = overlap (r .place) (r .size) (r′ .place) (r′ .size) in
     let q = overlap (r .first) (r .size) (r′ .first) (r′ .size) in
     either p (eqb (r .owner) (r′ .owner) && q) e
-    (λ h. let (x, a, b) = overlap-is-shared (r .place) (r .size) (r′ .place) (r′ .size) .0 h in place-shared r r′ t x (lies (r .place) (r .size) x a) (lies (r′ .place) (r′ .size) x b))
+    (λ h. let (x, a, b) = overlap-is-shared (r .place) (r .size) (r′ .place) (r′ .size) .0 h in place-shared r r′ t x (within-true (r .place) (r .size) x a) (within-true (r′ .place) (r′ .size) x b))
     (λ h.
     let (o, g) = both (eqb (r .owner) (r′ .owner)) q h in
     let (x, a, b) = overlap-is-shared (r .first) (r .size) (r′ .first) (r′ .size) .0 g in
-    address-shared r r′ t (eqb-true (r .owner) (r′ .owner) o) x (lies (r .first) (r .size) x a) (lies (r′ .first) (r′ .size) x b))
+    address-shared r r′ t (eqb-true (r .owner) (r′ .owner) o) x (within-true (r .first) (r .size) x a) (within-true (r′ .first) (r′ .size) x b))
 
 -- a window and one after it
 clashing : (r : Row) (rows : List Row) → clashes r rows ≡ true → (r′ : Row) × (between : List Row) × (after : List Row) × (rows ≡ between ++ (r′ ∷ after)) × (clash r r′ ≡ true)
@@ -293,10 +289,6 @@ not-false-so : (b : Bool) → not b ≡ true → b ≡ false
 not-false-so true e = sym e
 not-false-so false e = refl
 
-not-true-so : (b : Bool) → not b ≡ false → b ≡ true
-not-true-so true e = refl
-not-true-so false e = sym e
-
 module _ (owner pool marks : ℕ) (rows : List Row) where
   -- what fits breaks no limit
   pub within-limits : fits owner pool marks rows ≡ true → Bad-table owner pool marks rows → ⊥
@@ -337,7 +329,7 @@ module _ (owner pool marks : ℕ) (rows : List Row) where
       (λ e₂. which (leb pool 65536) (eqb marks (row-length pool) && (good-rows pool rows && not (any-clash rows))) e₂ (λ h. pool-too-long (leb-false pool 65536 h))
       (λ e₃. which (eqb marks (row-length pool)) (good-rows pool rows && not (any-clash rows)) e₃ (λ h. marks-differ (λ q. false-is-not-true (eqb marks (row-length pool)) h (eq-eqb marks (row-length pool) q)))
       (λ e₄. which (good-rows pool rows) (not (any-clash rows)) e₄ (λ h. bad-row pool rows rows (λ r k. k) h)
-      (λ h. let (r, r′, t, c) = any-two rows (not-true-so (any-clash rows) h) in shared rows r r′ t c)))))
+      (λ h. let (r, r′, t, c) = any-two rows (not-false (any-clash rows) h) in shared rows r r′ t c)))))
 
 pub refused-exactly : Refused-exactly
 refused-exactly owner pool marks rows = (breaks owner pool marks rows, λ b. falsely (fits owner pool marks rows) (λ e. within-limits owner pool marks rows e b))
@@ -371,7 +363,7 @@ module _ (owner first pool marks : ℕ) where
   no-fault o u =
       let (u₁, a) = or-false (not (eqb (row-length pool) marks) || ltb 65536 pool) (ltb (2 ^ 32) (first + pool)) u in
       let (m, p) = or-false (not (eqb (row-length pool) marks)) (ltb 65536 pool) u₁ in
-      let q : marks ≡ row-length pool = sym (eqb-true (row-length pool) marks (not-true-so (eqb (row-length pool) marks) m)) in
+      let q : marks ≡ row-length pool = sym (eqb-true (row-length pool) marks (not-false (eqb (row-length pool) marks) m)) in
       let b : leb (0 + pool) pool ≡ true = le-leb (0 + pool) pool (omega arith) in
       rw (o, le-leb pool 65536 (ltb-false 65536 pool p), eq-eqb marks (row-length pool) q, le-leb (first + pool) (2 ^ 32) (ltb-false (2 ^ 32) (first + pool) a), b)
 

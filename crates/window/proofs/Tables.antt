@@ -1,35 +1,34 @@
 -- A load through a window table: what `steps` proves for any source and any room, of the places of one owner, and of packed marks.
 -- Assumes nothing.
 use mathlib.Core.Path.{_≡_, refl, sym, ap, ap₂, _∙_, subst}
-use mathlib.Core.Logic.{_≢_}
-use Prim.Native.Nat.{ℕ, _+_, _-_, _*_, _/_, _^_, _≤_, _<_}
+use Prim.Native.Nat.{ℕ, _+_, _-_, _*_, _^_, _≤_, _<_}
 use native.Mathlib.Omega.{arith}
 use mathlib.Core.Bool.{Bool, true, false, not, _&&_}
 use mathlib.Core.Option.{Option, none, some}
 use mathlib.Core.List.{List, [], _∷_}
 use lib.Dec.{eqb, leb}
-use lib.ListN.{length, getD, List·getD-eq-default}
+use lib.ListN.{length, getD}
 use borrow.Author.Tests.{eqb-true, leb-true}
 use Rattle.digits.specs.Common.{if_then_else_}
 use Rattle.digits.proofs.Tests.{both, and-false}
-use Rattle.record.specs.Refusals.{Refusal, bad-table}
-use Rattle.marks.specs.Marks.{row-length, mark-at, Marked, flags, bits, packed}
-use Rattle.marks.specs.Claims.{All-flags, Row-of}
+use Rattle.record.specs.Refusals.{bad-table}
+use Rattle.marks.specs.Marks.{row-length, mark-at, flags, bits, packed}
+use Rattle.marks.specs.Claims.{All-flags}
 use Rattle.marks.proofs.Below.{split}
 use Rattle.marks.proofs.Rows.{flags-length}
 use Rattle.marks.proofs.Claims.{bits-length, bits-say, flags-made-so, flags-are-flags, row-made-so, row-unpacks, row-holds-places}
-use Rattle.steps.specs.Steps.{Placement, Step, Tally, Verdict, accepted, refused, verdict, stated}
+use Rattle.steps.specs.Steps.{Step, Tally, Verdict, accepted, refused, verdict, stated}
 use Rattle.steps.specs.Source.{Source, steps-of}
-use Rattle.steps.specs.Sites.{Loaded, Room, Shown, Owed, mark-shown, marked, store, stopping-by, stopping-in, load-steps}
+use Rattle.steps.specs.Sites.{Loaded, Room, mark-shown, marked, store, stopping-by, load-steps}
 use Rattle.steps.specs.Sites as sites
-use Rattle.steps.specs.Packed.{row-after, repacked}
-use Rattle.steps.specs.Owners.{Buffers, Event, load-by, loads-of, after, answer-of, Same-at, answers-to}
+use Rattle.steps.specs.Packed.{row-after}
+use Rattle.steps.specs.Owners.{Buffers, Event, load-by, loads-of, after, answer-of, answers-to}
 use Rattle.steps.specs.Owners as owners
 use Rattle.steps.proofs.Told.{told-apart}
 use Rattle.steps.proofs.Sites as general
 use Rattle.steps.proofs.Packed.{stored-flags}
 use Rattle.steps.proofs.Places.{marked-at, length-marked}
-use Rattle.steps.proofs.Owners.{isolation, after-lengths}
+use Rattle.steps.proofs.Owners.{after-lengths, kept-mark, beyond, isolation}
 use Rattle.window.specs.Table.{Row, has, site-of, good-row, good-rows, is-owner, any-clash, fits, owned}
 use Rattle.window.specs.Window.{within, unfit, one-window}
 use Rattle.window.specs.Load.{load-window}
@@ -161,15 +160,6 @@ table-what-is-stored S src owner rows text pool marks tally e i h =
     let w = general.what-is-stored S src (owned owner (length pool) (length marks) rows) text pool (bits marks) tally (sym (a .0) ∙ e) i h (omega (arith, bits-length marks, m, row-holds-places (length pool))) in
     rw (mark-of owner rows s pool marks i, ← bits-say marks i) w
 
-shown-none : (shows : Option ℕ) (ps : List Placement) (old : ℕ) → shows ≡ none → mark-shown shows ps old ≡ old
-unfolding mark-shown
-shown-none none ps old e = refl
-shown-none (some a) ps old e = let z : _≡_ {A = ℕ} 0 1 = cc in absurd (omega arith)
-
--- numbers after the end of a list are 0
-beyond : (l₁ l₂ : List ℕ) → length l₁ ≡ length l₂ → (i : ℕ) → length l₂ ≤ i → getD l₁ i 0 ≡ getD l₂ i 0
-beyond l₁ l₂ e i h = List·getD-eq-default l₁ 0 {n = i} (omega arith) ∙ sym (List·getD-eq-default l₂ 0 {n = i} h)
-
 module _ (owner : ℕ) (rows : List Row) (s : List Step) (pool marks : List ℕ) where
   accepted-marks : (t : Tally) → general.judged (owned owner (length pool) (length marks) rows) s ≡ accepted t
       → (load-steps (owned owner (length pool) (length marks) rows) s pool (bits marks)) .marks ≡ marked (site-of owner rows) 0 (stated s) (bits marks)
@@ -185,8 +175,8 @@ module _ (owner : ℕ) (rows : List Row) (s : List Step) (pool marks : List ℕ)
       let g = fits-marks owner (length pool) (length marks) rows (accepted-fits owner (length pool) (length marks) rows s t e) .1 in
       mark-of owner rows s pool marks i ∙ ap (λ (l : List ℕ). getD l i 0) (accepted-marks t e)
       ∙ split (length (bits marks)) i
-      (λ l. beyond (marked (site-of owner rows) 0 (stated s) (bits marks)) (bits marks) (length-marked (site-of owner rows) (stated s) 0 (bits marks)) i l)
-      (λ l. marked-at (site-of owner rows) (stated s) (bits marks) i l ∙ shown-none (site-of owner rows i) (stated s) (getD (bits marks) i 0) (after-pool owner (length pool) rows g i h))
+      (λ l. beyond (marked (site-of owner rows) 0 (stated s) (bits marks)) (bits marks) (length-marked (site-of owner rows) (stated s) 0 (bits marks)) i (omega (arith, length-marked (site-of owner rows) (stated s) 0 (bits marks))))
+      (λ l. marked-at (site-of owner rows) (stated s) (bits marks) i l ∙ kept-mark (site-of owner rows i) (stated s) (getD (bits marks) i 0) (after-pool owner (length pool) rows g i h))
       ∙ bits-say marks i
 
 pub table-unused-stay : Table-unused-stay

@@ -1,6 +1,6 @@
 -- `loader::judge_start` meets its contract: the first start, or the same again, is kept, and another is refused.
 -- Assumes nothing.
-use mathlib.Core.Path.{_≡_, sym, _∙_}
+use mathlib.Core.Path.{sym, _∙_}
 use borrow.Author.Needs.{needs}
 use Rattle.loader.proofs.Meeting.{start-refused, start-kept}
 use Rattle.loader.proofs.judge_start.Statement.{statement}

@@ -1,7 +1,5 @@
 -- `salvage::salvage` meets its contract: the survey says whether both have room, and then all is written.
 -- Assumes nothing.
-use mathlib.Core.Path.{_∙_}
-use native.Mathlib.Omega.{arith}
 use denote.Ref.{now}
 use Rattle.salvage.proofs.Told.{by-full, by-short, both-have-room, space-left, places-left, by-all}
 use borrow.Author.Needs.{needs}

@@ -1,7 +1,6 @@
 -- `salvage::sort_record` meets its contract, record by record.
 -- Assumes nothing.
 use mathlib.Core.Path.{refl}
-use mathlib.Core.Bool.{true, false}
 use Rattle.reader.specs.Row.{is-end}
 use Rattle.salvage.specs.Salvage.{fate-of, still-known}
 use borrow.Author.Needs.{needs}
