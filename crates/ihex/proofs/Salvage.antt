@@ -5,25 +5,32 @@ use mathlib.Core.Path.{_≡_, refl, sym, _∙_, ap, subst}
 use mathlib.Core.Logic.{_≢_, _⊎_, inl, inr}
 use native.Mathlib.Omega.{arith}
 use mathlib.Core.Option.{Option, none, some}
-use mathlib.Core.List.{List, [], _∷_, List·Memᴰ, List·Memᴰ·head, List·Memᴰ·tail, List·Memᴰ·cases-cons, List·Memᴰ·not-nil}
+use mathlib.Core.List.{List, [], _∷_, _++_, map, List·Memᴰ, List·Memᴰ·head, List·Memᴰ·tail, List·Memᴰ·cases-cons, List·Memᴰ·not-nil}
 use lib.ListN.{length, take, drop}
 use Rattle.digits.specs.Common.{pasted}
 use Rattle.digits.proofs.Pasting.{pasted-none, pasted-part, pasted-behind}
 use Rattle.record.specs.Refusals.{Refusal, refusal, number-of}
+use Rattle.record.specs.Meaning.{Meaning}
+use Rattle.record.specs.Written.{line-of}
+use Rattle.reader.specs.Lines.{lines}
 use Rattle.steps.specs.Steps.{Tally, Verdict, accepted, refused as not-loaded}
 use Rattle.loader.specs.Load.{placements, load}
-use Rattle.salvage.specs.Salvage.{Entry, clean, removed, refusal-for}
+use Rattle.salvage.specs.Salvage.{Entry, saved, clean, removed, refusal-for}
+use Rattle.salvage.specs.Claims.{Accounted, is-kept, is-listed}
 use Rattle.salvage.specs.Standing.{Among}
 use Rattle.salvage.specs.Told.{Told-salvage, saves, places-in, list-bytes, answered-by, output-by, list-by, Why, output-short, list-short, both-fit}
 use Rattle.salvage.proofs.Claims.{salvage-in-order, as-asked}
-use Rattle.salvage.proofs.Clean.{clean-is-clean}
+use Rattle.salvage.proofs.Clean.{clean-lines, clean-is-clean}
+use Rattle.salvage.proofs.Accounts.{nothing-lost, list-rises}
+use Rattle.salvage.proofs.Broken.{cut-off-anywhere}
+use Rattle.salvage.proofs.Bytes.{one-byte-off}
 use Rattle.salvage.proofs.Room.{clean-short, removed-few}
 use Rattle.salvage.proofs.Putting.{list-length}
 use Rattle.salvage.proofs.Told.{reasons, one-reason}
 use Rattle.salvage.proofs.Loads.{clean-loads}
 use Rattle.codes.specs.Codes.{OK, REFUSED, value, loading, load-numbers, salvaging}
 use Rattle.ihex.specs.Entries.{IhexSalvage}
-use Rattle.ihex.specs.Salvage.{Ihex-salvage-unique, Ihex-salvage-reasons, Ihex-salvage-saves, Ihex-salvage-keeps, Ihex-salvage-room, Ihex-salvage-is-stated, Ihex-salvage-as-asked, Ihex-salvage-loads, Ihex-salvage-again}
+use Rattle.ihex.specs.Salvage.{Ihex-salvage-unique, Ihex-salvage-reasons, Ihex-salvage-saves, Ihex-salvage-keeps, Ihex-salvage-room, Ihex-salvage-is-stated, Ihex-salvage-as-asked, Ihex-salvage-cut-off, Ihex-salvage-one-byte-off, Kept-or-listed, in-the-file, in-the-list, Ihex-salvage-nothing-lost, Ihex-salvage-list-rises, Ihex-salvage-loads, Ihex-salvage-again}
 
 pub ihex-salvage-unique : Ihex-salvage-unique
 ihex-salvage-unique text out list r a b o l r′ a′ b′ o′ l′ x y = (
@@ -107,6 +114,41 @@ ihex-salvage-is-stated text undamaged out list a b o l x s u =
 pub ihex-salvage-as-asked : Ihex-salvage-as-asked
 ihex-salvage-as-asked text undamaged out list a b o l x s u p m =
     as-asked text undamaged s u p (subst (λ (f : List ℕ). List·Memᴰ p (placements f)) (ihex-salvage-saves text out list a b o l x .file) m)
+
+pub ihex-salvage-cut-off : Ihex-salvage-cut-off
+ihex-salvage-cut-off text more out list a b o l x u =
+    subst (λ (f : List ℕ). Among (placements f) (placements (text ++ more))) (sym (ihex-salvage-saves text out list a b o l x .file)) (cut-off-anywhere text more u)
+
+pub ihex-salvage-one-byte-off : Ihex-salvage-one-byte-off
+ihex-salvage-one-byte-off before old new after out list a b o l h k x u n =
+    subst (λ (f : List ℕ). Among (placements f) (placements (before ++ (old ++ after)))) (sym (ihex-salvage-saves (before ++ (new ++ after)) out list a b o l x .file))
+    (one-byte-off before old new after h k u n)
+
+-- ---- nothing is lost
+
+-- a record's line is among the lines of records
+line-among : (m : Meaning) (ms : List Meaning) → List·Memᴰ m ms → List·Memᴰ (line-of m) (map line-of ms)
+line-among m [] h = absurd (List·Memᴰ·not-nil h)
+line-among m (x ∷ ms) h = go (List·Memᴰ·cases-cons h) (line-among m ms)
+  where
+    go : (m ≡ x) ⊎ List·Memᴰ m ms → (List·Memᴰ m ms → List·Memᴰ (line-of m) (map line-of ms)) → List·Memᴰ (line-of m) (map line-of (x ∷ ms))
+    go (inl e) later = List·Memᴰ·head (ap line-of e)
+    go (inr k) later = List·Memᴰ·tail (later k)
+
+pub ihex-salvage-nothing-lost : Ihex-salvage-nothing-lost
+ihex-salvage-nothing-lost text out list a b o l x n ahead line r h =
+    let s = ihex-salvage-saves text out list a b o l x in
+    go (take a o) (s .file) (take (16 * b) l) (s .entries) (nothing-lost text n ahead line r h)
+  where
+    go : (file : List ℕ) → file ≡ clean text → (entries : List ℕ) → entries ≡ list-bytes (removed text) → Accounted text n line → Kept-or-listed n line file entries
+    go file f entries e (is-kept m says k i) =
+        in-the-file m says (subst (λ (ls : List (List ℕ)). List·Memᴰ (line-of m) ls) (sym (ap lines f ∙ clean-lines text)) (line-among m (saved text) i))
+    go file f entries e (is-listed why i) = in-the-list (removed text) why e i
+
+pub ihex-salvage-list-rises : Ihex-salvage-list-rises
+ihex-salvage-list-rises text out list a b o l x =
+    let s = ihex-salvage-saves text out list a b o l x in
+    (removed text, sym (s .count-is), s .entries, list-rises text)
 
 pub ihex-salvage-loads : Ihex-salvage-loads
 ihex-salvage-loads text out list a b o l x first page marks r p m y =

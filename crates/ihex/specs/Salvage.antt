@@ -3,13 +3,17 @@
 use Prim.Native.Nat.{ℕ, _+_, _*_, _≤_}
 use mathlib.Core.Path.{_≡_}
 use mathlib.Core.Logic.{_≢_}
-use mathlib.Core.List.{List, [], _∷_, List·Memᴰ}
+use mathlib.Core.List.{List, [], _∷_, _++_, List·Memᴰ}
 use lib.ListN.{length, take, drop}
+use Rattle.record.specs.Meaning.{Meaning}
+use Rattle.record.specs.Written.{line-of}
 use Rattle.reader.specs.Lines.{lines}
 use Rattle.steps.specs.Steps.{Placement}
 use Rattle.loader.specs.Load.{placements}
-use Rattle.salvage.specs.Salvage.{clean, removed}
-use Rattle.salvage.specs.Claims.{with-a-byte}
+use Rattle.salvage.specs.Salvage.{Reason, Entry, entry, clean, removed}
+use Rattle.salvage.specs.Fates.{Says, Reached}
+use Rattle.salvage.specs.Bytes.{Nothing-behind}
+use Rattle.salvage.specs.Claims.{with-a-byte, Rising}
 use Rattle.salvage.specs.Standing.{Stands, Differs-in-refused, Undamaged, Among}
 use Rattle.salvage.specs.Told.{Told-salvage, places-in, list-bytes, Why}
 use Rattle.codes.specs.Codes.{OK, REFUSED, value, Load-numbers, salvaging}
@@ -73,6 +77,37 @@ Ihex-salvage-as-asked =
     (text undamaged out list : List ℕ) (a b : ℕ) (o l : List ℕ) → IhexSalvage text out list OK a b o l
     → Differs-in-refused (lines text) (lines undamaged) → Undamaged undamaged
     → (p : Placement) → List·Memᴰ p (placements (take a o)) → List·Memᴰ p (placements undamaged)
+
+-- so it is where the capture is an undamaged text that is cut off after any byte
+abbrev pub Ihex-salvage-cut-off : Type 0
+Ihex-salvage-cut-off =
+    (text more out list : List ℕ) (a b : ℕ) (o l : List ℕ) → IhexSalvage text out list OK a b o l
+    → Undamaged (text ++ more) → Among (placements (take a o)) (placements (text ++ more))
+
+-- and where one byte of it was changed, lost or added, if only empty lines follow its end record
+abbrev pub Ihex-salvage-one-byte-off : Type 0
+Ihex-salvage-one-byte-off =
+    (before old new after out list : List ℕ) (a b : ℕ) (o l : List ℕ) → length old ≤ 1 → length new ≤ 1
+    → IhexSalvage (before ++ (new ++ after)) out list OK a b o l
+    → let undamaged = before ++ (old ++ after) in
+    Undamaged undamaged → Nothing-behind (lines undamaged) → Among (placements (take a o)) (placements undamaged)
+
+-- a line is in the file, as its record is written, or in the list
+pub data Kept-or-listed (n : ℕ) (line file entries : List ℕ) : Type 0 where
+  in-the-file : (m : Meaning) → Says line m → List·Memᴰ (line-of m) (lines file) → Kept-or-listed n line file entries
+  in-the-list : (es : List Entry) (why : Reason) → entries ≡ list-bytes es → List·Memᴰ (entry n why) es → Kept-or-listed n line file entries
+
+-- nothing is lost in silence: each line with a byte, through the first end record, is one of those
+abbrev pub Ihex-salvage-nothing-lost : Type 0
+Ihex-salvage-nothing-lost =
+    (text out list : List ℕ) (a b : ℕ) (o l : List ℕ) → IhexSalvage text out list OK a b o l
+    → (n : ℕ) (ahead : List (List ℕ)) (line : List ℕ) → Reached (lines text) n ahead line → line ≢ [] → Kept-or-listed n line (take a o) (take (16 * b) l)
+
+-- line numbers ascend in the list, except that an added end, which comes last, has number 0
+abbrev pub Ihex-salvage-list-rises : Type 0
+Ihex-salvage-list-rises =
+    (text out list : List ℕ) (a b : ℕ) (o l : List ℕ) → IhexSalvage text out list OK a b o l
+    → (es : List Entry) × (length es ≡ b) × (take (16 * b) l ≡ list-bytes es) × Rising 0 es
 
 -- the file, loaded into any window, is accepted, or refused with 16 for the window, with 17 for a byte outside, or with 21 for a start that differs
 abbrev pub Ihex-salvage-loads : Type 0
