@@ -1,7 +1,7 @@
 /* Intel's hexadecimal object file format, and Motorola's S-records: the functions of libihex.a, on numbers and bytes.
  *
  * A text is of one kind, and the caller says which by the function that is called. No function guesses it. The functions whose names have
- * "srecord" in them are for S-records, and stand at the end. All others are for Intel HEX.
+ * "srecord" in them are for S-records, and stand at the end. All others are for Intel HEX. A window table is for texts of both kinds.
  *
  * Each function of the library is proved to do what is said of it here, for all inputs. The inline functions and IHEX_MARKS of this
  * header are tested, not proved. The header needs C99 or C++. What a function leaves to its caller:
@@ -65,12 +65,13 @@ extern "C" {
 #define IHEX_MULTIPLE_END_OF_FILE_RECORDS 14 /* a, or value: how many end records the list has */
 #define IHEX_OUTPUT_FULL 15                 /* the whole result is longer than the output */
 #define IHEX_BAD_WINDOW 16                  /* marks_len is not IHEX_MARKS(page_len), page_len is over IHEX_MAX_PAGE, or the page ends beyond 2^32 */
-#define IHEX_OUTSIDE_WINDOW 17              /* a: the address of a data record's first byte that lies outside */
+#define IHEX_OUTSIDE_WINDOW 17              /* a: the address of a data record's first byte that lies outside; through a table, outside all windows of the owner */
 #define IHEX_CARRY_TOO_SMALL 18             /* a carry under IHEX_CARRY bytes, or a state that counts more than that used */
 #define IHEX_BAD_MARK 19                    /* a page to be written; value: the place of the lowest unused bit of its marks that is set */
 #define IHEX_COUNT_MISMATCH 20              /* an S5; a: the count that it states; b: how many data records the text has before it */
 #define IHEX_START_CONFLICT 21              /* a type 03 or 05 that states another start than the first that the text states */
 #define IHEX_LIST_FULL 22                   /* a salvage; its list has more entries than there is room for */
+#define IHEX_BAD_TABLE 23                   /* a window table, or a call with one, breaks a limit; ihex_check_table and ihex_load_table name them */
 #define IHEX_ADDRESS_TOO_WIDE 25            /* an S-record to be written; its address needs more bytes than its type has */
 
 /* The flags of a state. The other bits are not read, and are 0 at exit; ihex_next has the first three only. */
@@ -101,17 +102,19 @@ extern "C" {
 /* What an accepted load says of the start address: `start`. It is IHEX_NO_START, IHEX_START_SEGMENT_ADDRESS or IHEX_START_LINEAR_ADDRESS. */
 #define IHEX_NO_START 0 /* the text states none */
 
-/* A page has at most so many places, its marks at most so many bytes, and its file at most so many bytes: 7 for each place, and 58. */
+/* A page has at most so many places, its marks at most so many bytes, and its file at most so many bytes: 7 for each place, and 58. The pool
+ * of a window table has at most as many places and marks as a page. */
 #define IHEX_MAX_PAGE 65536
 #define IHEX_MAX_MARKS 8192
 #define IHEX_MAX_PAGE_FILE 458810
 
-/* The marks of a page have one bit a place: place p is bit p modulo 8 of byte p / 8, lowest bit first. The bits of the last byte after
- * the last place are unused. IHEX_MARKS is the length of the marks in bytes. It is a constant if its argument is one, and evaluates its
- * argument twice. It is 0 for no places: then no array of marks is wanted, and any pointer will do with marks_len 0, also null. */
+/* The marks of a page, or of the pool of a window table, have one bit a place: place p is bit p modulo 8 of byte p / 8, lowest bit first. The
+ * bits of the last byte after the last place are unused. IHEX_MARKS is the length of the marks in bytes. It is a constant if its argument is
+ * one, and evaluates its argument twice. It is 0 for no places: then no array of marks is wanted, and any pointer will do with marks_len 0,
+ * also null. */
 #define IHEX_MARKS(places) ((places) / 8 + ((places) % 8 != 0))
 
-/* Returns 1 if a place is marked, else 0. The place must be one of the page: the byte that holds its mark is read. */
+/* Returns 1 if a place is marked, else 0. The place must be one of the page or the pool: the byte that holds its mark is read. */
 static inline int ihex_marked(const uint8_t *marks, size_t place)
 {
     return (marks[place / 8] >> (place % 8)) & 1;
@@ -142,6 +145,20 @@ struct ihex_dropped {
 
 /* Why a good data record is dropped: a line before it was refused, and no type 02 or 04 has come since. */
 #define IHEX_BASE_UNKNOWN 0
+
+/* A window of a table. Its 24 bytes, each number low byte first: 0 to 3 owner, 4 to 7 first, 8 to 15 length, 16 to 23 place; so on a
+ * little-endian machine a table is an array of this struct. */
+struct ihex_window {
+    uint32_t owner;  /* whose window it is: 1 or 2 */
+    uint32_t first;  /* its first address */
+    uint64_t length; /* how many addresses it has; the byte of address first + i lies at place + i of the pool */
+    uint64_t place;  /* the place of its first address in the pool */
+};
+
+#define IHEX_WINDOW_SIZE 24
+
+/* A table has at most so many windows. */
+#define IHEX_MOST_WINDOWS 16
 
 /* The sum of the bytes, left to wrap at 256, then negated modulo 256.
  * Of no bytes it is 0. */
@@ -275,6 +292,40 @@ uint32_t ihex_load(const uint8_t *text, size_t text_len, uint32_t first,
                    uint8_t *marks, size_t marks_len,
                    size_t *line, uint8_t *start, uint64_t *a, uint64_t *b, uint64_t *c);
 
+/* Two owners, 1 and 2, can load their texts into one pool, through one table of windows. Says whether a table is good for a pool and marks of
+ * these lengths: returns 0, or IHEX_REFUSED and 23. It returns 23 exactly if one of these holds. No sum wraps.
+ *
+ *   table_len is not a multiple of IHEX_WINDOW_SIZE, or there are more than IHEX_MOST_WINDOWS windows
+ *   pool_len is over IHEX_MAX_PAGE, or marks_len is not IHEX_MARKS(pool_len)
+ *   the owner of a window is neither 1 nor 2
+ *   first + length of a window is over 2^32, or place + length is over pool_len
+ *   two windows share a place of the pool
+ *   two windows of the same owner share an address
+ *
+ * A window of length 0 has no address and no place, so it shares none: it may lie inside another window. In a pool of 8 bytes its place may
+ * be 8, but not 9. Both owners may have windows of the same addresses. Windows may touch. A table of no windows is good. */
+uint32_t ihex_check_table(const void *table, size_t table_len, size_t pool_len, size_t marks_len);
+
+/* Loads a text for one owner through a table into the pool. What is returned, line, start, a, b and c are as in ihex_load, with two
+ * differences. There is no 16: it is 23, with line 0, exactly if ihex_check_table refuses the table or `owner` is neither 1 nor 2, whatever the
+ * text is. And 17 is for a byte that lies outside all windows of the owner. So without windows a data byte is 17, and a text of the end record
+ * alone is accepted. A data record may lie in more than one window, also across the end of the addresses, byte by byte: with windows of 4
+ * addresses from 100 on and of 2 from 104 on, a record may state 103 to 105.
+ * After an accepted load a place of the owner's windows is marked exactly if the text states a byte at its address; then it holds the last such
+ * byte, and else the byte that it held. Every other byte of the pool and every other bit of the marks stays: those of the other owner, those of
+ * no window, and the unused bits. A refused load changes no byte of pool or marks. What they held before changes no answer.
+ * What follows the line at which the load stops changes nothing: no answer, byte or mark.
+ * The owners are apart. For one table, whatever the other owner loads before or after, accepted or refused, changes no answer of this owner's
+ * loads, and no byte or mark of this owner's places: these follow from what they held at first and from this owner's texts.
+ * Let a good table have one window, of this owner, at place 0 and of length pool_len. Then the load returns what ihex_load returns with the
+ * window's `first` and the pool for a page, and leaves the same bytes and the same marks of all places. The unused bits stay; ihex_load
+ * clears them. */
+uint32_t ihex_load_table(const uint8_t *text, size_t text_len, uint32_t owner,
+                         const void *table, size_t table_len,
+                         uint8_t *pool, size_t pool_len,
+                         uint8_t *marks, size_t marks_len,
+                         size_t *line, uint8_t *start, uint64_t *a, uint64_t *b, uint64_t *c);
+
 /* How long the file is that ihex_write_page writes: returns 0 and its length as the value, or IHEX_REFUSED and the first of 16, 19 that
  * holds, with the value of 19; the value of 16 is 0. Of the page only the length counts. The unused bits of the marks must be 0: for 3
  * places with the marks 22 (hexadecimal) the value of 19 is 5. Where page_len is a multiple of 8 no bit is unused, and 19 is not given. */
@@ -406,6 +457,16 @@ uint32_t ihex_load_srecords(const uint8_t *text, size_t text_len, uint32_t first
                             uint8_t *page, size_t page_len,
                             uint8_t *marks, size_t marks_len,
                             size_t *line, uint8_t *start, uint64_t *a, uint64_t *b, uint64_t *c);
+
+/* Loads a text of S-records for one owner through a table into the pool. What is returned, line, start, a, b and c are as in
+ * ihex_load_srecords, with the two differences that ihex_load_table has from ihex_load: 23 in place of 16, and the meaning of 17. Of table, pool
+ * and marks all is as in ihex_load_table. The two owners need not have texts of the same kind. With the one window that is named there, the load
+ * is that of ihex_load_srecords in the same way. */
+uint32_t ihex_load_srecords_table(const uint8_t *text, size_t text_len, uint32_t owner,
+                                  const void *table, size_t table_len,
+                                  uint8_t *pool, size_t pool_len,
+                                  uint8_t *marks, size_t marks_len,
+                                  size_t *line, uint8_t *start, uint64_t *a, uint64_t *b, uint64_t *c);
 
 #ifdef __cplusplus
 }

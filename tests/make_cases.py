@@ -103,36 +103,82 @@ def address_of(latest, offset, i):
     return (65536 * number + offset + i) % 2**32
 
 
-def load(text, first, page_size, marks_size):
-    """What the loader answers, page, and packed marks."""
-    untouched = bytes([PAGE]) * page_size, bytes([MARKS]) * marks_size
-    if marks_size != (page_size + 7) // 8 or page_size > 65536 or first + page_size > 2**32:
-        return "! 16 @0", *untouched
-    latest, data, start, stated = ("X2", 0), 0, "", {}
+def stated(text, place_of):
+    """What a text comes to, and the byte that it states at each place; none where it is refused. An address without a place lies outside."""
+    latest, data, start, places = ("X2", 0), 0, "", {}
     for number, row in enumerate(lines_of(text), 1):
         if not row:
             continue
         told, payload = judge(row, bytes(255), 0)
         if told == "E":
-            page = bytes(stated.get(first + i, PAGE) for i in range(page_size))
-            return f"A {data:X} {start}".rstrip(), page, packed([first + i in stated for i in range(page_size)])
+            return f"A {data:X} {start}".rstrip(), places
         if told.startswith("!"):
-            return f"{told} @{number:X}", *untouched
+            return f"{told} @{number:X}", None
         kind, value, *rest = told.split()
         if kind in ("X2", "X4"):
             latest = kind, int(value, 16)
         if kind in ("X3", "X5"):
             if start not in ("", told):
-                return f"! 21 @{number:X}", *untouched
+                return f"! 21 @{number:X}", None
             start = told
         if kind == "D":
             data += 1
             for i in range(int(rest[1], 16)):
                 address = address_of(latest, int(value, 16), i)
-                if not first <= address < first + page_size:
-                    return f"! 17 {address:08X} @{number:X}", *untouched
-                stated[address] = payload[i]
-    return "! 13 @0", *untouched
+                place = place_of(address)
+                if place is None:
+                    return f"! 17 {address:08X} @{number:X}", None
+                places[place] = payload[i]
+    return "! 13 @0", None
+
+
+def load(text, first, page_size, marks_size):
+    """What the loader answers, page, and packed marks."""
+    untouched = bytes([PAGE]) * page_size, bytes([MARKS]) * marks_size
+    if marks_size != (page_size + 7) // 8 or page_size > 65536 or first + page_size > 2**32:
+        return "! 16 @0", *untouched
+    told, places = stated(text, lambda address: address - first if first <= address < first + page_size else None)
+    if places is None:
+        return told, *untouched
+    page = bytes(places.get(p, PAGE) for p in range(page_size))
+    return told, page, packed([p in places for p in range(page_size)])
+
+
+# A window of a table: its owner, its first address, its length, and its place in the pool.
+
+def numbers_of(start, length):
+    return set(range(start, start + length))
+
+
+def is_bad_table(owner, rows, pool_size, marks_size):
+    """Whether a table, or a call with it, breaks a limit; sums are of natural numbers."""
+    if len(rows) > 16 or owner not in (1, 2) or pool_size > 65536 or marks_size != (pool_size + 7) // 8:
+        return True
+    if any(whose not in (1, 2) or first + length > 2**32 or place + length > pool_size for whose, first, length, place in rows):
+        return True
+    for i, (whose, first, length, place) in enumerate(rows):
+        for other, others_first, others_length, others_place in rows[:i]:
+            if numbers_of(place, length) & numbers_of(others_place, others_length):
+                return True
+            if whose == other and numbers_of(first, length) & numbers_of(others_first, others_length):
+                return True
+    return False
+
+
+def load_table(text, owner, rows, pool_size, marks_size):
+    """What the loader answers through a table, pool, and packed marks, in which only those of the owner's places change."""
+    pool, marks = bytearray([PAGE] * pool_size), bytearray([MARKS] * marks_size)
+    if is_bad_table(owner, rows, pool_size, marks_size):
+        return "! 23 @0", pool, marks
+    own = {first + i: place + i for whose, first, length, place in rows if whose == owner for i in range(length)}
+    told, places = stated(text, own.get)
+    if places is not None:
+        for place in own.values():
+            marks[place // 8] &= 255 - 2 ** (place % 8)
+        for place, byte in places.items():
+            pool[place] = byte
+            marks[place // 8] |= 2 ** (place % 8)
+    return told, pool, marks
 
 
 # The cases, in order, each with its answer.
@@ -262,6 +308,25 @@ def load_case(text, answer=None, first=0, page=8, marks=None, places=None):
         if (after, marked) != wanted:
             sys.exit(f"the model stores {after.hex()} and marks {marked.hex()} for the load of {text!r} at {first:X}")
     cases.append(f"M {first:X} {page:X} {marks:X} {text.hex().upper()}".rstrip())
+    answers.append(f"{told} |{told_long(after)} |{told_long(marked)}")
+
+
+def table_case(text, rows, answer=None, owner=1, pool=8, marks=None, places=None):
+    """A text loaded through a table; places are the marked ones of the owner, each with what it holds. The marks have the right number of bytes,
+    or the one given."""
+    if isinstance(text, str):
+        text = text.encode("latin-1")
+    if marks is None:
+        marks = (pool + 7) // 8
+    told, after, marked = load_table(text, owner, rows, pool, marks)
+    if answer is not None and told != answer:
+        sys.exit(f"the model answers {told}, not {answer}, to the load of {text!r} through {rows}")
+    if places is not None:
+        wanted = bytes(places.get(p, PAGE) for p in range(pool))
+        own = {place + i for whose, _, length, place in rows if whose == owner for i in range(length)}
+        if after != wanted or any(marked[p // 8] >> p % 8 & 1 != (p in places if p in own else MARKS >> p % 8 & 1) for p in range(8 * marks)):
+            sys.exit(f"the model stores {after.hex()} and marks {marked.hex()} for the load of {text!r} through {rows}")
+    cases.append(" ".join([f"N {owner:X} {pool:X} {marks:X} {text.hex().upper()}", *map(spelt, rows)]))
     answers.append(f"{told} |{told_long(after)} |{told_long(marked)}")
 
 
@@ -1128,6 +1193,87 @@ def of_the_incident():
         load_case(dump[:-1] + tail, "! 5 @3" if tail == "0" else "! 2 000B @3", 0, 48)
 
 
+def both_orders(rows, answer, **others):
+    for order in (rows, rows[::-1]):
+        table_case(ended(END), order, answer, **others)
+
+
+def of_tables():
+    heading("tables: no window, one, and windows of both owners")
+    five = record(0, 5, b"\x77")
+    table_case(ended(END), [], "A 0", places={})
+    table_case(ended(five, END), [], "! 17 00000005 @1")
+    table_case(ended(five, END), [(1, 0, 8, 0)], "A 1", places={5: 0x77})
+    table_case(ended(five, END), [(1, 0, 8, 0)], "! 17 00000005 @1", owner=2)
+    table_case(ended(five, END), [(2, 4, 2, 3), (1, 0, 3, 0)], "A 1", owner=2, pool=11, places={4: 0x77})
+    for owner in (1, 2):
+        table_case(ended(END), [(1, 0, 3, 6), (2, 0, 2, 1)], "A 0", owner=owner, pool=11, places={})
+    table_case(ended(record(0, 3, b"\1\2\3"), END), [(1, 4, 0, 4), (1, 0, 8, 0), (1, 4, 0, 8)], "A 1", places={3: 1, 4: 2, 5: 3})
+    heading("tables: owners, pools, marks and ends, at each limit and beyond it")
+    for owner in (0, 1, 2, 3, 2**32 - 1):
+        said = "A 0" if owner in (1, 2) else "! 23 @0"
+        table_case(ended(END), [], said, owner=owner)
+        table_case(ended(END), [(1, 0, 1, 0), (owner, 9, 1, 1)], said)
+        table_case("x", [(owner, 0, 0, 0)], "! 1 @1" if owner in (1, 2) else "! 23 @0")
+    for pool in (0, 1, 8, 9, 65535, 65536, 65537):
+        table_case(ended(END), [], "A 0" if pool <= 65536 else "! 23 @0", pool=pool)
+        for marks in ((pool + 7) // 8 + 1, pool // 8 - 1 if pool > 8 else pool):
+            if marks != (pool + 7) // 8:
+                table_case(ended(END), [], "! 23 @0", pool=pool, marks=marks)
+    for row, good in (((1, 2**32 - 4, 4, 0), True), ((1, 2**32 - 3, 4, 0), False), ((1, 0, 0, 8), True), ((1, 0, 0, 9), False), ((2, 0, 4, 4), True),
+                      ((2, 0, 4, 5), False), ((2, 0, 9, 0), False), ((1, 0, 2**63, 2**63), False), ((1, 0, TOP, 1), False), ((1, 0, 1, TOP), False)):
+        table_case(ended(END), [row], "A 0" if good else "! 23 @0")
+    heading("tables: windows that share a place or an address, in both orders, and windows that touch")
+    for one, two, good in (((1, 0, 4, 0), (1, 4, 4, 4), True), ((1, 0, 4, 0), (2, 0, 4, 4), True), ((1, 0, 4, 0), (2, 9, 4, 3), False),
+                           ((1, 0, 4, 0), (1, 3, 4, 4), False), ((1, 0, 8, 0), (1, 9, 1, 7), False), ((2, 0, 4, 0), (2, 1, 1, 4), False),
+                           ((1, 0, 8, 0), (1, 4, 0, 4), True), ((2, 2**32 - 1, 1, 0), (2, 0, 1, 1), True)):
+        both_orders([one, two], "A 0" if good else "! 23 @0")
+        both_orders([one, (2, 99, 0, 0), two], "A 0" if good else "! 23 @0")
+
+
+def of_walks_through_tables():
+    heading("tables: 16 windows and 17, and a text that walks through all")
+    rows = [(1, 0x1000 + 2 * i, 2, 2 * (7 * i % 16)) for i in range(16)]
+    walk = ended(record(0, 0x1000, some_bytes(32, 1)), END)
+    held = {place + i: some_bytes(32, 1)[first - 0x1000 + i] for _, first, _, place in rows for i in range(2)}
+    table_case(walk, rows, "A 1", pool=32, places=held)
+    table_case(walk, rows[:15], "! 17 0000101E @1", pool=32)
+    table_case(walk, [*rows[:7], (2, *rows[7][1:]), *rows[8:]], "! 17 0000100E @1", pool=32)
+    table_case(walk, [*rows, (1, 0, 0, 0)], "! 23 @0", pool=32)
+    table_case(ended(END), [(1, 0, 0, 0)] * 17, "! 23 @0")
+    apart = [(1 + i % 2, 0x20000 * i, 2, 2 * (7 * i % 16)) for i in range(16)]
+    for owner in (1, 2):
+        lines = [line for whose, first, _, _ in apart if whose == owner for line in (record(4, 0, (first >> 16).to_bytes(2, "big")), record(0, 0, bytes([first >> 16, 9])))]
+        held = {place + i: (first >> 16, 9)[i] for whose, first, _, place in apart if whose == owner for i in range(2)}
+        table_case(ended(*lines, END), apart, "A 8", owner, 35, places=held)
+        table_case(ended(*lines, END), apart, f"! 17 {0x20000 * (owner - 1):08X} @2", 3 - owner, 35)
+    heading("tables: a record in two windows, and from FFFFFFFF to 0")
+    table_case(ended(record(0, 103, b"\1\2\3"), END), [(1, 100, 4, 4), (1, 104, 2, 0)], "A 1", places={7: 1, 0: 2, 1: 3})
+    table_case(ended(record(0, 103, b"\1\2\3\4"), END), [(1, 100, 4, 4), (1, 104, 2, 0)], "! 17 0000006A @1")
+    top = ended(record(4, 0, b"\xff\xff"), record(0, 0xFFFF, b"\1\2"), END)
+    table_case(top, [(2, 2**32 - 2, 2, 3), (2, 0, 2, 0)], "A 1", 2, 5, places={4: 1, 0: 2})
+    table_case(top, [(2, 2**32 - 2, 2, 3), (1, 0, 2, 0)], "! 17 00000000 @2", 2, 5)
+    table_case(ended(record(0, 0xFFFF, b"\1\2"), END), [(2, 0xFFFF, 1, 3), (2, 0, 2, 0)], "A 1", 2, 5, places={3: 1, 0: 2})
+    heading("tables: each refusal, and a start")
+    rows = [(1, 0, 8, 2), (2, 8, 2, 0)]
+    for line, told in zip(BAD, BAD_SAID):
+        table_case(ended(record(0, 0, b"\1"), line, END), rows, f"{told} @2", pool=11)
+    table_case(ended(record(0, 0, b"\1")), rows, "! 13 @0", pool=11)
+    table_case(ended(*STARTS, END), rows, "! 21 @2", pool=11)
+    table_case(ended(record(5, 0, b"\0\0\0\xcd"), END, "x"), rows, "A 0 X5 000000CD", pool=11, places={})
+
+
+def of_tables_by_chance():
+    heading("tables by chance")
+    numbers = Numbers(12)
+    for _ in range(150):
+        rows = [(1 + numbers.below(2), numbers.below(16), numbers.below(5), numbers.below(12)) for _ in range(numbers.below(4))]
+        if numbers.below(2):
+            rows = [(whose, first, length, 5 * i) for i, (whose, first, length, _) in enumerate(rows)]
+        lines = [record(0, numbers.below(16), bytes(numbers.below(256) for _ in range(numbers.below(4)))) for _ in range(numbers.below(4))]
+        table_case(ended(*lines, END), rows, owner=1 + numbers.below(2), pool=15 + numbers.below(4))
+
+
 def of_chance_again():
     numbers = Numbers(2026)
     texts = []
@@ -1198,6 +1344,9 @@ def make_all():
     of_places_in_loads()
     of_the_incident()
     of_chance_again()
+    of_tables()
+    of_walks_through_tables()
+    of_tables_by_chance()
 
 
 def hold_to_every_answer():
@@ -1208,7 +1357,8 @@ def hold_to_every_answer():
         told[c[0]].update(part.split(" |")[0] for part in a.split("; "))
     kinds = ["D", "E", "X2", "X3", "X4", "X5"]
     for form, wanted in (("L", [*kinds, *range(1, 11)]), ("T", [*kinds, "done", *range(1, 11)]), ("W", ["W", 11, 12, 15]),
-                         ("O", ["W", *range(11, 16)]), ("M", ["A", *range(1, 10), 13, 16, 17, 21])):
+                         ("O", ["W", *range(11, 16)]), ("M", ["A", *range(1, 10), 13, 16, 17, 21]),
+                         ("N", ["A", *range(1, 10), 13, 17, 21, 23])):
         for w in (f"! {w}" if isinstance(w, int) else w for w in wanted):
             assert any(t == w or t.startswith(w + " ") for t in told[form]), f"no case {form} is answered {w}"
 
@@ -1231,7 +1381,7 @@ def main():
         size += len(text)
         store(name, text)
     number = sum(not c.startswith("#") for c in cases)
-    forms = ", ".join(f"{sum(c.startswith(form) for c in cases)} {form}" for form in "CLTWOM")
+    forms = ", ".join(f"{sum(c.startswith(form) for c in cases)} {form}" for form in "CLTWOMN")
     print(f"{number} cases ({forms}), {size} bytes in the two files")
 
 

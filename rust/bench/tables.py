@@ -34,6 +34,10 @@ LOADS = {
     "linear": "after a type 04",
     "across": "each across the end of segment 0",
 }
+# Loads of a full pool through a table, by how many windows it has. The last two say what the sixteenth costs.
+WINDOWS = (1, 2, 15, 16)
+# Tables by which of their windows fill the pool.
+TABLES = {"table": "all together", "last": "the last alone"}
 # Captures that are saved, by what is dropped of them.
 CAPTURES = {"salvage": "nothing", "noisy": "all, after a first line that is refused"}
 # Pages by which of their places are marked: the multiples of a number.
@@ -176,6 +180,28 @@ def show_captures(reading):
     return dearest
 
 
+def show_tables():
+    """Shows what a load through a table costs beside the loader of one window, and returns that of one window as a multiple."""
+    loader, result = instructions("port", "load", 16, FULL)
+    print(f"Instructions of a load of a full pool through a table, of {FULL:,} records of 16 bytes; the loader of one window takes {whole(loader)} a record:\n")
+    rows, port = [], {}
+    for what, filled in TABLES.items():
+        for windows in WINDOWS:
+            if what == "last" and windows == 1:
+                continue
+            found = {one: instructions(one, what, 16, FULL, windows) for one in ("face", "port")}
+            if {other for _, other in found.values()} != {result}:
+                sys.exit(f"tables, {windows} windows: the results differ, {found}, {result}")
+            n = port[what, windows] = found["port"][0]
+            rows.append([str(windows), filled] + [whole(n) for n, _ in found.values()] + [f"{n / 16:.1f}", f"{n / loader:.2f}"])
+    table(["Windows", "What fills the pool", "face, a record", "port, a record", "port, a byte", "times the loader of one window"], rows)
+    few, most = WINDOWS[-2:]
+    for what, filled in TABLES.items():
+        print(f"Window {most} costs {port[what, most] - port[what, few]:.1f} instructions a record. (What fills the pool: {filled}.)")
+    print()
+    return port["table", 1] / loader
+
+
 def show_srecords(count):
     """Shows what S-records cost beside Intel HEX, and returns the dearest of each work as a multiple of Intel's."""
     print(f"Instructions a record of 16 bytes, of {FULL:,} S-records; Intel HEX beside them is the port's:\n")
@@ -243,12 +269,13 @@ def under(bar):
     return f"under {bar}", lambda is_: is_ < bar
 
 
-def show_bars(who, count, loading, unmarked, chunks, srecords, saving):
+def show_bars(who, count, loading, unmarked, chunks, srecords, saving, tabled):
     reading, writing = count["port", "text", 16], count["port", "object", 16]
     bars = [
         ("the dearest load, as a multiple of reading", loading / reading, at_most(2.5)),
         (f"loading a full page, as a multiple of {BYTE_MARKS:,}, with a byte for each mark", count["port", "load", 16] / BYTE_MARKS, at_most(1.1)),
         ("saving a capture, the dearest, as a multiple of reading", saving / reading, at_most(2.5)),
+        ("loading through a table of one window, as a multiple of the loader of one window", tabled, at_most(1.3)),
         ("writing a page, instructions for a place without a mark", unmarked, under(15)),
         ("reading an S-record, the dearest type, as a multiple of Intel's", srecords["srecord"], at_most(1.15)),
         ("loading S-records, the dearest type, as a multiple of Intel's", srecords["srecords"], at_most(1.15)),
@@ -283,7 +310,8 @@ def main():
     show_chunks(chunks)
     srecords = show_srecords(count)
     saving = show_captures(count["port", "text", 16])
-    show_bars(who, count, loading, unmarked, chunks, srecords, saving)
+    tabled = show_tables()
+    show_bars(who, count, loading, unmarked, chunks, srecords, saving, tabled)
 
 
 main()

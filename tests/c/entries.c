@@ -1,6 +1,7 @@
 /* Calls each function of ihex.h for Intel HEX on telling inputs, with guard bytes around every buffer and number that is lent.
  * The last line is 'N passed, M failed'. */
 #include "lent.h"
+#include "lines.h"
 #include "marks.h"
 #include <ctype.h>
 

@@ -23,6 +23,9 @@ static void check(int holds, const char *file, int line, const char *what)
 
 #define CHECK(holds) check((holds), __FILE__, __LINE__, #holds)
 
+#define COUNT(rows) (sizeof rows / sizeof rows[0])
+#define R(number) (IHEX_REFUSED + (number))
+
 static void begin_case(void)
 {
     in_case = 1;
@@ -54,8 +57,6 @@ struct lent {
     static uint8_t name##room[EDGE + (most) + EDGE]; \
     static struct lent name = {0, sizeof name##room, name##room}
 
-LENT(pool_, MOST);
-LENT(out_, MOST);
 LENT(page_, MOST);
 LENT(marks_, MOST);
 LENT(text_, MOST);
@@ -161,37 +162,6 @@ static int fenced(void)
 static int values(uint64_t x, uint64_t y, uint64_t z)
 {
     return a.value == x && b.value == y && c.value == z && fenced();
-}
-
-/* what reads a line: ihex_read_record, or ihex_read_srecord */
-static uint32_t (*reader)(const uint8_t *line, size_t line_len, uint8_t *pool, size_t pool_len, size_t at, uint64_t *a, uint64_t *b,
-                          uint64_t *c);
-
-static uint32_t read_bytes(const char *l, size_t n, size_t pool_len, size_t at)
-{
-    const uint8_t *bytes = given(&text_, l, n);
-    uint8_t *pool = lend(&pool_, pool_len);
-    uint32_t r;
-    fresh();
-    r = reader(bytes, n, pool, pool_len, at, &a.value, &b.value, &c.value);
-    CHECK(same(&text_, l));
-    return r;
-}
-
-static uint32_t read_line(const char *l, size_t pool_len, size_t at)
-{
-    return read_bytes(l, strlen(l), pool_len, at);
-}
-
-/* what a writer returned and left in the output: a text, or a value and nothing */
-static int wrote(const char *text)
-{
-    return a.value == strlen(text) && holds(&out_, 0, text, strlen(text));
-}
-
-static int wrote_nothing(uint64_t value)
-{
-    return a.value == value && untouched(&out_);
 }
 
 /* a number below the limit, from a fixed sequence */

@@ -1,9 +1,8 @@
 /* Calls ihex_salvage on telling captures, with guard bytes around every buffer and number that is lent, and loads what it saves.
  * The last line is 'N passed, M failed'. */
 #include "lent.h"
-
-#define COUNT(rows) (sizeof rows / sizeof rows[0])
-#define R(number) (IHEX_REFUSED + (number))
+#include "lines.h"
+#include "low.h"
 
 LENT(list_, MOST);
 
@@ -16,15 +15,6 @@ static size_t entries;
 
 /* the bytes of those entries, each number low byte first */
 static uint8_t bytes_of_list[MOST];
-
-static uint8_t *put(uint8_t *at, uint64_t number, int size)
-{
-    while (size-- > 0) {
-        *at++ = (uint8_t)(number & 255);
-        number >>= 8;
-    }
-    return at;
-}
 
 static size_t list_len(void)
 {

@@ -1,9 +1,8 @@
 /* Calls the functions of ihex.h for S-records on telling inputs, with guard bytes around every buffer and number that is lent.
  * The last line is 'N passed, M failed'. */
 #include "lent.h"
+#include "lines.h"
 #include <ctype.h>
-
-#define COUNT(rows) (sizeof rows / sizeof rows[0])
 
 static const uint8_t types[] = {IHEX_S0, IHEX_S1, IHEX_S2, IHEX_S3, IHEX_S5, IHEX_S7, IHEX_S8, IHEX_S9};
 
@@ -62,8 +61,6 @@ static const uint8_t *some_bytes(unsigned from)
 }
 
 /* ---- one line */
-
-#define R(number) (IHEX_REFUSED + (number))
 
 /* lines that leave the pool as it was: refused ones, and records that have no data */
 static const struct {

@@ -8,7 +8,7 @@ use Rattle.steps.specs.Steps.{cs-with-ip, linear-address}
 use Rattle.codes.specs.declared.Coded.{Coded}
 use Rattle.codes.specs.declared.Spot.{Spot}
 use Rattle.codes.specs.Codes.{Message, Coded-as}
-use Rattle.codes.specs.Claims.{Code-answer-unique, Code-sanswer-unique, Code-reply-unique, Code-chunk-reply-unique, Code-attempt-unique, Code-sattempt-unique, Code-loading-unique, Code-paged-unique, Code-salvaged-unique, Line-at-unique, Start-kind-unique, Start-returns, State-from-unique, Flags-from-unique, Chunks-from-unique, Chunk-flags-from-unique, Spot-of-unique, Place-from-unique}
+use Rattle.codes.specs.Claims.{Code-answer-unique, Code-sanswer-unique, Code-reply-unique, Code-chunk-reply-unique, Code-attempt-unique, Code-sattempt-unique, Code-loading-unique, Code-paged-unique, Code-salvaged-unique, Line-at-unique, Start-kind-unique, Code-table-unique, Start-returns, State-from-unique, Flags-from-unique, Chunks-from-unique, Chunk-flags-from-unique, Spot-of-unique, Place-from-unique}
 
 one-coding : {m : Message} {r r′ : Coded} → Coded-as m r → Coded-as m r′ → r ≡ r′
 one-coding {r = r} {r′ = r′} x y =
@@ -54,6 +54,9 @@ line-at-unique answer r r′ x y = x .answer ∙ sym (y .answer)
 
 pub start-kind-unique : Start-kind-unique
 start-kind-unique answer r r′ x y = x .answer ∙ sym (y .answer)
+
+pub code-table-unique : Code-table-unique
+code-table-unique bad r r′ x y = x .answer ∙ sym (y .answer)
 
 pub state-from-unique : State-from-unique
 state-from-unique position line flags r r′ x y = x .answer ∙ sym (y .answer)

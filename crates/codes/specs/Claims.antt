@@ -2,6 +2,7 @@
 -- Assumes nothing.
 use Prim.Native.Nat.{ℕ, _%_}
 use mathlib.Core.Path.{_≡_}
+use mathlib.Core.Bool.{Bool}
 use mathlib.Core.Option.{Option, some}
 use Rattle.reader.specs.declared.Answer.{Answer}
 use Rattle.reader.specs.declared.Reply.{Reply}
@@ -26,7 +27,7 @@ use Rattle.salvage.specs.declared.Salvaged.{Salvaged}
 use Rattle.salvage.specs.Told.{told-salvage}
 use Rattle.codes.specs.declared.Coded.{Coded}
 use Rattle.codes.specs.declared.Spot.{Spot}
-use Rattle.codes.specs.Codes.{Message, Coded-as, reading, reading-chunk, writing, loading, salvaging, LineAt, start-values, kind-of-start, StartKind}
+use Rattle.codes.specs.Codes.{Message, Coded-as, reading, reading-chunk, writing, loading, salvaging, LineAt, start-values, kind-of-start, StartKind, CodeTable}
 use Rattle.codes.specs.States.{state-of, flags-of, chunks-of, chunk-flags-of, lies-of, from-of, len-of, place-of, StateFrom, FlagsFrom, ChunksFrom, ChunkFlagsFrom, Spot-as, PlaceFrom}
 
 -- ---- no second answer meets a contract
@@ -67,6 +68,9 @@ Line-at-unique = (x : Loading) (r r′ : ℕ) → LineAt (told-loading x) r → 
 
 abbrev pub Start-kind-unique : Type 0
 Start-kind-unique = (x : Loading) (r r′ : ℕ) → StartKind (told-loading x) r → StartKind (told-loading x) r′ → r ≡ r′
+
+abbrev pub Code-table-unique : Type 0
+Code-table-unique = (bad : Bool) (r r′ : ℕ) → CodeTable bad r → CodeTable bad r′ → r ≡ r′
 
 abbrev pub State-from-unique : Type 0
 State-from-unique = (position line flags : ℕ) (r r′ : State) → StateFrom position line flags r → StateFrom position line flags r′ → r ≡ r′

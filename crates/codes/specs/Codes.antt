@@ -2,10 +2,12 @@
 -- Assumes nothing.
 use Prim.Native.Nat.{ℕ, _+_}
 use mathlib.Core.Path.{_≡_}
+use mathlib.Core.Bool.{Bool}
 use mathlib.Core.Option.{Option, none, some}
 use mathlib.Core.List.{List, [], _∷_}
 use lib.ListN.{getD}
-use Rattle.record.specs.Refusals.{Refusal, refusal, pool-full, carry-too-small}
+use Rattle.digits.specs.Common.{if_then_else_}
+use Rattle.record.specs.Refusals.{Refusal, refusal, pool-full, carry-too-small, bad-table}
 use Rattle.reader.specs.Told.{Told, gives, refuses, done}
 use Rattle.writer.specs.Told.{Told-written, wrote, refuses as refuses-to-write}
 use Rattle.chunks.specs.Next.{Word, tells, used-up}
@@ -51,6 +53,14 @@ POOL-FULL = refused-with pool-full .code
 -- and for refusal 18: IHEX_REFUSED + IHEX_CARRY_TOO_SMALL
 abbrev pub CARRY-TOO-SMALL : ℕ
 CARRY-TOO-SMALL = refused-with carry-too-small .code
+
+-- and for refusal 23: IHEX_REFUSED + IHEX_BAD_TABLE, which is 256 + 23
+abbrev pub BAD-TABLE : ℕ
+BAD-TABLE = refused-with bad-table .code
+
+-- the code of a table, if it is refused or not
+pub record CodeTable (bad : Bool) (r : ℕ) : Type 0 where
+  pub answer : r ≡ (if bad then BAD-TABLE else OK)
 
 -- a record's type as it is, and DONE for "done"
 abbrev pub reading : Told → Message

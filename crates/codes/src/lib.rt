@@ -41,7 +41,7 @@ ghost use Rattle.steps.specs.Told.{told-loading, loader-refusal, tallied};
 ghost use Rattle.steps.specs.Steps.{accepted};
 ghost use Rattle.page.specs.Told.{told-page, page-refusal};
 ghost use Rattle.salvage.specs.Told.{told-salvage, salvage-refusal};
-ghost use Rattle.codes.specs.Codes.{Coded-as, refused-with, reading, reading-chunk, writing, loading, salvaging, LineAt, StartKind};
+ghost use Rattle.codes.specs.Codes.{Coded-as, refused-with, reading, reading-chunk, writing, loading, salvaging, LineAt, StartKind, CodeTable};
 ghost use Rattle.codes.specs.States.{Flag, StateFrom, FlagsFrom, ChunksFrom, ChunkFlagsFrom, Spot-as, PlaceFrom};
 
 // The codes that are not the type of a record. A refusal's number is added to REFUSED.
@@ -247,6 +247,7 @@ fn code_loader_error(e: LoaderError) -> Coded
             seen as u64,
         ),
         LoaderError::StartConflict => refused(refusals::START_CONFLICT, 0, 0),
+        LoaderError::BadTable => refused(refusals::BAD_TABLE, 0, 0),
     }
 }
 
@@ -437,4 +438,14 @@ pub fn place_from(lies: u8, from: usize, len: usize) -> Place
         return Place::InCarry { len };
     }
     Place::Nowhere
+}
+
+// Whether a window table is refused.
+pub fn code_table(bad: bool) -> u32
+    ensures { λ r. ⌜ CodeTable bad r ⌝ }
+{
+    if bad {
+        return REFUSED + (refusals::BAD_TABLE as u32);
+    }
+    0
 }

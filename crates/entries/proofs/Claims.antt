@@ -12,9 +12,9 @@ use Rattle.entries.specs.declared.Attempt.{Attempt}
 use Rattle.entries.specs.declared.Attempt.the-variants.{Made, BadRecord}
 use Rattle.entries.specs.declared.SAttempt.{SAttempt}
 use Rattle.entries.specs.declared.SAttempt.the-variants as s-attempts
-use Rattle.entries.specs.Entry.{records-of}
+use Rattle.entries.specs.Entry.{records-of, rows-of}
 use Rattle.entries.specs.Attempts.{told-attempt, told-sattempt, Attempts}
-use Rattle.entries.specs.Claims.{Write-record-unique, Write-srecord-unique, Write-list-unique, List-examples}
+use Rattle.entries.specs.Claims.{Write-record-unique, Write-srecord-unique, Write-list-unique, Row-at-unique, List-examples, Table-examples}
 use Rattle.entries.proofs.Listing.{some-none, same-some}
 
 attempts-apart : (a b : Attempt) → told-attempt a ≡ told-attempt b → a ≡ b
@@ -41,6 +41,9 @@ write-srecord-unique kind address at len pool out r r′ o o′ x y = let s = sa
 pub write-list-unique : Write-list-unique
 write-list-unique list pool out r r′ o o′ x y = let s = same-attempts x y in (attempts-apart r r′ (s .0), s .1)
 
+pub row-at-unique : Row-at-unique
+row-at-unique table i r r′ x y = x .answer ∙ sym (y .answer)
+
 pub list-examples : List-examples
 unfolding records-of
 list-examples =
@@ -51,5 +54,18 @@ list-examples =
       start-linear = refl;
       over = refl;
       unknown = refl;
+      cut = refl;
+    }
+
+pub table-examples : Table-examples
+unfolding rows-of
+table-examples =
+    record {
+      empty = refl;
+      one = refl;
+      found = refl;
+      beyond = refl;
+      two = refl;
+      rest = refl;
       cut = refl;
     }

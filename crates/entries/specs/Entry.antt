@@ -1,9 +1,10 @@
--- Records in numbers and in bytes, as C has them.
+-- Records in numbers and in bytes, and windows of a table in bytes, as C has them.
 -- Assumes nothing.
 use Prim.Native.Nat.{ℕ, zero, suc, _+_, _*_, _/_, _%_}
+use mathlib.Core.Path.{_≡_}
 use mathlib.Core.Option.{Option, none, some, Option·map}
 use mathlib.Core.List.{List, [], _∷_, _++_}
-use lib.Dec.{eqb, leb}
+use lib.Dec.{eqb, leb, ltb}
 use lib.ListN.{length, getD}
 use Rattle.digits.specs.Common.{if_then_else_}
 use Rattle.record.specs.declared.Record.{Record}
@@ -11,6 +12,7 @@ use Rattle.record.specs.declared.Record.the-variants.{Data, EndOfFile, Extended
 use Rattle.srec.specs.declared.SType.{SType}
 use Rattle.srec.specs.declared.SType.the-variants.{S0, S1, S2, S3, S5, S7, S8, S9}
 use Rattle.srec.specs.declared.SRecord.{SRecord}
+use Rattle.window.specs.declared.Row.{Row}
 use Rattle.entries.specs.declared.Entry.{Entry}
 use Rattle.entries.specs.declared.Entry.the-variants.{Is, Bad}
 
@@ -82,3 +84,32 @@ records-of bytes = if eqb (length bytes % 24) 0 then first-records bytes (length
 abbrev pub entry-of : Entry → Option Record
 entry-of (Is r) = some r
 entry-of Bad = none
+
+-- ---- a table in bytes
+
+-- what is given for a window that a table does not have
+abbrev pub nobody : Row
+nobody = record { owner = 0; first = 0; size = 0; place = 0 }
+
+-- a window of 24 bytes: owner (4), first address (4), length (8), place (8)
+abbrev pub window-at : List ℕ → (at : ℕ) → Row
+window-at bytes at =
+    record { owner = four-at bytes at; first = four-at bytes (at + 4); size = eight-at bytes (at + 8); place = eight-at bytes (at + 16) }
+
+-- window i of a table, the first is 0
+unfoldable pub row-at : List ℕ → (i : ℕ) → Row
+row-at table i = if ltb i (length table / 24) then window-at table (24 * i) else nobody
+
+pub record RowAt (table : List ℕ) (i : ℕ) (r : Row) : Type 0 where
+  pub answer : r ≡ row-at table i
+
+-- n windows, from window i on
+unfoldable pub rows-from : List ℕ → (i n : ℕ) → List Row
+unfolding row-at
+rows-from table i zero = []
+rows-from table i (suc n) = row-at table i ∷ rows-from table (suc i) n
+
+-- the windows of a table; a rest of fewer than 24 bytes is none
+unfoldable pub rows-of : List ℕ → List Row
+unfolding rows-from
+rows-of table = rows-from table 0 (length table / 24)

@@ -1,16 +1,17 @@
-// Writes a record that is given in numbers, and a list of records that is given in bytes, as C has them.
+// Records in numbers, lists of records in bytes, and windows of a table in bytes, as C has them.
 use record::Record;
 use record::types;
 use srec::Named;
 use srec::SRecord;
 use srec::SWritten;
+use window::Row;
 use writer::Survey;
 use writer::Written;
 ghost use mathlib.Core.Path.{_≡_};
 ghost use mathlib.Core.Option.{some};
 ghost use Prim.Native.Nat.{_+_, _*_, _≤_};
 ghost use lib.ListN.{length};
-ghost use Rattle.entries.specs.Entry.{two-at, four-at, eight-at, record-of, record-at, entry-of};
+ghost use Rattle.entries.specs.Entry.{two-at, four-at, eight-at, record-of, record-at, entry-of, RowAt};
 ghost use Rattle.entries.specs.Helpers.{Is-list, Good, ListSurvey-as, Stepped};
 ghost use Rattle.entries.specs.Attempts.{WriteRecord, WriteSRecord, WriteList};
 
@@ -26,7 +27,7 @@ pub enum SAttempt {
     BadRecord,
 }
 
-// The bytes of a record in a list.
+// The bytes of a record in a list, and of a window in a table.
 const ENTRY: usize = 24;
 
 // What numbers say of a record.
@@ -160,6 +161,27 @@ fn entry_at(list: &[u8], p: usize) -> Entry
     let at = eight_at(list, p + 8);
     let len = eight_at(list, p + 16);
     record_from(list[p], number, second, at, len)
+}
+
+// Window i of a table in bytes, the first is 0; a window of nobody where the table has no such one.
+pub fn row_at(table: &[u8], i: usize) -> Row
+    ensures { λ r. ⌜ RowAt (now (table .entry)) i r ⌝ }
+{
+    if table.len() / ENTRY <= i {
+        return Row {
+            owner: 0,
+            first: 0,
+            size: 0,
+            place: 0,
+        };
+    }
+    let p = ENTRY * i;
+    Row {
+        owner: four_at(table, p) as usize,
+        first: four_at(table, p + 4) as usize,
+        size: eight_at(table, p + 8),
+        place: eight_at(table, p + 16),
+    }
 }
 
 // The same, where it is known to be one.

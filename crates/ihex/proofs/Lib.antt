@@ -13,3 +13,4 @@ pub mod Pages
 pub mod Noise
 pub mod Joined
 pub mod Salvage
+pub mod Tables

@@ -2,6 +2,7 @@
 -- Assumes nothing.
 use Prim.Native.Nat.{ℕ, _+_, _≤_}
 use mathlib.Core.Path.{_≡_}
+use mathlib.Core.Bool.{not, _||_}
 use mathlib.Core.Option.{Option, some}
 use mathlib.Core.List.{List, []}
 use lib.Dec.{leb}
@@ -20,7 +21,12 @@ use Rattle.chunks.specs.declared.Place.the-variants.{Nowhere, InChunk, InCarry}
 use Rattle.chunks.specs.Next.{word-of, Outcome, at-place, next-outcome, finish-outcome}
 use Rattle.srec.specs.Line as s-line
 use Rattle.srec.specs.Answer as s-answer
+use Rattle.steps.specs.declared.Loading.{Loading}
+use Rattle.steps.specs.Told.{told-loading}
 use Rattle.steps.specs.Source.{Source}
+use Rattle.window.specs.Table.{fits}
+use Rattle.table.specs.Load.{torn, load-bytes}
+use Rattle.entries.specs.Entry.{rows-of}
 use Rattle.window.specs.Load.{load-window}
 use Rattle.loader.specs.Placing.{intel}
 use Rattle.srecload.specs.Placing.{s-records}
@@ -28,7 +34,7 @@ use Rattle.page.specs.File.{page-text}
 use Rattle.salvage.specs.Salvage.{refusal-for}
 use Rattle.salvage.specs.Told.{places-in, answered-by, output-by, list-by}
 use Rattle.entries.specs.Attempts.{told-of, output-with, record-text, srecord-text, list-text}
-use Rattle.codes.specs.Codes.{value, Numbers, Load-numbers, reading, reading-chunk, writing, load-numbers, salvaging}
+use Rattle.codes.specs.Codes.{OK, BAD-TABLE, value, Numbers, Load-numbers, reading, reading-chunk, writing, load-numbers, salvaging}
 use Rattle.codes.specs.States.{flags-of, chunk-flags-of, Spotted, place-of}
 
 -- what is returned for one line, in numbers, and the pool after it
@@ -127,6 +133,26 @@ pub record IhexLoadBy {S : Type 0} (src : Source S) (text : List ℕ) (first : �
   pub numbers : r ≡ load-numbers (load-window src text first page marks .answer)
   pub page-is : page′ ≡ load-window src text first page marks .page
   pub marks-is : marks′ ≡ load-window src text first page marks .marks
+
+-- the contract of `tell_load`
+pub record TellLoad (answer : Loading) (r : Load-numbers) : Type 0 where
+  pub numbers : r ≡ load-numbers (told-loading answer)
+
+-- a load for one owner through a table in bytes
+pub record IhexLoadTableBy {S : Type 0} (src : Source S) (text : List ℕ) (owner : ℕ) (table pool marks : List ℕ) (r : Load-numbers) (pool′ marks′ : List ℕ) : Type 0 where
+  pub numbers : r ≡ load-numbers (load-bytes src text owner table pool marks .answer)
+  pub pool-is : pool′ ≡ load-bytes src text owner table pool marks .page
+  pub marks-is : marks′ ≡ load-bytes src text owner table pool marks .marks
+
+abbrev pub IhexLoadTable : (text : List ℕ) (owner : ℕ) (table pool marks : List ℕ) (r : Load-numbers) (pool′ marks′ : List ℕ) → Type 0
+IhexLoadTable text owner table pool marks r pool′ marks′ = IhexLoadTableBy intel text owner table pool marks r pool′ marks′
+
+abbrev pub IhexLoadSrecordsTable : (text : List ℕ) (owner : ℕ) (table pool marks : List ℕ) (r : Load-numbers) (pool′ marks′ : List ℕ) → Type 0
+IhexLoadSrecordsTable text owner table pool marks r pool′ marks′ = IhexLoadTableBy s-records text owner table pool marks r pool′ marks′
+
+-- 23 for a table that every load refuses
+pub record IhexCheckTable (table : List ℕ) (pool marks r : ℕ) : Type 0 where
+  pub answer : r ≡ (if torn table || not (fits 1 pool marks (rows-of table)) then BAD-TABLE else OK)
 
 abbrev pub IhexLoad : (text : List ℕ) (first : ℕ) (page marks : List ℕ) (r : Load-numbers) (page′ marks′ : List ℕ) → Type 0
 IhexLoad text first page marks r page′ marks′ = IhexLoadBy intel text first page marks r page′ marks′

@@ -12,3 +12,4 @@ pub mod RoundTrip
 pub mod Noise
 pub mod Joined
 pub mod Salvage
+pub mod Tables

@@ -1,10 +1,11 @@
 // The C entry points: the library's functions on numbers and byte slices. include/ihex.h declares them.
 use chunks::ChunkStep;
 use chunks::Place;
+use steps::Loading;
 ghost use mathlib.Core.Path.{_≡_};
 ghost use Rattle.checksum.specs.Checksum.{Checksum};
 ghost use Rattle.codes.specs.States.{state-of, chunks-of, place-of};
-ghost use Rattle.ihex.specs.Entries.{start-of, six, TellStep, IhexReadRecord, IhexReadSrecord, IhexNext, IhexNextChunk, IhexFinish, IhexShown, IhexToRecordString, IhexToSrecordString, IhexCreateObjectFileRepresentation, IhexLoad, IhexLoadSrecords, IhexPageFileLength, IhexWritePage, IhexSalvage};
+ghost use Rattle.ihex.specs.Entries.{start-of, six, TellStep, IhexReadRecord, IhexReadSrecord, IhexNext, IhexNextChunk, IhexFinish, IhexShown, IhexToRecordString, IhexToSrecordString, IhexCreateObjectFileRepresentation, TellLoad, IhexLoad, IhexLoadSrecords, IhexLoadTable, IhexLoadSrecordsTable, IhexCheckTable, IhexPageFileLength, IhexWritePage, IhexSalvage};
 
 // The checksum of the bytes.
 #[no_mangle]
@@ -285,6 +286,26 @@ pub extern "C" fn ihex_create_object_file_representation(
     told.code
 }
 
+// A load's answer in numbers.
+fn tell_load(
+    answer: Loading,
+    line: &mut usize,
+    start: &mut u8,
+    a: &mut u64,
+    b: &mut u64,
+    c: &mut u64,
+) -> u32
+    ensures { λ r. ⌜ TellLoad answer (six r (now (line .exit)) (now (start .exit)) (now (a .exit)) (now (b .exit)) (now (c .exit))) ⌝ }
+{
+    let told = codes::code_loading(answer);
+    *line = codes::line_at(answer);
+    *start = codes::start_kind(answer);
+    *a = told.a;
+    *b = told.b;
+    *c = told.c;
+    told.code
+}
+
 // A text into a page with marks.
 #[no_mangle]
 pub extern "C" fn ihex_load(
@@ -301,13 +322,7 @@ pub extern "C" fn ihex_load(
     ensures { λ r. ⌜ IhexLoad (now (text .entry)) first (now (page .entry)) (now (marks .entry)) (six r (now (line .exit)) (now (start .exit)) (now (a .exit)) (now (b .exit)) (now (c .exit))) (now (page .exit)) (now (marks .exit)) ⌝ }
 {
     let answer = loader::load(text, first, page, marks);
-    let told = codes::code_loading(answer);
-    *line = codes::line_at(answer);
-    *start = codes::start_kind(answer);
-    *a = told.a;
-    *b = told.b;
-    *c = told.c;
-    told.code
+    tell_load(answer, line, start, a, b, c)
 }
 
 // A text of S-records into a page with marks.
@@ -326,13 +341,55 @@ pub extern "C" fn ihex_load_srecords(
     ensures { λ r. ⌜ IhexLoadSrecords (now (text .entry)) first (now (page .entry)) (now (marks .entry)) (six r (now (line .exit)) (now (start .exit)) (now (a .exit)) (now (b .exit)) (now (c .exit))) (now (page .exit)) (now (marks .exit)) ⌝ }
 {
     let answer = srecload::load_srecords(text, first, page, marks);
-    let told = codes::code_loading(answer);
-    *line = codes::line_at(answer);
-    *start = codes::start_kind(answer);
-    *a = told.a;
-    *b = told.b;
-    *c = told.c;
-    told.code
+    tell_load(answer, line, start, a, b, c)
+}
+
+// A text for one owner through a window table into a shared pool.
+#[no_mangle]
+pub extern "C" fn ihex_load_table(
+    text: &[u8],
+    owner: u32,
+    table: &[u8],
+    pool: &mut [u8],
+    marks: &mut [u8],
+    line: &mut usize,
+    start: &mut u8,
+    a: &mut u64,
+    b: &mut u64,
+    c: &mut u64,
+) -> u32
+    ensures { λ r. ⌜ IhexLoadTable (now (text .entry)) owner (now (table .entry)) (now (pool .entry)) (now (marks .entry)) (six r (now (line .exit)) (now (start .exit)) (now (a .exit)) (now (b .exit)) (now (c .exit))) (now (pool .exit)) (now (marks .exit)) ⌝ }
+{
+    let answer = table::load(text, owner, table, pool, marks);
+    tell_load(answer, line, start, a, b, c)
+}
+
+// A text of S-records for one owner through a window table into a shared pool.
+#[no_mangle]
+pub extern "C" fn ihex_load_srecords_table(
+    text: &[u8],
+    owner: u32,
+    table: &[u8],
+    pool: &mut [u8],
+    marks: &mut [u8],
+    line: &mut usize,
+    start: &mut u8,
+    a: &mut u64,
+    b: &mut u64,
+    c: &mut u64,
+) -> u32
+    ensures { λ r. ⌜ IhexLoadSrecordsTable (now (text .entry)) owner (now (table .entry)) (now (pool .entry)) (now (marks .entry)) (six r (now (line .exit)) (now (start .exit)) (now (a .exit)) (now (b .exit)) (now (c .exit))) (now (pool .exit)) (now (marks .exit)) ⌝ }
+{
+    let answer = table::load_srecords(text, owner, table, pool, marks);
+    tell_load(answer, line, start, a, b, c)
+}
+
+// Whether a window table is good for a pool and marks of these lengths.
+#[no_mangle]
+pub extern "C" fn ihex_check_table(table: &[u8], pool_len: usize, marks_len: usize) -> u32
+    ensures { λ r. ⌜ IhexCheckTable (now (table .entry)) «pool_len» «marks_len» r ⌝ }
+{
+    codes::code_table(table::is_bad(table, pool_len, marks_len))
 }
 
 // The length of the file of a page with marks.

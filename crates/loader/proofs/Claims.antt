@@ -19,10 +19,10 @@ use Rattle.steps.specs.Steps.{Placement, nothing-yet, Verdict, refused, stated}
 use Rattle.steps.specs.Source as source
 use Rattle.steps.specs.Account.{Decided}
 use Rattle.window.specs.Reasons.{bad-one, no-end, at-line, Among}
-use Rattle.window.proofs.Reasons.{load-reasons}
+use Rattle.window.proofs.Reasons.{load-reasons, table-reasons}
 use Rattle.loader.specs.Placing.{intel, intel-by}
 use Rattle.window.specs.Load.{stopping-by-window, load-window}
-use Rattle.loader.specs.Claims.{in-force, data-records, Stops, the-end, no-record, first-outside, start-differs, account, Why, Reasons, Load-names-the-offender, refusal-numbers, Total, Examples}
+use Rattle.loader.specs.Claims.{in-force, data-records, Stops, the-end, no-record, first-outside, start-differs, account, Why, Reasons, Reasons-by-table, Load-names-the-offender, refusal-numbers, Total, Examples}
 use Rattle.loader.proofs.Reasons.{counted-none, walked}
 
 pub examples : Examples
@@ -34,6 +34,10 @@ examples = record { sixth-place = refl; unused-bits = refl; below-it = refl; sam
 pub reasons : Reasons
 unfolding source.steps-of in-force data-records intel-by
 reasons = load-reasons intel account (λ inside text. walked inside (lines text) 1 [] nothing-yet counted-none)
+
+pub reasons-by-table : Reasons-by-table
+unfolding source.steps-of in-force data-records intel-by
+reasons-by-table = table-reasons intel account (λ inside text. walked inside (lines text) 1 [] nothing-yet counted-none)
 
 -- ---- totality
 

@@ -3,9 +3,10 @@
 use mathlib.Core.Option.{some}
 use Rattle.steps.proofs.Sites.{owed-unique}
 use Rattle.window.proofs.Loads as loads
+use Rattle.window.proofs.Tables as tables
 use Rattle.window.proofs.AsBytes as bytes
 use Rattle.loader.specs.Placing.{intel}
-use Rattle.loader.specs.Claims.{Non-interference, What-is-stored, Owed-at-unique, Refusal-changes-nothing, Sizes-kept, Load-unique}
+use Rattle.loader.specs.Claims.{Non-interference, What-is-stored, Owed-at-unique, Refusal-changes-nothing, Sizes-kept, Load-unique, Load-table-unique}
 use Rattle.loader.specs.Packed.{Packed-as-bytes}
 
 pub non-interference : Non-interference
@@ -22,6 +23,9 @@ refusal-changes-nothing = loads.refusal-changes-nothing _ intel
 
 pub sizes-kept : Sizes-kept
 sizes-kept = loads.sizes-kept _ intel
+
+pub load-table-unique : Load-table-unique
+load-table-unique = tables.load-table-unique _ intel
 
 pub load-unique : Load-unique
 load-unique = loads.load-window-unique _ intel

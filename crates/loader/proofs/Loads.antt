@@ -4,11 +4,11 @@
 use mathlib.Core.Path.{_≡_, refl, ap, _∙_, subst}
 use Prim.Native.Nat.{ℕ, _^_, _<_}
 use mathlib.Core.Bool.{Bool}
+use mathlib.Core.Option.{Option}
 use mathlib.Core.List.{List}
 use lib.ListN.{length}
 use Rattle.reader.specs.Along.{unread}
 use Rattle.steps.specs.Steps.{nothing-yet, decision, verdict}
-use Rattle.steps.proofs.Sites as general
 use Rattle.window.specs.Contracts.{Painted}
 use Rattle.steps.specs.declared.Loading.{Loading}
 use Rattle.steps.specs.declared.Start.the-variants.{Unstated}
@@ -19,7 +19,7 @@ use Rattle.loader.specs.declared.Further.{Further}
 use Rattle.loader.specs.declared.Further.the-variants as further
 use Rattle.loader.specs.declared.Walk.{Walk}
 use Rattle.window.specs.Load.{Same-painting}
-use Rattle.loader.specs.Load.{placements, steps-of, load, Load}
+use Rattle.loader.specs.Load.{placements, steps-of}
 use Rattle.steps.specs.Told.{tallied, told-loading}
 use Rattle.loader.specs.Helpers.{ahead-of, Under-way, Few, Onward, Judged, Written-on, Wrote}
 use Rattle.window.proofs.Loads.{painting-start, painting-on, painting-end}
@@ -55,35 +55,35 @@ module _ (inside : ℕ → Bool) (text pool : List ℕ) where
 
 -- ---- the second pass
 
-pub record Writing (first : ℕ) (text page₀ marks₀ page marks pool : List ℕ) (w : Walk) : Type 0 where
+pub record Writing (site : ℕ → Option ℕ) (text page₀ marks₀ page marks pool : List ℕ) (w : Walk) : Type 0 where
   pub under-way : Under-way text w
   pub room : length pool ≡ 255
   pub sizes : length marks ≡ length marks₀
-  pub same : Same-painting first (steps-of text) page₀ marks₀ (ahead-of w text) page marks
+  pub same : Same-painting site (steps-of text) page₀ marks₀ (ahead-of w text) page marks
 
-module _ (first : ℕ) (text page₀ marks₀ : List ℕ) where
-  pub writing-start : (pool : List ℕ) → length text < 2 ^ 64 → length pool ≡ 255 → (w : Walk) → w ≡ start → Writing first text page₀ marks₀ page₀ marks₀ pool w
+module _ (site : ℕ → Option ℕ) (text page₀ marks₀ : List ℕ) where
+  pub writing-start : (pool : List ℕ) → length text < 2 ^ 64 → length pool ≡ 255 → (w : Walk) → w ≡ start → Writing site text page₀ marks₀ page₀ marks₀ pool w
   writing-start pool h l w e =
-      rw e (record { under-way = start-under-way text h; room = l; sizes = refl; same = rw (start-ahead text) (painting-start first (steps-of text) page₀ marks₀) })
+      rw e (record { under-way = start-under-way text h; room = l; sizes = refl; same = rw (start-ahead text) (painting-start site (steps-of text) page₀ marks₀) })
 
-  module _ (page marks pool : List ℕ) (w : Walk) (s : Writing first text page₀ marks₀ page marks pool w) (t : Further) (page′ marks′ : List ℕ) (o : Wrote first text w page marks t page′ marks′) where
-    written : (w′ : Walk) → t ≡ further.On w′ → Written-on first text w page marks w′ page′ marks′
-    written w′ e = subst (λ (x : Further). Wrote first text w page marks x page′ marks′) e o
+  module _ (page marks pool : List ℕ) (w : Walk) (s : Writing site text page₀ marks₀ page marks pool w) (t : Further) (page′ marks′ : List ℕ) (o : Wrote site text w page marks t page′ marks′) where
+    written : (w′ : Walk) → t ≡ further.On w′ → Written-on site text w page marks w′ page′ marks′
+    written w′ e = subst (λ (x : Further). Wrote site text w page marks x page′ marks′) e o
 
     pub writing-less : (w′ : Walk) → t ≡ further.On w′ → length (unread (w′ .state) text) < length (unread (w .state) text)
     writing-less w′ e = written w′ e .less
 
-    pub writing-again : (w′ : Walk) → t ≡ further.On w′ → (pool′ : List ℕ) → length pool′ ≡ length pool → length marks′ ≡ length marks → Writing first text page₀ marks₀ page′ marks′ pool′ w′
+    pub writing-again : (w′ : Walk) → t ≡ further.On w′ → (pool′ : List ℕ) → length pool′ ≡ length pool → length marks′ ≡ length marks → Writing site text page₀ marks₀ page′ marks′ pool′ w′
     writing-again w′ e pool′ l lm =
         let n = written w′ e in
         record {
           under-way = n .under-way;
           room = l ∙ s .room;
           sizes = lm ∙ s .sizes;
-          same = painting-on first (steps-of text) (ahead-of w text) (ahead-of w′ text) page₀ marks₀ page marks page′ marks′ (s .same) (n .same);
+          same = painting-on site (steps-of text) (ahead-of w text) (ahead-of w′ text) page₀ marks₀ page marks page′ marks′ (s .same) (n .same);
         }
 
-    pub writing-end : t ≡ further.End → Painted first (placements text) page₀ marks₀ page′ marks′
+    pub writing-end : t ≡ further.End → Painted site (placements text) page₀ marks₀ page′ marks′
     writing-end e =
-        let (n, p, m) = subst (λ (x : Further). Wrote first text w page marks x page′ marks′) e o in
-        rw (p, m) (painting-end first (steps-of text) (ahead-of w text) page₀ marks₀ page marks (s .same) n)
+        let (n, p, m) = subst (λ (x : Further). Wrote site text w page marks x page′ marks′) e o in
+        rw (p, m) (painting-end site (steps-of text) (ahead-of w text) page₀ marks₀ page marks (s .same) n)

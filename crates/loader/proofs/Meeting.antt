@@ -21,7 +21,6 @@ use Rattle.steps.specs.Steps.{Start, starts, Step, Tally, started, accepted, re
 use Rattle.steps.proofs.Starts.{agreed}
 use Rattle.window.specs.declared.Reach.{Reach}
 use Rattle.window.specs.declared.Reach.the-variants.{Inside, Outside}
-use Rattle.window.specs.Window.{within}
 use Rattle.window.specs.Contracts.{first-byte, Surveyed, Painted}
 use Rattle.window.proofs.Loads.{painted-nothing}
 use Rattle.loader.specs.declared.Base.{Base as CodeBase}
@@ -80,12 +79,9 @@ short-record (StartLinearAddress n) pool l = tt
 
 -- ---- the first pass
 
-module _ (first size : ℕ) (w : Walk) (tally : CodeTally) (x : Record) (pool : List ℕ) (lies : Lies-in x pool) where
-  abbrev inside : ℕ → Bool
-  inside = within first size
-
+module _ (inside : ℕ → Bool) (w : Walk) (tally : CodeTally) (x : Record) (pool : List ℕ) (lies : Lies-in x pool) where
   -- where the payload of a data record lies, as it was surveyed
-  surveyed : (offset at len : ℕ) → x ≡ Data offset at len → (r : Reach) → Surveyed (byte-address (based (w .base)) offset) len first size r
+  surveyed : (offset at len : ℕ) → x ≡ Data offset at len → (r : Reach) → Surveyed (byte-address (based (w .base)) offset) len inside r
       → outside inside (placed (based (w .base)) offset 0 (take len (drop at pool))) ≡ Option·map (byte-address (based (w .base)) offset) (first-byte r)
   surveyed offset at len e r s =
       let l : Lies-in (Data offset at len) pool = rw e at lies in
@@ -95,7 +91,7 @@ module _ (first size : ℕ) (w : Walk) (tally : CodeTally) (x : Record) (pool : 
   abbrev pub there : CodeBase → Walk
   there b = record { state = w .state; base = b }
 
-  pub met-inside : (offset at len : ℕ) → x ≡ Data offset at len → Surveyed (byte-address (based (w .base)) offset) len first size Inside
+  pub met-inside : (offset at len : ℕ) → x ≡ Data offset at len → Surveyed (byte-address (based (w .base)) offset) len inside Inside
       → (b : CodeBase) → Behind (w .base) x b → Passed inside w tally (meant x pool) (there b) (record { records = tally .records + 1; start = tally .start })
   unfolding decision turn does is-end
   met-inside offset at len e s b k =
@@ -122,7 +118,7 @@ module _ (first size : ℕ) (w : Walk) (tally : CodeTally) (x : Record) (pool : 
       kept false q = let r : tallied tally′ ≡ started s (tallied tally) = cc in omega (arith, ap (λ (u : Tally). u .records) r)
   met-start s stated e n d b k (Stop l) m = λ rest. rw (d (based (w .base)), ← (m .comes-to s e))
 
-  pub met-outside : (offset at len i : ℕ) → x ≡ Data offset at len → Surveyed (byte-address (based (w .base)) offset) len first size (Outside i)
+  pub met-outside : (offset at len i : ℕ) → x ≡ Data offset at len → Surveyed (byte-address (based (w .base)) offset) len inside (Outside i)
       → (rest : List Step) → refused (outside-window (byte-address (based (w .base)) offset i)) (w .state .line) ≡ verdict (decision inside (tallied tally) (does-on (w .state .line) (based (w .base)) (meant x pool) ++ rest))
   unfolding decision turn does verdict
   met-outside offset at len i e s rest = let o = surveyed offset at len e (Outside i) s in rw (e, o)
@@ -158,12 +154,12 @@ module _ (there : Walk) (tally : CodeTally) (stated : CodeStart) where
 
 -- ---- the second pass
 
-module _ (first : ℕ) (base : Base) (x : Record) (pool page marks : List ℕ) where
+module _ (site : ℕ → Option ℕ) (base : Base) (x : Record) (pool page marks : List ℕ) where
   -- a record that states nothing leaves page and marks as they are
-  pub idle : stated-by base (meant x pool) ≡ [] → Painted first (stated-by base (meant x pool)) page marks page marks
-  idle e = rw e (painted-nothing first page marks)
+  pub idle : stated-by base (meant x pool) ≡ [] → Painted site (stated-by base (meant x pool)) page marks page marks
+  idle e = rw e (painted-nothing site page marks)
 
   pub painted-data : (offset at len : ℕ) (page′ marks′ : List ℕ) → x ≡ Data offset at len
-      → Painted first (placed base offset 0 (take (at + len - at) (drop at pool))) page marks page′ marks′ → Painted first (stated-by base (meant x pool)) page marks page′ marks′
+      → Painted site (placed base offset 0 (take (at + len - at) (drop at pool))) page marks page′ marks′ → Painted site (stated-by base (meant x pool)) page marks page′ marks′
   unfolding stated-by
   painted-data offset at len page′ marks′ e p = rw e (rw (part-is pool at len) at p)

@@ -12,9 +12,9 @@ use Rattle.record.specs.Line.{wrong, judge}
 use Rattle.steps.specs.Steps.{Placement, Start, Verdict, accepted, refused}
 use Rattle.steps.proofs.Starts.{one-start}
 use Rattle.steps.proofs.Firsts.{not-empty, every-at, same-first, Inside, not-inside, Sound}
-use Rattle.window.proofs.Reasons.{load-one-reason}
+use Rattle.window.proofs.Reasons.{load-one-reason, table-one-reason}
 use Rattle.loader.specs.Placing.{stated-by, intel}
-use Rattle.loader.specs.Claims.{said-record, record-on, states, starts, start-on, Passes, is-empty, goes-on, Stops, the-end, no-record, first-outside, start-differs, account, One-reason}
+use Rattle.loader.specs.Claims.{said-record, record-on, states, starts, start-on, Passes, is-empty, goes-on, Stops, the-end, no-record, first-outside, start-differs, account, One-reason, One-reason-by-table}
 
 -- ---- one line
 
@@ -83,3 +83,6 @@ module _ (inside : ℕ → Bool) where
 
 pub one-reason : One-reason
 one-reason = load-one-reason intel account sound
+
+pub one-reason-by-table : One-reason-by-table
+one-reason-by-table = table-one-reason intel account sound

@@ -5,6 +5,7 @@ use mathlib.Core.Path.{_≡_, refl, sym, ap, ap₂, _∙_}
 use Prim.Native.Nat.{ℕ, _+_, _^_, _≤_, _<_}
 use native.Mathlib.Omega.{arith}
 use mathlib.Core.Bool.{Bool, true, false, _&&_}
+use mathlib.Core.Option.{Option}
 use mathlib.Core.List.{List, [], _∷_, _++_}
 use lib.ListN.{length}
 use Rattle.digits.specs.Common.{if_then_else_}
@@ -134,10 +135,10 @@ module _ (text : List ℕ) (w : Walk) (pool : List ℕ) (r : Replied) (pool′ :
       ap stated (ahead-step x one)
       ∙ stated-step (r .state .line) (based (w .base)) (meant x pool′) (one .more) (unread (r .state) text) (unread-more x one) (unread-none x one)
 
-  pub wrote : (first : ℕ) (page₀ marks₀ page′ marks′ : List ℕ) (x : Record) (one : Here x) (b : CodeBase)
-      → Painted first (stated-by (based (w .base)) (meant x pool′)) page₀ marks₀ page′ marks′ → Behind (w .base) x b
-      → Written-on first text w page₀ marks₀ (record { state = r .state; base = b }) page′ marks′
-  wrote first page₀ marks₀ page′ marks′ x one b p h =
+  pub wrote : (site : ℕ → Option ℕ) (page₀ marks₀ page′ marks′ : List ℕ) (x : Record) (one : Here x) (b : CodeBase)
+      → Painted site (stated-by (based (w .base)) (meant x pool′)) page₀ marks₀ page′ marks′ → Behind (w .base) x b
+      → Written-on site text w page₀ marks₀ (record { state = r .state; base = b }) page′ marks′
+  wrote site page₀ marks₀ page′ marks′ x one b p h =
       record { under-way = record { options = one .options; countable = one .countable }; less = shorter x one; same = same }
     where
       ps : List Placement
@@ -149,8 +150,8 @@ module _ (text : List ℕ) (w : Walk) (pool : List ℕ) (r : Replied) (pool′ :
       all : stated (ahead-of w text) ≡ ps ++ qs
       all = stated-ahead x one ∙ ap (λ (y : Base). ps ++ stated (left y (unread (r .state) text))) (sym (h .base-is pool′))
 
-      same : Same-painting first (ahead-of w text) page₀ marks₀ (left (based b) (unread (r .state) text)) page′ marks′
-      same = painting-step first (ahead-of w text) (left (based b) (unread (r .state) text)) ps page₀ marks₀ page′ marks′ all p
+      same : Same-painting site (ahead-of w text) page₀ marks₀ (left (based b) (unread (r .state) text)) page′ marks′
+      same = painting-step site (ahead-of w text) (left (based b) (unread (r .state) text)) ps page₀ marks₀ page′ marks′ all p
 
   -- after a line that is refused, and after the last line, nothing is stated
   pub refused-states : (n : ℕ) (e : ReaderError) (more : List Numbered) → unread (w .state) text ≡ on n (wrong (refusal-of e)) ∷ more → stated (ahead-of w text) ≡ []

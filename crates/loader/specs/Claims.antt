@@ -24,7 +24,9 @@ use Rattle.steps.specs.Steps.{Placement, Start, cs-with-ip, linear-address, Tal
 use Rattle.steps.specs.Starts.{Starts-at}
 use Rattle.steps.specs.Sites.{Owed-at}
 use Rattle.steps.specs.Account.{Account}
-use Rattle.window.specs.Reasons.{Load-reasons, Load-one-reason, Among}
+use Rattle.window.specs.declared.Row.{Row}
+use Rattle.window.specs.Tables.{LoadTable}
+use Rattle.window.specs.Reasons.{Load-reasons, Load-one-reason, Table-reasons, Table-one-reason, Among}
 use Rattle.window.specs.Reasons as reasons
 pub use Rattle.window.specs.Loads.{Alike}
 use Rattle.loader.specs.Placing.{Base, from-start, segment, linear, stated-by, intel}
@@ -174,6 +176,13 @@ Reasons = Load-reasons intel account
 abbrev pub One-reason : Type 0
 One-reason = Load-one-reason intel account
 
+-- so it is through a window table
+abbrev pub Reasons-by-table : Type 0
+Reasons-by-table = Table-reasons intel account
+
+abbrev pub One-reason-by-table : Type 0
+One-reason-by-table = Table-one-reason intel account
+
 -- a load that is refused with 2 gives the number of a line that has an offender, and names the first one's place there
 abbrev pub Load-names-the-offender : Type 0
 Load-names-the-offender =
@@ -190,6 +199,11 @@ Total = (text : List ℕ) (first : ℕ) (page marks : List ℕ) → Among refusa
 -- ---- the contract
 
 -- no second answer, and no second page or marks, meets the contract
+abbrev pub Load-table-unique : Type 0
+Load-table-unique =
+    (owner : ℕ) (rows : List Row) (text pool marks : List ℕ) (r r′ : Loading) (p p′ m m′ : List ℕ)
+    → LoadTable intel owner rows text pool marks r p m → LoadTable intel owner rows text pool marks r′ p′ m′ → (r ≡ r′) × (p ≡ p′) × (m ≡ m′)
+
 abbrev pub Load-unique : Type 0
 Load-unique =
     (text : List ℕ) (first : ℕ) (page marks : List ℕ) (r r′ : Loading) (p p′ m m′ : List ℕ)

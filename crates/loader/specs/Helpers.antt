@@ -3,7 +3,7 @@
 use Prim.Native.Nat.{ℕ, suc, _+_, _≤_, _<_}
 use mathlib.Core.Path.{_≡_}
 use mathlib.Core.Bool.{Bool, false}
-use mathlib.Core.Option.{some}
+use mathlib.Core.Option.{Option, some}
 use mathlib.Core.List.{List, [], _++_, map}
 use lib.ListN.{length}
 use Rattle.record.specs.Meaning.{Meaning}
@@ -115,11 +115,11 @@ Judged inside text w tally (Stop l) = told-loading l ≡ verdict (decision insid
 -- ---- the second pass
 
 -- a line was written: the walk goes on, or nothing more is stated
-pub record Written-on (first : ℕ) (text : List ℕ) (w : Walk) (page₀ marks₀ : List ℕ) (w′ : Walk) (page′ marks′ : List ℕ) : Type 0 where
+pub record Written-on (site : ℕ → Option ℕ) (text : List ℕ) (w : Walk) (page₀ marks₀ : List ℕ) (w′ : Walk) (page′ marks′ : List ℕ) : Type 0 where
   pub under-way : Under-way text w′
   pub less : length (unread (w′ .state) text) < length (unread (w .state) text)
-  pub same : Same-painting first (ahead-of w text) page₀ marks₀ (ahead-of w′ text) page′ marks′
+  pub same : Same-painting site (ahead-of w text) page₀ marks₀ (ahead-of w′ text) page′ marks′
 
-abbrev pub Wrote : (first : ℕ) (text : List ℕ) (w : Walk) (page₀ marks₀ : List ℕ) → Further → (page′ marks′ : List ℕ) → Type 0
-Wrote first text w page₀ marks₀ (further.On w′) page′ marks′ = Written-on first text w page₀ marks₀ w′ page′ marks′
-Wrote first text w page₀ marks₀ further.End page′ marks′ = (stated (ahead-of w text) ≡ []) × (page′ ≡ page₀) × (marks′ ≡ marks₀)
+abbrev pub Wrote : (site : ℕ → Option ℕ) (text : List ℕ) (w : Walk) (page₀ marks₀ : List ℕ) → Further → (page′ marks′ : List ℕ) → Type 0
+Wrote site text w page₀ marks₀ (further.On w′) page′ marks′ = Written-on site text w page₀ marks₀ w′ page′ marks′
+Wrote site text w page₀ marks₀ further.End page′ marks′ = (stated (ahead-of w text) ≡ []) × (page′ ≡ page₀) × (marks′ ≡ marks₀)

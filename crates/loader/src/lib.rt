@@ -9,6 +9,7 @@ use steps::Loading;
 use steps::Start;
 use steps::Tally;
 use window::Reach;
+use window::owners;
 ghost use mathlib.Core.Path.{_≡_};
 ghost use Prim.Native.Nat.{_+_, _^_, _≤_, _<_, min, _-_};
 ghost use lib.ListN.{length};
@@ -16,9 +17,10 @@ ghost use Rattle.record.specs.Record.{meant};
 ghost use Rattle.reader.specs.Text.{new-state, default-options};
 ghost use Rattle.steps.specs.Steps.{nothing-yet, decision, verdict};
 ghost use Rattle.steps.specs.Told.{told-loading};
-ghost use Rattle.window.specs.Window.{within};
+ghost use Rattle.window.specs.Table.{rows-in, site-of, inside-of, Sound};
+ghost use Rattle.window.specs.Tables.{LoadTable};
 ghost use Rattle.window.specs.Contracts.{Surveyed, Painted};
-ghost use Rattle.loader.specs.Placing.{byte-address, placed};
+ghost use Rattle.loader.specs.Placing.{intel, byte-address, placed};
 ghost use Rattle.loader.specs.Load.{placements, steps-of, Load};
 ghost use Rattle.loader.specs.Helpers.{based, stated-by, Short, Lies-in, Behind, Under-way, Few, MeetsStart, Meets, Judged, Wrote};
 
@@ -91,18 +93,23 @@ fn first_run(offset: u16, len: usize) -> usize
 }
 
 // Where the bytes of a data record lie.
-fn survey(base: Base, offset: u16, len: usize, first: u32, size: usize) -> Reach
+fn survey(base: Base, offset: u16, len: usize, owner: usize, rows: &[usize]) -> Reach
     requires { ⌜ len ≤ 255 ⌝ }
-    ensures { λ r. ⌜ Surveyed (byte-address (based base) offset) len first size r ⌝ }
+    ensures { λ r. ⌜ Surveyed (byte-address (based base) offset) len (inside-of owner (rows-in (now (rows .entry)))) r ⌝ }
 {
     let run = first_run(offset, len);
     if run == len {
-        return window::first_outside(first, size, byte_address(base, offset, 0), len);
+        return window::first_outside(owner, rows, byte_address(base, offset, 0), len as u32);
     }
-    match window::first_outside(first, size, byte_address(base, offset, 0), run) {
+    match window::first_outside(owner, rows, byte_address(base, offset, 0), run as u32) {
         Reach::Outside(i) => Reach::Outside(i),
         Reach::Inside => {
-            match window::first_outside(first, size, byte_address(base, offset, run), len - run) {
+            match window::first_outside(
+                owner,
+                rows,
+                byte_address(base, offset, run),
+                (len - run) as u32,
+            ) {
                 Reach::Outside(i) => Reach::Outside(run + i),
                 Reach::Inside => Reach::Inside,
             }
@@ -111,13 +118,22 @@ fn survey(base: Base, offset: u16, len: usize, first: u32, size: usize) -> Reach
 }
 
 // Stores the bytes of a data record and marks their places, each at its own address.
-fn put(base: Base, offset: u16, bytes: &[u8], first: u32, page: &mut [u8], marks: &mut [u8])
-    requires { ⌜ length (now bytes) ≤ 255 ⌝ }
-    ensures { λ _. ⌜ Painted first (placed (based base) offset 0 (now (bytes .entry))) (now (page .entry)) (now (marks .entry)) (now (page .exit)) (now (marks .exit)) ⌝ }
+fn put(
+    base: Base,
+    offset: u16,
+    bytes: &[u8],
+    owner: usize,
+    rows: &[usize],
+    page: &mut [u8],
+    marks: &mut [u8],
+)
+    requires { ⌜ (length (now bytes) ≤ 255) × Sound (length (now page)) (rows-in (now rows)) ⌝ }
+    ensures { λ _. ⌜ Painted (site-of owner (rows-in (now (rows .entry)))) (placed (based base) offset 0 (now (bytes .entry))) (now (page .entry)) (now (marks .entry)) (now (page .exit)) (now (marks .exit)) ⌝ }
 {
     let run = first_run(offset, bytes.len());
     window::put_run(
-        first,
+        owner,
+        rows,
         byte_address(base, offset, 0),
         &bytes[..run],
         page,
@@ -125,7 +141,8 @@ fn put(base: Base, offset: u16, bytes: &[u8], first: u32, page: &mut [u8], marks
     );
     if run < bytes.len() {
         window::put_run(
-            first,
+            owner,
+            rows,
             byte_address(base, offset, run),
             &bytes[run..],
             page,
@@ -153,9 +170,9 @@ fn judge_start(there: Walk, tally: Tally, stated: Start) -> Turn
 }
 
 // What a record comes to in the first pass. The walk stands after the record's line, with the base before it.
-fn judge_record(first: u32, size: usize, w: Walk, tally: Tally, given: Record) -> Turn
+fn judge_record(owner: usize, rows: &[usize], w: Walk, tally: Tally, given: Record) -> Turn
     requires { ⌜ Short given × (tally .records + 1 < 2 ^ 64) ⌝ }
-    ensures { λ r. ⌜ Meets (within first size) w tally given r ⌝ }
+    ensures { λ r. ⌜ Meets (inside-of owner (rows-in (now (rows .entry)))) w tally given r ⌝ }
 {
     let state = w.state;
     let base = w.base;
@@ -165,7 +182,7 @@ fn judge_record(first: u32, size: usize, w: Walk, tally: Tally, given: Record) -
         base: base_behind(base, given),
     };
     match given {
-        Record::Data { offset, at: _, len } => match survey(base, offset, len, first, size) {
+        Record::Data { offset, at: _, len } => match survey(base, offset, len, owner, rows) {
             Reach::Inside => Turn::On(
                 Tally {
                     records: tally.records + 1,
@@ -191,9 +208,16 @@ fn judge_record(first: u32, size: usize, w: Walk, tally: Tally, given: Record) -
 }
 
 // What the next line comes to in the first pass.
-fn judge_next(text: &[u8], pool: &mut [u8], first: u32, size: usize, w: Walk, tally: Tally) -> Turn
+fn judge_next(
+    text: &[u8],
+    pool: &mut [u8],
+    owner: usize,
+    rows: &[usize],
+    w: Walk,
+    tally: Tally,
+) -> Turn
     requires { ⌜ Under-way (now text) w × Few (now text) w tally × (length (now pool) ≡ 255) ⌝ }
-    ensures { λ r. ⌜ Judged (within first size) (now (text .entry)) w tally r ⌝ }
+    ensures { λ r. ⌜ Judged (inside-of owner (rows-in (now (rows .entry)))) (now (text .entry)) w tally r ⌝ }
 {
     let state = w.state;
     let base = w.base;
@@ -206,7 +230,7 @@ fn judge_next(text: &[u8], pool: &mut [u8], first: u32, size: usize, w: Walk, ta
                 state: behind,
                 base,
             };
-            judge_record(first, size, there, tally, given)
+            judge_record(owner, rows, there, tally, given)
         }
         Reply::Refused(e) => Turn::Stop(Loading::Refused(LoaderError::Line(e), behind.line)),
         Reply::Done => Turn::Stop(Loading::Refused(LoaderError::MissingEndOfFileRecord, 0)),
@@ -223,9 +247,9 @@ fn begin() -> Walk
     }
 }
 
-// The first pass: the answer to a text for a window that is not refused. Nothing is written.
-fn judge_text(text: &[u8], first: u32, size: usize) -> Loading
-    ensures { λ r. ⌜ told-loading r ≡ verdict (decision (within first size) nothing-yet (steps-of (now (text .entry)))) ⌝ }
+// The first pass: the answer to a text for windows that are not refused. Nothing is written.
+fn judge_text(text: &[u8], owner: usize, rows: &[usize]) -> Loading
+    ensures { λ r. ⌜ told-loading r ≡ verdict (decision (inside-of owner (rows-in (now (rows .entry)))) nothing-yet (steps-of (now (text .entry)))) ⌝ }
 {
     let mut pool = [0u8; payload_sizes::MOST_DATA];
     let mut w = begin();
@@ -234,7 +258,7 @@ fn judge_text(text: &[u8], first: u32, size: usize) -> Loading
         start: Start::Unstated,
     };
     loop {
-        match judge_next(text, &mut pool, first, size, w, tally) {
+        match judge_next(text, &mut pool, owner, rows, w, tally) {
             Turn::On(t, next) => {
                 w = next;
                 tally = t;
@@ -247,19 +271,20 @@ fn judge_text(text: &[u8], first: u32, size: usize) -> Loading
 // Stores and marks what a record states.
 fn write_record(
     pool: &[u8],
-    first: u32,
+    owner: usize,
+    rows: &[usize],
     base: Base,
     given: Record,
     page: &mut [u8],
     marks: &mut [u8],
 )
-    requires { ⌜ Lies-in given (now pool) ⌝ }
-    ensures { λ _. ⌜ Painted first (stated-by (based base) (meant given (now (pool .entry)))) (now (page .entry)) (now (marks .entry)) (now (page .exit)) (now (marks .exit)) ⌝ }
+    requires { ⌜ Lies-in given (now pool) × Sound (length (now page)) (rows-in (now rows)) ⌝ }
+    ensures { λ _. ⌜ Painted (site-of owner (rows-in (now (rows .entry)))) (stated-by (based base) (meant given (now (pool .entry)))) (now (page .entry)) (now (marks .entry)) (now (page .exit)) (now (marks .exit)) ⌝ }
 {
     match given {
         Record::Data { offset, at, len } => {
             let end = at + len;
-            put(base, offset, &pool[at..end], first, page, marks);
+            put(base, offset, &pool[at..end], owner, rows, page, marks);
         }
         Record::EndOfFile => {}
         Record::ExtendedSegmentAddress(_) => {}
@@ -273,13 +298,14 @@ fn write_record(
 fn write_next(
     text: &[u8],
     pool: &mut [u8],
-    first: u32,
+    owner: usize,
+    rows: &[usize],
     w: Walk,
     page: &mut [u8],
     marks: &mut [u8],
 ) -> Further
-    requires { ⌜ Under-way (now text) w × (length (now pool) ≡ 255) ⌝ }
-    ensures { λ r. ⌜ Wrote first (now (text .entry)) w (now (page .entry)) (now (marks .entry)) r (now (page .exit)) (now (marks .exit)) ⌝ }
+    requires { ⌜ Under-way (now text) w × (length (now pool) ≡ 255) × Sound (length (now page)) (rows-in (now rows)) ⌝ }
+    ensures { λ r. ⌜ Wrote (site-of owner (rows-in (now (rows .entry)))) (now (text .entry)) w (now (page .entry)) (now (marks .entry)) r (now (page .exit)) (now (marks .exit)) ⌝ }
 {
     let state = w.state;
     let base = w.base;
@@ -288,7 +314,7 @@ fn write_next(
     let reply = step.reply;
     match reply {
         Reply::Read(given) => {
-            write_record(pool, first, base, given, page, marks);
+            write_record(pool, owner, rows, base, given, page, marks);
             Further::On(Walk {
                 state: behind,
                 base: base_behind(base, given),
@@ -300,13 +326,14 @@ fn write_next(
 }
 
 // The second pass: all that a text states, onto page and marks.
-fn write_text(text: &[u8], first: u32, page: &mut [u8], marks: &mut [u8])
-    ensures { λ _. ⌜ Painted first (placements (now (text .entry))) (now (page .entry)) (now (marks .entry)) (now (page .exit)) (now (marks .exit)) ⌝ }
+fn write_text(text: &[u8], owner: usize, rows: &[usize], page: &mut [u8], marks: &mut [u8])
+    requires { ⌜ Sound (length (now page)) (rows-in (now rows)) ⌝ }
+    ensures { λ _. ⌜ Painted (site-of owner (rows-in (now (rows .entry)))) (placements (now (text .entry))) (now (page .entry)) (now (marks .entry)) (now (page .exit)) (now (marks .exit)) ⌝ }
 {
     let mut pool = [0u8; payload_sizes::MOST_DATA];
     let mut w = begin();
     loop {
-        match write_next(text, &mut pool, first, w, page, marks) {
+        match write_next(text, &mut pool, owner, rows, w, page, marks) {
             Further::On(next) => {
                 w = next;
             }
@@ -322,10 +349,32 @@ pub fn load(text: &[u8], first: u32, page: &mut [u8], marks: &mut [u8]) -> Loadi
     if window::is_unfit(first, page.len(), marks.len()) {
         return Loading::Refused(LoaderError::BadWindow, 0);
     }
-    let answer = judge_text(text, first, page.len());
+    let rows = [owners::FIRST, first as usize, page.len(), 0];
+    let answer = judge_text(text, owners::FIRST, &rows);
     if answer.is_accepted() {
         marks::clear(marks);
-        write_text(text, first, page, marks);
+        write_text(text, owners::FIRST, &rows, page, marks);
+    }
+    answer
+}
+
+// Loads a text for one owner through a window table into a shared pool. A mark for each of the owner's places says whether the text states it; every other byte and mark stays.
+pub fn load_table(
+    text: &[u8],
+    owner: usize,
+    rows: &[usize],
+    pool: &mut [u8],
+    marks: &mut [u8],
+) -> Loading
+    ensures { λ r. ⌜ LoadTable intel owner (rows-in (now (rows .entry))) (now (text .entry)) (now (pool .entry)) (now (marks .entry)) r (now (pool .exit)) (now (marks .exit)) ⌝ }
+{
+    if window::is_bad_table(owner, rows, pool.len(), marks.len()) {
+        return Loading::Refused(LoaderError::BadTable, 0);
+    }
+    let answer = judge_text(text, owner, rows);
+    if answer.is_accepted() {
+        window::clear_marks(owner, rows, marks);
+        write_text(text, owner, rows, pool, marks);
     }
     answer
 }

@@ -6,10 +6,11 @@ use mathlib.Core.Bool.{Bool, true, false}
 use native.Mathlib.Omega.{arith}
 use native.Mathlib.Nat.{pow-suc, zero-div}
 use lib.Pow.{shr-shr}
-use lib.Bits.{bitOr, or-step, or-shr}
+use lib.Arith.{bin-ind}
+use lib.Bits.{bitOr, or-step, or-lt, and-step, and-le-l}
 use lib.Dec.{T, eqb, leb, eqb→eq, leb→le}
 use borrow.Author.Tests.{eq-eqb, ne-eqb}
-use Rattle.marks.specs.Marks.{bit, number}
+use Rattle.marks.specs.Marks.{bit, with-bits, number}
 use Rattle.marks.proofs.Below.{all-below, below}
 
 pub bit-small : (x i : ℕ) → bit x i ≤ 1
@@ -20,24 +21,101 @@ pub bit-none : (i : ℕ) → bit 0 i ≡ 0
 unfolding bit
 bit-none i = ap (λ (x : ℕ). x % 2) (zero-div (2 ^ i))
 
--- ---- or
+-- ---- the bits of a mask set, or else cleared
 
 -- the digit that is written last is read back
 last : (q t : ℕ) → t ≤ 1 → (q * 2 + t) % 2 ≡ t
 last q t h = omega arith
 
-pub bit-or : (a b i : ℕ) → bit (bitOr a b) i ≡ max (bit a i) (bit b i)
-unfolding bit
-bit-or a b i =
-    ap (λ (x : ℕ). x % 2) (or-shr a b i ∙ or-step (a / 2 ^ i) (b / 2 ^ i))
-    ∙ last (bitOr (a / 2 ^ i / 2) (b / 2 ^ i / 2)) (max (a / 2 ^ i % 2) (b / 2 ^ i % 2)) (omega arith)
+-- and so is what stands before it
+rest : (q t : ℕ) → t ≤ 1 → (q * 2 + t) / 2 ≡ q
+rest q t h = omega arith
 
-pub or-odd : (a b : ℕ) → bitOr a b % 2 ≡ max (a % 2) (b % 2)
-or-odd a b = ap (λ (x : ℕ). x % 2) (or-step a b) ∙ last (bitOr (a / 2) (b / 2)) (max (a % 2) (b % 2)) (omega arith)
+-- one digit of it
+digit : Bool → ℕ → ℕ → ℕ
+digit true a b = max a b
+digit false a b = a - b
+
+digit-small : (on : Bool) (a b : ℕ) → a ≤ 1 → b ≤ 1 → digit on a b ≤ 1
+unfolding digit
+digit-small true a b h k = omega arith
+digit-small false a b h k = omega arith
+
+digit-twice : (on : Bool) (a b c : ℕ) → a ≤ 1 → digit on (digit on a b) c ≡ digit on a (max b c)
+unfolding digit
+digit-twice true a b c h = omega arith
+digit-twice false a b c h = omega arith
+
+-- digit by digit
+step : (on : Bool) (a b : ℕ) → with-bits on a b ≡ with-bits on (a / 2) (b / 2) * 2 + digit on (a % 2) (b % 2)
+unfolding with-bits digit
+step true a b = or-step a b
+step false a b = omega (arith, and-step a b, and-le-l (a / 2) (b / 2))
+
+module _ (on : Bool) (a b : ℕ) where
+  small : digit on (a % 2) (b % 2) ≤ 1
+  small = digit-small on (a % 2) (b % 2) (omega arith) (omega arith)
+
+  odd : with-bits on a b % 2 ≡ digit on (a % 2) (b % 2)
+  odd = ap (λ (x : ℕ). x % 2) (step on a b) ∙ last (with-bits on (a / 2) (b / 2)) (digit on (a % 2) (b % 2)) small
+
+  half : with-bits on a b / 2 ≡ with-bits on (a / 2) (b / 2)
+  half = ap (λ (x : ℕ). x / 2) (step on a b) ∙ rest (with-bits on (a / 2) (b / 2)) (digit on (a % 2) (b % 2)) small
+
+bit-first : (x : ℕ) → bit x 0 ≡ x % 2
+unfolding bit
+bit-first x = omega arith
+
+one-more : (i : ℕ) → suc i ≡ 1 + i
+one-more i = omega arith
+
+pub bit-after : (x i : ℕ) → bit x (suc i) ≡ bit (x / 2) i
+unfolding bit
+bit-after x i = ap (λ (k : ℕ). x / 2 ^ k % 2) (one-more i) ∙ ap (λ (y : ℕ). y % 2) (sym (shr-shr x 1 i))
+
+-- each bit
+bit-with : (on : Bool) (a b i : ℕ) → bit (with-bits on a b) i ≡ digit on (bit a i) (bit b i)
+bit-with on a b zero = bit-first (with-bits on a b) ∙ odd on a b ∙ ap₂ (digit on) (sym (bit-first a)) (sym (bit-first b))
+bit-with on a b (suc i) =
+    bit-after (with-bits on a b) i ∙ ap (λ (x : ℕ). bit x i) (half on a b) ∙ bit-with on (a / 2) (b / 2) i
+    ∙ ap₂ (digit on) (sym (bit-after a i)) (sym (bit-after b i))
+
+bit-or : (a b i : ℕ) → bit (bitOr a b) i ≡ max (bit a i) (bit b i)
+unfolding with-bits digit
+bit-or = bit-with true
+
+or-half : (a b : ℕ) → bitOr a b / 2 ≡ bitOr (a / 2) (b / 2)
+unfolding with-bits
+or-half = half true
+
+or-odd : (a b : ℕ) → bitOr a b % 2 ≡ max (a % 2) (b % 2)
+unfolding with-bits digit
+or-odd = odd true
+
+none-twice : (on : Bool) (b c : ℕ) → with-bits on (with-bits on 0 b) c ≡ with-bits on 0 (bitOr b c)
+unfolding with-bits
+none-twice true b c = refl
+none-twice false b c = refl
+
+-- by two masks, one after the other
+pub with-twice : (on : Bool) (a b c : ℕ) → with-bits on (with-bits on a b) c ≡ with-bits on a (bitOr b c)
+with-twice on =
+    bin-ind (λ (a : ℕ). (b c : ℕ) → with-bits on (with-bits on a b) c ≡ with-bits on a (bitOr b c)) (none-twice on)
+    (λ a ih b c.
+    step on (with-bits on a b) c
+    ∙ ap₂ (λ (x y : ℕ). x * 2 + y)
+    (ap (λ (x : ℕ). with-bits on x (c / 2)) (half on a b) ∙ ih (b / 2) (c / 2) ∙ ap (with-bits on (a / 2)) (sym (or-half b c)))
+    (ap (λ (x : ℕ). digit on x (c % 2)) (odd on a b) ∙ digit-twice on (a % 2) (b % 2) (c % 2) (omega arith) ∙ ap (digit on (a % 2)) (sym (or-odd b c)))
+    ∙ sym (step on a (bitOr b c)))
+
+pub with-small : (on : Bool) (a b : ℕ) → a < 256 → b < 256 → with-bits on a b < 256
+unfolding with-bits
+with-small true a b h k = or-lt 8 a b h k
+with-small false a b h k = omega arith
 
 -- ---- powers of two, computed
 
-flag : Bool → ℕ
+unfoldable pub flag : Bool → ℕ
 flag true = 1
 flag false = 0
 
@@ -57,20 +135,24 @@ pub power-small : (i : ℕ) → i < 8 → 2 ^ i < 256
 unfolding all-below
 power-small i h = omega (arith, leb→le (2 ^ i) 128 (below 8 (λ i. leb (2 ^ i) 128) tt i h))
 
--- ---- a bit set
+-- ---- a bit set, or else cleared
 
-pub bit-set : (x i : ℕ) → i < 8 → bit (bitOr x (2 ^ i)) i ≡ 1
-unfolding flag
-bit-set x i h =
-    let e : bit (2 ^ i) i ≡ 1 = power-is i i h h ∙ ap flag (eq-eqb i i refl) in
-    let s = bit-small x i in
-    bit-or x (2 ^ i) i ∙ omega arith
+digit-one : (on : Bool) (a : ℕ) → a ≤ 1 → digit on a (flag true) ≡ flag on
+unfolding digit flag
+digit-one true a h = omega arith
+digit-one false a h = omega arith
 
-pub bit-set-other : (x i j : ℕ) → i < 8 → j < 8 → (j ≡ i → ⊥) → bit (bitOr x (2 ^ i)) j ≡ bit x j
-unfolding flag
-bit-set-other x i j h k n =
-    let e : bit (2 ^ i) j ≡ 0 = power-is i j h k ∙ ap flag (ne-eqb i j (λ q. n (sym q))) in
-    bit-or x (2 ^ i) j ∙ omega arith
+digit-none : (on : Bool) (a : ℕ) → digit on a (flag false) ≡ a
+unfolding digit flag
+digit-none true a = omega arith
+digit-none false a = omega arith
+
+pub bit-there : (on : Bool) (x i : ℕ) → i < 8 → bit (with-bits on x (2 ^ i)) i ≡ flag on
+bit-there on x i h = bit-with on x (2 ^ i) i ∙ ap (digit on (bit x i)) (power-is i i h h ∙ ap flag (eq-eqb i i refl)) ∙ digit-one on (bit x i) (bit-small x i)
+
+pub bit-other : (on : Bool) (x i j : ℕ) → i < 8 → j < 8 → (j ≡ i → ⊥) → bit (with-bits on x (2 ^ i)) j ≡ bit x j
+bit-other on x i j h k n =
+    bit-with on x (2 ^ i) j ∙ ap (digit on (bit x j)) (power-is i j h k ∙ ap flag (ne-eqb i j (λ q. n (sym q)))) ∙ digit-none on (bit x j)
 
 -- every bit the other way, computed for each byte
 pub bit-flipped : (x i : ℕ) → x < 256 → i < 8 → bit (255 - x) i ≡ 1 - bit x i
@@ -86,13 +168,6 @@ unfolding number
 number-same zero f g h = refl
 number-same (suc n) f g h =
     ap₂ (λ (x y : ℕ). x + 2 * y) (h 0 (omega arith)) (number-same n (λ i. f (suc i)) (λ i. g (suc i)) (λ i k. h (suc i) (omega arith)))
-
-one-more : (i : ℕ) → suc i ≡ 1 + i
-one-more i = omega arith
-
-pub bit-after : (x i : ℕ) → bit x (suc i) ≡ bit (x / 2) i
-unfolding bit
-bit-after x i = ap (λ (k : ℕ). x / 2 ^ k % 2) (one-more i) ∙ ap (λ (y : ℕ). y % 2) (sym (shr-shr x 1 i))
 
 pub bit-of-number : (n : ℕ) (f : ℕ → ℕ) → ((i : ℕ) → f i ≤ 1) → (i : ℕ) → i < n → bit (number n f) i ≡ f i
 unfolding number bit
@@ -116,3 +191,15 @@ pub number-small : (n : ℕ) (f : ℕ → ℕ) → ((i : ℕ) → f i ≤ 1) →
 unfolding number
 number-small zero f s = omega arith
 number-small (suc n) f s = omega (arith, pow-suc 2 n, number-small n (λ i. f (suc i)) (λ i. s (suc i)), s 0)
+
+-- a mask cleared as the program does it: set in the flipped byte, and that flipped back
+pub cleared-byte : (x m : ℕ) → x < 256 → m < 256 → 255 - bitOr (255 - x) m ≡ with-bits false x m
+unfolding digit
+cleared-byte x m h k =
+    sym (number-of-bits 8 (255 - bitOr (255 - x) m) (omega arith))
+    ∙ number-same 8 (bit (255 - bitOr (255 - x) m)) (bit (with-bits false x m)) each
+    ∙ number-of-bits 8 (with-bits false x m) (with-small false x m h k)
+  where
+    each : (i : ℕ) → i < 8 → bit (255 - bitOr (255 - x) m) i ≡ bit (with-bits false x m) i
+    each i l =
+        omega (arith, bit-flipped (bitOr (255 - x) m) i (or-lt 8 (255 - x) m (omega arith) k) l, bit-or (255 - x) m i, bit-flipped x i h l, bit-with false x m i, bit-small x i, bit-small m i)

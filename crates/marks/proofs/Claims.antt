@@ -3,19 +3,18 @@
 use Prim.Native.Nat.{ℕ, zero, suc, _+_, _*_, _/_, _%_, _^_, _≤_, _<_}
 use mathlib.Core.Path.{_≡_, refl, sym, ap, _∙_, subst}
 use mathlib.Core.Logic.{_⊎_, inl, inr}
-use mathlib.Core.Bool.{true, false}
+use mathlib.Core.Bool.{Bool, true, false}
 use mathlib.Core.Option.{Option, none, some}
 use mathlib.Core.List.{List}
 use native.Mathlib.Omega.{arith}
-use lib.Bits.{bitOr, or-lt}
 use lib.ListN.{length, getD, set, List·getD-eq-default}
 use lib.Seq.{getD-set-same, getD-set-other, set-out}
 use Rattle.marks.specs.declared.Unused.{Unused}
 use Rattle.marks.specs.declared.Unused.the-variants.{Clear, At}
-use Rattle.marks.specs.Marks.{row-length, byte-of, mark-at, Marked, with-mark, marked-run, number, flags, packed, bits, Unused-clear, told-unused, first-unused, first-marked, Next}
-use Rattle.marks.specs.Claims.{Bytes, Flag, All-flags, Row-of, Clear-unique, Examples, First-unused-unique, Flags-made-so, Flags-only-so, Is-marked-unique, Mark-is-flag, Mark-run-unique, Next-marked-unique, Next-unmarked-unique, Packed-unpacked, Row-holds-places, Row-length-unique, Row-made-so, Row-only-so, Run-in-two, Run-made-so, Run-only-so, Run-outside, Unpacked-packed}
+use Rattle.marks.specs.Marks.{row-length, byte-of, mark-at, Marked, with-bits, with-mark, changed-run, cleared-run, number, flags, packed, bits, Unused-clear, told-unused, first-unused, first-marked, Next}
+use Rattle.marks.specs.Claims.{Bytes, Flag, All-flags, Row-of, Clear-run-unique, Clear-unique, Examples, First-unused-unique, Flags-made-so, Flags-only-so, Is-marked-unique, Mark-is-flag, Mark-run-unique, Next-marked-unique, Next-unmarked-unique, Packed-unpacked, Row-holds-places, Row-length-unique, Row-made-so, Row-only-so, Run-cleared-only-so, Run-cleared-so, Run-in-two, Run-made-so, Run-only-so, Run-outside, Unpacked-packed}
 use Rattle.marks.proofs.Below.{split, same-or, equal}
-use Rattle.marks.proofs.Bits.{power-small, number-small}
+use Rattle.marks.proofs.Bits.{flag, with-small, power-small, number-small}
 use Rattle.marks.proofs.Rows
 use Rattle.marks.proofs.Runs
 
@@ -120,23 +119,37 @@ set-bytes marks q y b h i =
     (λ k. subst (λ (x : ℕ). x < 256) (sym (ap (λ (j : ℕ). getD (set marks q y) j 0) e ∙ getD-set-same marks q y 0 k)) h))
     (λ n. subst (λ (x : ℕ). x < 256) (sym (getD-set-other marks q i y 0 n)) (b i))
 
-marked-bytes : (marks : List ℕ) (p : ℕ) → Bytes marks → Bytes (with-mark marks p)
+changed-bytes : (on : Bool) (marks : List ℕ) (p : ℕ) → Bytes marks → Bytes (with-mark on marks p)
 unfolding with-mark byte-of
-marked-bytes marks p b =
-    set-bytes marks (p / 8) (bitOr (byte-of marks p) (2 ^ (p % 8))) b (or-lt 8 (byte-of marks p) (2 ^ (p % 8)) (b (p / 8)) (power-small (p % 8) (omega arith)))
+changed-bytes on marks p b =
+    set-bytes marks (p / 8) (with-bits on (byte-of marks p) (2 ^ (p % 8))) b (with-small on (byte-of marks p) (2 ^ (p % 8)) (b (p / 8)) (power-small (p % 8) (omega arith)))
 
-run-bytes : (marks : List ℕ) (a n : ℕ) → Bytes marks → Bytes (marked-run marks a n)
-unfolding marked-run
-run-bytes marks a zero b = b
-run-bytes marks a (suc n) b = run-bytes (with-mark marks a) (suc a) n (marked-bytes marks a b)
+run-bytes : (on : Bool) (marks : List ℕ) (a n : ℕ) → Bytes marks → Bytes (changed-run on marks a n)
+unfolding changed-run
+run-bytes on marks a zero b = b
+run-bytes on marks a (suc n) b = run-bytes on (with-mark on marks a) (suc a) n (changed-bytes on marks a b)
 
 pub run-made-so : Run-made-so
+unfolding flag
 run-made-so marks from len =
     record {
-      same-length = Runs.run-length marks from len;
-      bytes = run-bytes marks from len;
-      inside = Runs.run-inside marks from len;
-      elsewhere = Runs.run-elsewhere marks from len;
+      same-length = Runs.run-length true marks from len;
+      bytes = run-bytes true marks from len;
+      inside = Runs.run-inside true marks from len;
+      elsewhere = Runs.run-elsewhere true marks from len;
+    }
+
+-- a place outside the row has no mark
+pub run-cleared-so : Run-cleared-so
+unfolding flag
+run-cleared-so marks from len =
+    record {
+      same-length = Runs.run-length false marks from len;
+      bytes = run-bytes false marks from len;
+      inside = λ p l h. split (8 * length marks) p
+          (λ o. Rows.outside (cleared-run marks from len) p (omega (arith, Runs.run-length false marks from len)))
+          (λ i. Runs.run-inside false marks from len p l h i);
+      elsewhere = Runs.run-elsewhere false marks from len;
     }
 
 -- rows of bytes of one length that say the same of every place are equal
@@ -165,20 +178,32 @@ pub same-bits : (marks marks′ : List ℕ) → Bytes marks → Bytes marks′ �
 same-bits marks marks′ b b′ e f =
     same-row marks marks′ b b′ e (λ p h. sym (bits-say marks p) ∙ ap (λ (l : List ℕ). getD l p 0) f ∙ bits-say marks′ p)
 
-pub run-only-so : Run-only-so
-run-only-so marks from len marks′ b r =
-    same-row marks′ (marked-run marks from len) (r .bytes b) (run-bytes marks from len b) (r .same-length ∙ sym (Runs.run-length marks from len))
+-- a row of bytes that says of each place what the run's row says is that row
+only-run : (on : Bool) (marks : List ℕ) (from len : ℕ) (marks′ : List ℕ) → Bytes marks → Bytes marks′ → length marks′ ≡ length marks
+    → ((p : ℕ) → from ≤ p → p < from + len → p < 8 * length marks → mark-at marks′ p ≡ flag on)
+    → ((p : ℕ) → (p < from) ⊎ (from + len ≤ p) → mark-at marks′ p ≡ mark-at marks p) → marks′ ≡ changed-run on marks from len
+only-run on marks from len marks′ b b′ e inside elsewhere =
+    same-row marks′ (changed-run on marks from len) b′ (run-bytes on marks from len b) (e ∙ sym (Runs.run-length on marks from len))
     (λ p h. split (from + len) p
-    (λ l. r .elsewhere p (inr l) ∙ sym (Runs.run-elsewhere marks from len p (inr l)))
+    (λ l. elsewhere p (inr l) ∙ sym (Runs.run-elsewhere on marks from len p (inr l)))
     (λ l. split from p
-    (λ k. let w : p < 8 * length marks = omega (arith, r .same-length) in r .inside p k l w ∙ sym (Runs.run-inside marks from len p k l w))
-    (λ k. r .elsewhere p (inl k) ∙ sym (Runs.run-elsewhere marks from len p (inl k)))))
+    (λ k. let i : p < 8 * length marks = omega (arith, e) in inside p k l i ∙ sym (Runs.run-inside on marks from len p k l i))
+    (λ k. elsewhere p (inl k) ∙ sym (Runs.run-elsewhere on marks from len p (inl k)))))
+
+pub run-only-so : Run-only-so
+unfolding flag
+run-only-so marks from len marks′ b r = only-run true marks from len marks′ b (r .bytes b) (r .same-length) (r .inside) (r .elsewhere)
+
+pub run-cleared-only-so : Run-cleared-only-so
+unfolding flag
+run-cleared-only-so marks from len marks′ b r =
+    only-run false marks from len marks′ b (r .bytes b) (r .same-length) (λ p l h i. r .inside p l h) (r .elsewhere)
 
 pub run-outside : Run-outside
-run-outside = Runs.run-outside
+run-outside = Runs.run-outside true
 
 pub run-in-two : Run-in-two
-run-in-two = Runs.run-in-two
+run-in-two = Runs.run-in-two true
 
 -- ---- no second answer
 
@@ -210,6 +235,9 @@ clear-unique marks m m′ x y = x .left ∙ sym (y .left)
 pub mark-run-unique : Mark-run-unique
 mark-run-unique marks from len m m′ x y = x .left ∙ sym (y .left)
 
+pub clear-run-unique : Clear-run-unique
+clear-run-unique marks from len m m′ x y = x .left ∙ sym (y .left)
+
 -- a search has one answer, where nothing is both passed and found
 no-later : (Passed Found : ℕ → Type 0) (places from r r′ : ℕ) → ((p : ℕ) → Passed p → Found p → ⊥) → Next Passed Found places from r → Next Passed Found places from r′ → ¬ (r < r′)
 no-later Passed Found places from r r′ apart x y l = go (x .there)
@@ -230,5 +258,5 @@ next-unmarked-unique marks places from r r′ x y = next-unique _ _ places from 
 -- ---- examples
 
 pub examples : Examples
-unfolding packed flags bits row-length marked-run with-mark number first-unused first-marked
-examples = record { packs = refl; unpacks = refl; runs = refl; unused = refl; used = refl; lengths = (refl, refl, refl, refl, refl) }
+unfolding packed flags bits row-length changed-run with-mark with-bits number first-unused first-marked
+examples = record { packs = refl; unpacks = refl; runs = refl; clears = refl; unused = refl; used = refl; lengths = (refl, refl, refl, refl, refl) }

@@ -1,16 +1,16 @@
--- Laws of a row of marks: what a place says after another was marked, rows unpacked, and rows packed.
+-- Laws of a row of marks: what a place says after another was marked or its mark was taken away, rows unpacked, and rows packed.
 -- Assumes nothing.
 use Prim.Native.Nat.{ℕ, zero, suc, _+_, _*_, _/_, _%_, _^_, _≤_, _<_}
 use mathlib.Core.Path.{_≡_, refl, sym, ap, ap₂, _∙_}
 use mathlib.Core.List.{List}
 use native.Mathlib.Omega.{arith}
-use lib.Bits.{bitOr}
+use mathlib.Core.Bool.{Bool}
 use lib.ListN.{length, getD, set, replicate, length-set, length-replicate, getD-replicate, List·getD-eq-default}
 use lib.Seq.{getD-set-same, getD-set-other, set-out, ext-getD}
-use Rattle.marks.specs.Marks.{bit, byte-of, mark-at, with-mark, listed, flags, number, packed, row-length, Unused-clear}
+use Rattle.marks.specs.Marks.{bit, byte-of, mark-at, with-bits, with-mark, listed, flags, number, packed, row-length, Unused-clear}
 use Rattle.marks.specs.Claims.{Bytes}
 use Rattle.marks.proofs.Below.{split, same-or}
-use Rattle.marks.proofs.Bits.{bit-small, bit-set, bit-set-other, bit-of-number, number-of-bits, number-same, bit-none}
+use Rattle.marks.proofs.Bits.{flag, bit-small, bit-there, bit-other, bit-of-number, number-of-bits, number-same, bit-none}
 
 pub mark-small : (marks : List ℕ) (p : ℕ) → mark-at marks p ≤ 1
 unfolding mark-at
@@ -54,23 +54,23 @@ module _ (marks : List ℕ) (p y : ℕ) where
       (λ i. same-byte j i e ∙ h e ∙ ap (λ (q : ℕ). bit (getD marks q 0) (j % 8)) (sym e)))
       (λ n. other-byte j n)
 
--- ---- a place marked
+-- ---- a place marked, or its mark taken away
 
-module _ (marks : List ℕ) (p : ℕ) where
-  pub marked-length : length (with-mark marks p) ≡ length marks
+module _ (on : Bool) (marks : List ℕ) (p : ℕ) where
+  pub changed-length : length (with-mark on marks p) ≡ length marks
   unfolding with-mark
-  marked-length = length-set marks (p / 8) (bitOr (byte-of marks p) (2 ^ (p % 8)))
+  changed-length = length-set marks (p / 8) (with-bits on (byte-of marks p) (2 ^ (p % 8)))
 
-  pub marked-there : p < 8 * length marks → mark-at (with-mark marks p) p ≡ 1
+  pub changed-there : p < 8 * length marks → mark-at (with-mark on marks p) p ≡ flag on
   unfolding with-mark
-  marked-there h =
-      same-byte marks p (bitOr (byte-of marks p) (2 ^ (p % 8))) p (omega arith) refl ∙ bit-set (byte-of marks p) (p % 8) (omega arith)
+  changed-there h =
+      same-byte marks p (with-bits on (byte-of marks p) (2 ^ (p % 8))) p (omega arith) refl ∙ bit-there on (byte-of marks p) (p % 8) (omega arith)
 
-  pub marked-elsewhere : (j : ℕ) → (j ≡ p → ⊥) → mark-at (with-mark marks p) j ≡ mark-at marks j
+  pub changed-elsewhere : (j : ℕ) → (j ≡ p → ⊥) → mark-at (with-mark on marks p) j ≡ mark-at marks j
   unfolding with-mark
-  marked-elsewhere j n =
-      kept marks p (bitOr (byte-of marks p) (2 ^ (p % 8))) j
-      (λ e. bit-set-other (byte-of marks p) (p % 8) (j % 8) (omega arith) (omega arith) (λ r. n (omega arith)))
+  changed-elsewhere j n =
+      kept marks p (with-bits on (byte-of marks p) (2 ^ (p % 8))) j
+      (λ e. bit-other on (byte-of marks p) (p % 8) (j % 8) (omega arith) (omega arith) (λ r. n (omega arith)))
 
 -- ---- none marked
 

@@ -8,7 +8,7 @@ use mathlib.Core.Option.{none, some}
 use mathlib.Core.List.{List, [], _∷_}
 use lib.ListN.{length, getD}
 use Rattle.marks.specs.declared.Unused.{Unused}
-use Rattle.marks.specs.Marks.{row-length, RowLength, IsMarked, FirstUnused, Clears, MarkRun, mark-at, Marked, flags, packed, first-unused, Unused-clear, marked-run, NextMarked, NextUnmarked}
+use Rattle.marks.specs.Marks.{row-length, RowLength, IsMarked, FirstUnused, Clears, MarkRun, ClearRun, mark-at, Marked, flags, packed, first-unused, Unused-clear, marked-run, cleared-run, NextMarked, NextUnmarked}
 
 -- ---- a row and its places
 
@@ -85,6 +85,20 @@ Run-made-so = (marks : List ℕ) (from len : ℕ) → Run-marked marks from len 
 abbrev pub Run-only-so : Type 0
 Run-only-so = (marks : List ℕ) (from len : ℕ) (marks′ : List ℕ) → Bytes marks → Run-marked marks from len marks′ → marks′ ≡ marked-run marks from len
 
+-- a row with the marks of a run taken away, said of each place: no place of the run is marked, elsewhere each keeps its mark, used or unused
+pub record Run-cleared (marks : List ℕ) (from len : ℕ) (marks′ : List ℕ) : Type 0 where
+  pub same-length : length marks′ ≡ length marks
+  pub bytes : Bytes marks → Bytes marks′
+  pub inside : (place : ℕ) → from ≤ place → place < from + len → mark-at marks′ place ≡ 0
+  pub elsewhere : (place : ℕ) → (place < from) ⊎ (from + len ≤ place) → mark-at marks′ place ≡ mark-at marks place
+
+-- `cleared-run` is such, and of a row of bytes nothing else is
+abbrev pub Run-cleared-so : Type 0
+Run-cleared-so = (marks : List ℕ) (from len : ℕ) → Run-cleared marks from len (cleared-run marks from len)
+
+abbrev pub Run-cleared-only-so : Type 0
+Run-cleared-only-so = (marks : List ℕ) (from len : ℕ) (marks′ : List ℕ) → Bytes marks → Run-cleared marks from len marks′ → marks′ ≡ cleared-run marks from len
+
 -- from outside the row it changes nothing
 abbrev pub Run-outside : Type 0
 Run-outside = (marks : List ℕ) (from len : ℕ) → 8 * length marks ≤ from → marked-run marks from len ≡ marks
@@ -133,6 +147,9 @@ Clear-unique = (marks m m′ : List ℕ) → Clears marks m → Clears marks m�
 abbrev pub Mark-run-unique : Type 0
 Mark-run-unique = (marks : List ℕ) (from len : ℕ) (m m′ : List ℕ) → MarkRun marks from len m → MarkRun marks from len m′ → m ≡ m′
 
+abbrev pub Clear-run-unique : Type 0
+Clear-run-unique = (marks : List ℕ) (from len : ℕ) (m m′ : List ℕ) → ClearRun marks from len m → ClearRun marks from len m′ → m ≡ m′
+
 abbrev pub Next-marked-unique : Type 0
 Next-marked-unique = (marks : List ℕ) (places from r r′ : ℕ) → NextMarked marks places from r → NextMarked marks places from r′ → r ≡ r′
 
@@ -146,6 +163,7 @@ pub record Examples : Type 0 where
   pub packs : packed (1 ∷ 0 ∷ 0 ∷ 1 ∷ 0 ∷ 0 ∷ 0 ∷ 0 ∷ 0 ∷ 1 ∷ []) ≡ 0x09 ∷ 0x02 ∷ []
   pub unpacks : flags 10 (0x09 ∷ 0x02 ∷ []) ≡ 1 ∷ 0 ∷ 0 ∷ 1 ∷ 0 ∷ 0 ∷ 0 ∷ 0 ∷ 0 ∷ 1 ∷ []
   pub runs : marked-run (0x00 ∷ 0x00 ∷ []) 6 4 ≡ 0xC0 ∷ 0x03 ∷ []
+  pub clears : cleared-run (0xFF ∷ 0xFF ∷ []) 6 4 ≡ 0x3F ∷ 0xFC ∷ []
   -- of 3 places with marks A2, bits 1, 5 and 7 are set; 5 is the lowest unused one
   pub unused : first-unused 3 (0xA2 ∷ []) ≡ some 5
   pub used : first-unused 3 (0x02 ∷ []) ≡ none

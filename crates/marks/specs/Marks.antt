@@ -3,11 +3,11 @@
 use Prim.Native.Nat.{ℕ, zero, suc, _+_, _-_, _*_, _/_, _%_, _^_, _≤_, _<_, max}
 use mathlib.Core.Path.{_≡_}
 use mathlib.Core.Logic.{_≢_, _⊎_, _↔_}
-use mathlib.Core.Bool.{Bool, true, cond}
+use mathlib.Core.Bool.{Bool, true, false, cond}
 use mathlib.Core.Option.{Option, none, some}
 use mathlib.Core.List.{List, [], _∷_}
 use lib.Dec.{eqb}
-use lib.Bits.{bitOr}
+use lib.Bits.{bitAnd, bitOr}
 use lib.ListN.{getD, set, length, replicate}
 use Rattle.marks.specs.declared.Unused.{Unused}
 use Rattle.marks.specs.declared.Unused.the-variants.{Clear, At}
@@ -81,18 +81,29 @@ first-unused places marks = first-marked marks places (8 * row-length places - p
 abbrev pub Unused-clear : (places : ℕ) (marks : List ℕ) → Type 0
 Unused-clear places marks = (p : ℕ) → places ≤ p → mark-at marks p ≡ 0
 
--- ---- the row with a run of places marked
+-- ---- the row with a run of places marked, or with their marks taken away
 
--- with one place marked; a place outside the row changes nothing
-unfoldable pub with-mark : (marks : List ℕ) (place : ℕ) → List ℕ
-unfolding byte-of
-with-mark marks place = set marks (place / 8) (bitOr (byte-of marks place) (2 ^ (place % 8)))
+-- a byte with the bits of a mask set, or else cleared: less those that it has of the mask's
+unfoldable pub with-bits : (on : Bool) (byte mask : ℕ) → ℕ
+with-bits true byte mask = bitOr byte mask
+with-bits false byte mask = byte - bitAnd byte mask
+
+-- with one place marked, or else its mark taken away; a place outside the row changes nothing
+unfoldable pub with-mark : (on : Bool) (marks : List ℕ) (place : ℕ) → List ℕ
+unfolding byte-of with-bits
+with-mark on marks place = set marks (place / 8) (with-bits on (byte-of marks place) (2 ^ (place % 8)))
 
 -- one place after the other
-unfoldable pub marked-run : (marks : List ℕ) (from len : ℕ) → List ℕ
+unfoldable pub changed-run : (on : Bool) (marks : List ℕ) (from len : ℕ) → List ℕ
 unfolding with-mark
-marked-run marks from zero = marks
-marked-run marks from (suc len) = marked-run (with-mark marks from) (suc from) len
+changed-run on marks from zero = marks
+changed-run on marks from (suc len) = changed-run on (with-mark on marks from) (suc from) len
+
+abbrev pub marked-run : (marks : List ℕ) (from len : ℕ) → List ℕ
+marked-run = changed-run true
+
+abbrev pub cleared-run : (marks : List ℕ) (from len : ℕ) → List ℕ
+cleared-run = changed-run false
 
 -- ---- contracts
 
@@ -120,6 +131,10 @@ pub record Clears (marks marks′ : List ℕ) : Type 0 where
 pub record MarkRun (marks : List ℕ) (from len : ℕ) (marks′ : List ℕ) : Type 0 where
   pub left : marks′ ≡ marked-run marks from len
 
+-- of `clear_run`
+pub record ClearRun (marks : List ℕ) (from len : ℕ) (marks′ : List ℕ) : Type 0 where
+  pub left : marks′ ≡ cleared-run marks from len
+
 -- ---- contracts of the searches
 
 -- from a place on others are passed, up to the first that is found or to the number of places; from beyond that none is passed
@@ -140,6 +155,10 @@ NextUnmarked marks = Next (Marked marks) (Unmarked marks)
 -- the byte whose bits from one on are set, so many
 abbrev pub ones-at : (first count : ℕ) → ℕ
 ones-at first count = (2 ^ count - 1) * 2 ^ first
+
+-- of `change_run`: marked, or else the marks taken away
+pub record ChangeRun (on : Bool) (marks : List ℕ) (from len : ℕ) (marks′ : List ℕ) : Type 0 where
+  pub left : marks′ ≡ changed-run on marks from len
 
 -- the lowest set bit of a number; where the number has n bits it is one of those
 pub record Lowest (number r : ℕ) : Type 0 where

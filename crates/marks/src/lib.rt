@@ -1,7 +1,7 @@
 // A row of marks, a bit for each place: place p is bit p modulo 8 of byte p / 8, lowest bit first.
 ghost use mathlib.Core.Path.{_≡_};
 ghost use Prim.Native.Nat.{_+_, _/_, _%_, _^_, _≤_, _<_, min};
-ghost use Rattle.marks.specs.Marks.{byte-of, ones-at, RowLength, IsMarked, FirstUnused, Clears, MarkRun, NextMarked, NextUnmarked, Lowest, LowestPlace};
+ghost use Rattle.marks.specs.Marks.{byte-of, ones-at, with-bits, RowLength, IsMarked, FirstUnused, Clears, ChangeRun, MarkRun, ClearRun, NextMarked, NextUnmarked, Lowest, LowestPlace};
 
 // How many marks a byte holds.
 const A_BYTE: usize = 8;
@@ -62,9 +62,19 @@ fn ones(first: usize, count: usize) -> u8
     (ALL >> (A_BYTE - count)) << first
 }
 
-// Marks `len` places from a place on: all that lie in a byte at once. Outside the row nothing changes.
-pub fn mark_run(marks: &mut [u8], from: usize, len: usize)
-    ensures { λ _. ⌜ MarkRun (now (marks .entry)) from len (now (marks .exit)) ⌝ }
+// A byte with the bits of a mask set, or else cleared.
+fn changed(byte: u8, mask: u8, set: bool) -> u8
+    ensures { λ r. ⌜ r ≡ with-bits set byte mask ⌝ }
+{
+    if set {
+        return byte | mask;
+    }
+    !(!byte | mask)
+}
+
+// Sets or clears the marks of `len` places from a place on: all that lie in a byte at once. Outside the row nothing changes.
+fn change_run(marks: &mut [u8], from: usize, len: usize, set: bool)
+    ensures { λ _. ⌜ ChangeRun set (now (marks .entry)) from len (now (marks .exit)) ⌝ }
 {
     let mut at = from / A_BYTE;
     let mut first = from % A_BYTE;
@@ -74,11 +84,25 @@ pub fn mark_run(marks: &mut [u8], from: usize, len: usize)
             return;
         }
         let count = least(A_BYTE - first, left);
-        marks[at] |= ones(first, count);
+        marks[at] = changed(marks[at], ones(first, count), set);
         at += 1;
         first = 0;
         left -= count;
     }
+}
+
+// Marks `len` places from a place on. Outside the row nothing changes.
+pub fn mark_run(marks: &mut [u8], from: usize, len: usize)
+    ensures { λ _. ⌜ MarkRun (now (marks .entry)) from len (now (marks .exit)) ⌝ }
+{
+    change_run(marks, from, len, true);
+}
+
+// Takes away the marks of `len` places from a place on. Outside the row nothing changes.
+pub fn clear_run(marks: &mut [u8], from: usize, len: usize)
+    ensures { λ _. ⌜ ClearRun (now (marks .entry)) from len (now (marks .exit)) ⌝ }
+{
+    change_run(marks, from, len, false);
 }
 
 // The bits of a place's byte from the place on, the place's own the lowest. Outside the row all are 0.

@@ -77,6 +77,8 @@ pub mod refusals {
 
     pub const LIST_FULL: u8 = 22;
 
+    pub const BAD_TABLE: u8 = 23;
+
     pub const ADDRESS_TOO_WIDE: u8 = 25;
 }
 

@@ -7,16 +7,19 @@
 //   W RECORD OUT BYTES             the record, with these bytes as its pool, written to an output of OUT bytes
 //   O OUT BYTES RECORD RECORD ..   the object of the records, with these bytes as their pool
 //   M FIRST PAGE MARKS BYTES       the text of these bytes, loaded into a page of PAGE bytes from the address FIRST on, with MARKS bytes of marks
+//   N OWNER POOL MARKS BYTES WINDOW WINDOW ..
+//                                  the text of these bytes, loaded for OWNER through a table into a pool of POOL bytes, with MARKS bytes of marks
 //
 // A record is its type, two numbers, and the position and the length of its payload. The first number
 // is the offset of data and the number of types 02 to 05 (of 03: CS, and the second is IP). Bit 0 of
 // the flags is stop_after_first_error, bit 1 stop_after_eof. With bit 2 the first answer alone is told,
 // with both stops on. A text is read by a reader that holds it. For each answer one reader is opened, and
 // asked in a loop from the first answer up to that one. An object is written from a lent list, of at most
-// 64 records.
+// 64 records. A window is its owner, its first address, its length and its place in the pool; a case has at
+// most 17.
 //
 // A lent buffer holds one byte in each place before the call: pool EE, output DD, page CC, marks AA.
-// Behind an answer stand ` | ` and the whole buffer; behind one of M the page, and then the marks. A
+// Behind an answer stand ` | ` and the whole buffer; behind one of M or N the page, and then the marks. A
 // page or marks of more than 64 bytes are told in runs, each as its byte, `<` and the place where it
 // ends. The answer is one of these:
 //
@@ -31,7 +34,7 @@
 // The answers of T stand in one line with `; ` between them, up to "done" or refusal 10, and at most
 // 40 of them. Behind ` @` stands the number of lines behind which the reader stands then. One more
 // call, with a pool of 4,096 bytes, is told at the end without its pool. A first answer alone has no
-// ` @`. Behind a refusal of M stand ` @` and the number of its line.
+// ` @`. Behind a refusal of M or N stand ` @` and the number of its line.
 //
 // The number of a refusal is in decimal, and every other number in hexadecimal with capitals. A
 // case that is none of these is answered by `?`. Each case ends in LF, and what a case has beyond
@@ -502,21 +505,57 @@ fn say_loading(l: Loading) {
                     say_field(b' ', seen as u64, 1);
                 }
                 LoaderError::StartConflict => say_refused(refusals::START_CONFLICT, 0, 0),
+                LoaderError::BadTable => say_refused(refusals::BAD_TABLE, 0, 0),
             }
             say_line(line);
         }
     }
 }
 
-fn load(text: &[u8], first: u32, page: &mut [u8], marks: &mut [u8]) {
-    let l = loader::load(text, first, page, marks);
+// Prints what came of a load, the page and the marks.
+fn say_loaded(l: Loading, page: &[u8], marks: &[u8]) {
     say_loading(l);
     say_buffer(page, MOST_OF_PAGE);
     say_buffer(marks, MOST_OF_PAGE);
 }
 
-// Lends marks to a load of a page. The text of the case has the first address, the page's size and the size of the marks.
-fn lend_marks(text: &[u8], bytes: &[u8], page: &mut [u8]) {
+fn load(text: &[u8], first: u32, page: &mut [u8], marks: &mut [u8]) {
+    let l = loader::load(text, first, page, marks);
+    say_loaded(l, page, marks);
+}
+
+// Loads for an owner through the table whose numbers stand from a place on, four a window. A case has at most 17 windows.
+fn load_through(
+    text: &[u8],
+    from: usize,
+    bytes: &[u8],
+    owner: usize,
+    pool: &mut [u8],
+    marks: &mut [u8],
+) {
+    let mut numbers = [0usize; 68];
+    let mut n = 0;
+    let mut i = from;
+    while n < 68 {
+        if i >= text.len() {
+            break;
+        }
+        let x = read_number(text, i);
+        numbers[n] = x.value as usize;
+        i = x.next;
+        n += 1;
+    }
+    if i < text.len() {
+        say_char(b'?');
+        return;
+    }
+    let l = loader::load_table(bytes, owner, &numbers[..n], pool, marks);
+    say_loaded(l, pool, marks);
+}
+
+// Lends marks to a load of a page, or to one through a table whose numbers stand at `x`. The text of the case has the first address or the
+// owner, the page's size and the size of the marks.
+fn lend_marks(kind: u8, text: &[u8], bytes: &[u8], page: &mut [u8], x: usize) {
     let first = read_number(text, 2);
     let size = read_number(text, first.next);
     let row = read_number(text, size.next);
@@ -527,6 +566,10 @@ fn lend_marks(text: &[u8], bytes: &[u8], page: &mut [u8]) {
         say_char(b'?');
         return;
     }
+    if kind == b'N' {
+        load_through(text, x, bytes, first.value as usize, page, &mut marks[0..n]);
+        return;
+    }
     load(
         bytes,
         (first.value % ADDRESSES) as u32,
@@ -535,11 +578,11 @@ fn lend_marks(text: &[u8], bytes: &[u8], page: &mut [u8]) {
     );
 }
 
-// Runs a case on the buffer that it lends, of which M alone may have more than 4,096 bytes. `x` is the position of L, the flags of T, and
-// where the records of O begin.
+// Runs a case on the buffer that it lends, of which M and N alone may have more than 4,096 bytes. `x` is the position of L, the flags of T, and
+// where the records of O and the windows of N begin.
 fn run(kind: u8, text: &[u8], bytes: &[u8], lent: &mut [u8], x: usize) {
     if lent.len() > MOST_OF_POOL {
-        if kind != b'M' {
+        if kind != b'M' && kind != b'N' {
             say_char(b'?');
             return;
         }
@@ -549,7 +592,8 @@ fn run(kind: u8, text: &[u8], bytes: &[u8], lent: &mut [u8], x: usize) {
         b'L' => read_line(bytes, lent, x),
         b'T' => read_text(bytes, lent, x),
         b'W' => write_line(text, bytes, lent),
-        b'M' => lend_marks(text, bytes, lent),
+        b'M' => lend_marks(kind, text, bytes, lent, x),
+        b'N' => lend_marks(kind, text, bytes, lent, x),
         _ => write_object(text, x, bytes, lent),
     }
 }
@@ -578,9 +622,11 @@ fn record_case(text: &[u8]) {
     lending_case(b'W', OUTPUT_BYTE, text, size.next, size.value as usize, 0);
 }
 
-fn load_case(text: &[u8], size: usize, from: usize) {
+// A load, into a page or through a table, whose windows stand after its bytes.
+fn load_case(kind: u8, text: &[u8], size: usize, from: usize) {
     let marks = read_number(text, from);
-    lending_case(b'M', PAGE_BYTE, text, marks.next, size, 0);
+    let bytes = read_number(text, marks.next);
+    lending_case(kind, PAGE_BYTE, text, marks.next, size, bytes.next);
 }
 
 // The answer to a case.
@@ -602,7 +648,8 @@ fn answer(text: &[u8]) {
         b'T' => lending_case(b'T', POOL_BYTE, text, b.next, y, x),
         b'W' => record_case(text),
         b'O' => lending_case(b'O', OUTPUT_BYTE, text, a.next, x, b.next),
-        b'M' => load_case(text, y, b.next),
+        b'M' => load_case(b'M', text, y, b.next),
+        b'N' => load_case(b'N', text, y, b.next),
         _ => say_char(b'?'),
     }
 }

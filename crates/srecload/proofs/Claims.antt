@@ -21,9 +21,9 @@ use Rattle.steps.specs.Source as source
 use Rattle.steps.specs.Account.{Decided}
 use Rattle.window.specs.Reasons.{bad-one, no-end, at-line, Among}
 use Rattle.window.specs.Load.{stopping-by-window, load-window}
-use Rattle.window.proofs.Reasons.{load-reasons}
+use Rattle.window.proofs.Reasons.{load-reasons, table-reasons}
 use Rattle.srecload.specs.Placing.{S-meaning, s-meaning, s-records}
-use Rattle.srecload.specs.Claims.{said-record, Means, of-header, of-data, of-count, of-end, Records-by-format, data-records, Stops, the-end, no-record, first-outside, count-differs, account, Why, Reasons, Offends, Load-names-the-offender, refusal-numbers, Total, Examples}
+use Rattle.srecload.specs.Claims.{said-record, Means, of-header, of-data, of-count, of-end, Records-by-format, data-records, Stops, the-end, no-record, first-outside, count-differs, account, Why, Reasons, Reasons-by-table, Offends, Load-names-the-offender, refusal-numbers, Total, Examples}
 use Rattle.srecload.proofs.Meeting.{means-header, means-data, means-count, means-end}
 use Rattle.srecload.proofs.Reasons.{counted-none, walked}
 
@@ -70,6 +70,10 @@ records-by-format line m = (
 pub reasons : Reasons
 unfolding source.steps-of data-records s-records
 reasons = load-reasons s-records account (λ inside text. walked inside (lines text) 1 [] nothing-yet counted-none)
+
+pub reasons-by-table : Reasons-by-table
+unfolding source.steps-of data-records s-records
+reasons-by-table = table-reasons s-records account (λ inside text. walked inside (lines text) 1 [] nothing-yet counted-none)
 
 -- ---- totality
 

@@ -8,7 +8,6 @@ use native.Mathlib.Omega.{arith}
 use mathlib.Core.Bool.{Bool}
 use mathlib.Core.Option.{some}
 use mathlib.Core.List.{List, [], _∷_, _++_, map}
-use lib.Dec.{eqb, leb}
 use lib.ListN.{length, take, drop, length-drop, drop-of-length-le}
 use borrow.Author.Tests.{eq-eqb, ne-eqb, le-leb, lt-leb}
 use Rattle.record.specs.Refusals.{missing-end-of-file-record, outside-window, count-mismatch}
@@ -27,7 +26,6 @@ use Rattle.steps.specs.Source as source
 use Rattle.steps.specs.declared.Loading.{Loading}
 use Rattle.steps.specs.Told.{told-loading}
 use Rattle.window.specs.declared.Reach.the-variants.{Inside, Outside}
-use Rattle.window.specs.Window.{within}
 use Rattle.window.specs.Contracts.{Surveyed}
 use Rattle.srecload.specs.declared.Walk.{Walk}
 use Rattle.srecload.specs.declared.Turn.{Turn}
@@ -77,15 +75,15 @@ module _ (inside : ℕ → Bool) (there : Walk) (seen : ℕ) where
   unfolding decision turn verdict s-does
   met-end address rest = refl
 
-module _ (first size : ℕ) (there : Walk) (seen : ℕ) (address len : ℕ) (bytes : List ℕ) (l : length bytes ≡ len) where
-  pub met-inside : Surveyed (s-address address) len first size Inside
-      → Passed (within first size) there seen (step (there .line) (places (s-placed address bytes)) ∷ []) there (seen + 1)
+module _ (inside : ℕ → Bool) (there : Walk) (seen : ℕ) (address len : ℕ) (bytes : List ℕ) (l : length bytes ≡ len) where
+  pub met-inside : Surveyed (s-address address) len inside Inside
+      → Passed inside there seen (step (there .line) (places (s-placed address bytes)) ∷ []) there (seen + 1)
   unfolding decision turn
   met-inside s = record { walk = refl; counted = omega arith; same = λ rest. rw (s .answer bytes l, add-one (seen)) }
 
-  pub met-outside : (i : ℕ) → Surveyed (s-address address) len first size (Outside i)
+  pub met-outside : (i : ℕ) → Surveyed (s-address address) len inside (Outside i)
       → (rest : List Step) → refused (outside-window (s-address address i)) (there .line)
-      ≡ verdict (decision (within first size) (so-far seen) ((step (there .line) (places (s-placed address bytes)) ∷ []) ++ rest))
+      ≡ verdict (decision inside (so-far seen) ((step (there .line) (places (s-placed address bytes)) ∷ []) ++ rest))
   unfolding decision turn verdict
   met-outside i s rest = rw (s .answer bytes l)
 

@@ -11,9 +11,9 @@ use Rattle.record.specs.Line.{wrong}
 use Rattle.srec.specs.Line.{judge}
 use Rattle.steps.specs.Steps.{Placement, linear-address, Verdict, accepted, refused}
 use Rattle.steps.proofs.Firsts.{not-empty, every-at, same-first, Inside, not-inside, Sound}
-use Rattle.window.proofs.Reasons.{load-one-reason}
+use Rattle.window.proofs.Reasons.{load-one-reason, table-one-reason}
 use Rattle.srecload.specs.Placing.{S-meaning, s-header, s-count, s-end, s-placed, s-states, s-records}
-use Rattle.srecload.specs.Claims.{said-record, record-on, states, data-records, Passes, is-empty, is-header, lies-inside, counts-right, Stops, the-end, no-record, first-outside, count-differs, account, One-reason}
+use Rattle.srecload.specs.Claims.{said-record, record-on, states, data-records, Passes, is-empty, is-header, lies-inside, counts-right, Stops, the-end, no-record, first-outside, count-differs, account, One-reason, One-reason-by-table}
 
 -- ---- one line
 
@@ -80,3 +80,6 @@ module _ (inside : ℕ → Bool) where
 
 pub one-reason : One-reason
 one-reason = load-one-reason s-records account sound
+
+pub one-reason-by-table : One-reason-by-table
+one-reason-by-table = table-one-reason s-records account sound

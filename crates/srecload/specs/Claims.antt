@@ -22,9 +22,11 @@ use Rattle.steps.specs.declared.Loading.{Loading}
 use Rattle.steps.specs.Steps.{Placement, linear-address, Tally, Verdict, accepted, refused, by}
 use Rattle.steps.specs.Sites.{Loaded, Owed-at}
 use Rattle.steps.specs.Account.{Account}
+use Rattle.window.specs.declared.Row.{Row}
+use Rattle.window.specs.Tables.{LoadTable}
 use Rattle.window.specs.Loads.{Alike, Unpacks-to}
 use Rattle.window.specs.Loads as loads
-use Rattle.window.specs.Reasons.{Load-reasons, Load-one-reason, Among}
+use Rattle.window.specs.Reasons.{Load-reasons, Load-one-reason, Table-reasons, Table-one-reason, Among}
 use Rattle.window.specs.Reasons as reasons
 use Rattle.srecload.specs.Placing.{S-meaning, s-header, s-data, s-count, s-end, s-meaning, s-placed, s-states, s-records}
 use Rattle.srecload.specs.Load.{stopping, placements, load, LoadSRecords}
@@ -152,6 +154,13 @@ Reasons = Load-reasons s-records account
 abbrev pub One-reason : Type 0
 One-reason = Load-one-reason s-records account
 
+-- so it is through a window table
+abbrev pub Reasons-by-table : Type 0
+Reasons-by-table = Table-reasons s-records account
+
+abbrev pub One-reason-by-table : Type 0
+One-reason-by-table = Table-one-reason s-records account
+
 -- the first offender of a text's n-th line stands at the place
 pub record Offends (text : List ℕ) (n place : ℕ) : Type 0 where
   pub line : List ℕ
@@ -181,6 +190,12 @@ abbrev pub Load-srecords-unique : Type 0
 Load-srecords-unique =
     (text : List ℕ) (first : ℕ) (page marks : List ℕ) (r r′ : Loading) (p p′ m m′ : List ℕ)
     → LoadSRecords text first page marks r p m → LoadSRecords text first page marks r′ p′ m′ → (r ≡ r′) × (p ≡ p′) × (m ≡ m′)
+
+-- nor through a window table
+abbrev pub Load-srecords-table-unique : Type 0
+Load-srecords-table-unique =
+    (owner : ℕ) (rows : List Row) (text pool marks : List ℕ) (r r′ : Loading) (p p′ m m′ : List ℕ)
+    → LoadTable s-records owner rows text pool marks r p m → LoadTable s-records owner rows text pool marks r′ p′ m′ → (r ≡ r′) × (p ≡ p′) × (m ≡ m′)
 
 -- ---- examples
 

@@ -3,7 +3,7 @@
 use Prim.Native.Nat.{ℕ, suc, _+_, _≤_, _<_}
 use mathlib.Core.Path.{_≡_}
 use mathlib.Core.Bool.{Bool, true, false}
-use mathlib.Core.Option.{none}
+use mathlib.Core.Option.{Option, none}
 use mathlib.Core.List.{List, [], _∷_, _++_, map}
 use lib.ListN.{length, take, drop}
 use Rattle.reader.specs.Lines.{lines}
@@ -89,26 +89,26 @@ Judged inside text w seen (Stop l) = told-loading l ≡ verdict (decision inside
 -- ---- the second pass
 
 -- steps were written: what they state is painted; where the text does not go on, they state nothing, and nothing after them is stated
-pub record Wrote-steps (first : ℕ) (s : List Step) (page₀ marks₀ : List ℕ) (more : Bool) (page′ marks′ : List ℕ) : Type 0 where
-  pub painted : Painted first (stated s) page₀ marks₀ page′ marks′
+pub record Wrote-steps (site : ℕ → Option ℕ) (s : List Step) (page₀ marks₀ : List ℕ) (more : Bool) (page′ marks′ : List ℕ) : Type 0 where
+  pub painted : Painted site (stated s) page₀ marks₀ page′ marks′
   pub goes-on : more ≡ true → (rest : List Step) → stated (s ++ rest) ≡ stated s ++ stated rest
   pub ends : more ≡ false → (rest : List Step) → stated (s ++ rest) ≡ []
   pub kept : more ≡ false → (page′ ≡ page₀) × (marks′ ≡ marks₀)
 
 -- a record was written, and a line, whatever its number
-abbrev pub Wrote-record : (first : ℕ) → SRecord → (pool page₀ marks₀ : List ℕ) (more : Bool) (page′ marks′ : List ℕ) → Type 0
-Wrote-record first x pool page₀ marks₀ more page′ marks′ =
-    (n : ℕ) → Wrote-steps first (map (step n) (s-does (meant-in x pool))) page₀ marks₀ more page′ marks′
+abbrev pub Wrote-record : (site : ℕ → Option ℕ) → SRecord → (pool page₀ marks₀ : List ℕ) (more : Bool) (page′ marks′ : List ℕ) → Type 0
+Wrote-record site x pool page₀ marks₀ more page′ marks′ =
+    (n : ℕ) → Wrote-steps site (map (step n) (s-does (meant-in x pool))) page₀ marks₀ more page′ marks′
 
-abbrev pub Wrote-line : (first : ℕ) (line page₀ marks₀ : List ℕ) (more : Bool) (page′ marks′ : List ℕ) → Type 0
-Wrote-line first line page₀ marks₀ more page′ marks′ = (n : ℕ) → Wrote-steps first (line-steps n line) page₀ marks₀ more page′ marks′
+abbrev pub Wrote-line : (site : ℕ → Option ℕ) (line page₀ marks₀ : List ℕ) (more : Bool) (page′ marks′ : List ℕ) → Type 0
+Wrote-line site line page₀ marks₀ more page′ marks′ = (n : ℕ) → Wrote-steps site (line-steps n line) page₀ marks₀ more page′ marks′
 
 -- a line was written: the walk goes on, or nothing more is stated
-pub record Written-on (first : ℕ) (text : List ℕ) (w : Walk) (page₀ marks₀ : List ℕ) (w′ : Walk) (page′ marks′ : List ℕ) : Type 0 where
+pub record Written-on (site : ℕ → Option ℕ) (text : List ℕ) (w : Walk) (page₀ marks₀ : List ℕ) (w′ : Walk) (page′ marks′ : List ℕ) : Type 0 where
   pub under-way : Under-way text w′
   pub less : w .position < w′ .position
-  pub same : Same-painting first (ahead-of w text) page₀ marks₀ (ahead-of w′ text) page′ marks′
+  pub same : Same-painting site (ahead-of w text) page₀ marks₀ (ahead-of w′ text) page′ marks′
 
-abbrev pub Wrote : (first : ℕ) (text : List ℕ) (w : Walk) (page₀ marks₀ : List ℕ) → Further → (page′ marks′ : List ℕ) → Type 0
-Wrote first text w page₀ marks₀ (further.On w′) page′ marks′ = Written-on first text w page₀ marks₀ w′ page′ marks′
-Wrote first text w page₀ marks₀ further.End page′ marks′ = (stated (ahead-of w text) ≡ []) × (page′ ≡ page₀) × (marks′ ≡ marks₀)
+abbrev pub Wrote : (site : ℕ → Option ℕ) (text : List ℕ) (w : Walk) (page₀ marks₀ : List ℕ) → Further → (page′ marks′ : List ℕ) → Type 0
+Wrote site text w page₀ marks₀ (further.On w′) page′ marks′ = Written-on site text w page₀ marks₀ w′ page′ marks′
+Wrote site text w page₀ marks₀ further.End page′ marks′ = (stated (ahead-of w text) ≡ []) × (page′ ≡ page₀) × (marks′ ≡ marks₀)

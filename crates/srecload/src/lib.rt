@@ -7,14 +7,16 @@ use steps::Loading;
 use steps::Start;
 use steps::Tally;
 use window::Reach;
+use window::owners;
 ghost use mathlib.Core.Path.{_≡_};
 ghost use Prim.Native.Nat.{_+_, _-_, _^_, _≤_, _<_, min};
 ghost use lib.ListN.{length};
 ghost use Rattle.steps.specs.Steps.{nothing-yet, decision, verdict};
 ghost use Rattle.steps.specs.Told.{told-loading};
-ghost use Rattle.window.specs.Window.{within};
+ghost use Rattle.window.specs.Table.{rows-in, site-of, inside-of, Sound};
+ghost use Rattle.window.specs.Tables.{LoadTable};
 ghost use Rattle.window.specs.Contracts.{Surveyed, Painted};
-ghost use Rattle.srecload.specs.Placing.{s-address, s-placed, line-steps};
+ghost use Rattle.srecload.specs.Placing.{s-records, s-address, s-placed, line-steps};
 ghost use Rattle.srecload.specs.Load.{placements, steps-of, LoadSRecords};
 ghost use Rattle.srecload.specs.Helpers.{Lies-in, MeetsData, MeetsCount, Meets, Met, Under-way, Judged, Wrote-record, Wrote-line, Wrote};
 
@@ -62,17 +64,17 @@ fn first_run(address: u32, len: usize) -> usize
 }
 
 // Where the bytes of a data record lie.
-fn survey(address: u32, len: usize, first: u32, size: usize) -> Reach
+fn survey(address: u32, len: usize, owner: usize, rows: &[usize]) -> Reach
     requires { ⌜ len ≤ 252 ⌝ }
-    ensures { λ r. ⌜ Surveyed (s-address address) len first size r ⌝ }
+    ensures { λ r. ⌜ Surveyed (s-address address) len (inside-of owner (rows-in (now (rows .entry)))) r ⌝ }
 {
     let run = first_run(address, len);
     if run == len {
-        return window::first_outside(first, size, address, len);
+        return window::first_outside(owner, rows, address, len as u32);
     }
-    match window::first_outside(first, size, address, run) {
+    match window::first_outside(owner, rows, address, run as u32) {
         Reach::Outside(i) => Reach::Outside(i),
-        Reach::Inside => match window::first_outside(first, size, 0, len - run) {
+        Reach::Inside => match window::first_outside(owner, rows, 0, (len - run) as u32) {
             Reach::Outside(i) => Reach::Outside(run + i),
             Reach::Inside => Reach::Inside,
         },
@@ -80,24 +82,24 @@ fn survey(address: u32, len: usize, first: u32, size: usize) -> Reach
 }
 
 // Stores the bytes of a data record and marks their places, each at its own address.
-fn put(address: u32, bytes: &[u8], first: u32, page: &mut [u8], marks: &mut [u8])
-    requires { ⌜ length (now bytes) ≤ 252 ⌝ }
-    ensures { λ _. ⌜ Painted first (s-placed address (now (bytes .entry))) (now (page .entry)) (now (marks .entry)) (now (page .exit)) (now (marks .exit)) ⌝ }
+fn put(address: u32, bytes: &[u8], owner: usize, rows: &[usize], page: &mut [u8], marks: &mut [u8])
+    requires { ⌜ (length (now bytes) ≤ 252) × Sound (length (now page)) (rows-in (now rows)) ⌝ }
+    ensures { λ _. ⌜ Painted (site-of owner (rows-in (now (rows .entry)))) (s-placed address (now (bytes .entry))) (now (page .entry)) (now (marks .entry)) (now (page .exit)) (now (marks .exit)) ⌝ }
 {
     let run = first_run(address, bytes.len());
-    window::put_run(first, address, &bytes[..run], page, marks);
+    window::put_run(owner, rows, address, &bytes[..run], page, marks);
     if run < bytes.len() {
-        window::put_run(first, 0, &bytes[run..], page, marks);
+        window::put_run(owner, rows, 0, &bytes[run..], page, marks);
     }
 }
 
 // What a data record comes to in the first pass.
-fn judge_data(first: u32, size: usize, there: Walk, seen: usize, given: SRecord) -> Turn
+fn judge_data(owner: usize, rows: &[usize], there: Walk, seen: usize, given: SRecord) -> Turn
     requires { ⌜ (given .len ≤ 252) × (seen + 1 < 2 ^ 64) ⌝ }
-    ensures { λ r. ⌜ MeetsData (within first size) there seen given r ⌝ }
+    ensures { λ r. ⌜ MeetsData (inside-of owner (rows-in (now (rows .entry)))) there seen given r ⌝ }
 {
     let address = given.address;
-    match survey(address, given.len, first, size) {
+    match survey(address, given.len, owner, rows) {
         Reach::Inside => Turn::On(seen + 1, there),
         Reach::Outside(i) => Turn::Stop(Loading::Refused(
             LoaderError::OutsideWindow(byte_address(address, i)),
@@ -118,9 +120,9 @@ fn judge_count(there: Walk, seen: usize, stated: u32) -> Turn
 }
 
 // What a record comes to in the first pass. The walk stands after the record's line.
-fn judge_record(first: u32, size: usize, there: Walk, seen: usize, given: SRecord) -> Turn
+fn judge_record(owner: usize, rows: &[usize], there: Walk, seen: usize, given: SRecord) -> Turn
     requires { ⌜ (given .len ≤ 252) × (seen + 1 < 2 ^ 64) ⌝ }
-    ensures { λ r. ⌜ Meets (within first size) there seen given r ⌝ }
+    ensures { λ r. ⌜ Meets (inside-of owner (rows-in (now (rows .entry)))) there seen given r ⌝ }
 {
     let kind = given.kind;
     let digit = kind.digit();
@@ -128,7 +130,7 @@ fn judge_record(first: u32, size: usize, there: Walk, seen: usize, given: SRecor
         return Turn::On(seen, there);
     }
     if digit <= types::S3 {
-        return judge_data(first, size, there, seen, given);
+        return judge_data(owner, rows, there, seen, given);
     }
     if digit == types::S5 {
         return judge_count(there, seen, given.address);
@@ -143,27 +145,34 @@ fn judge_record(first: u32, size: usize, there: Walk, seen: usize, given: SRecor
 fn judge_line(
     line: &[u8],
     pool: &mut [u8],
-    first: u32,
-    size: usize,
+    owner: usize,
+    rows: &[usize],
     there: Walk,
     seen: usize,
 ) -> Turn
     requires { ⌜ (length (now pool) ≡ 252) × (seen + 1 < 2 ^ 64) ⌝ }
-    ensures { λ r. ⌜ Met (within first size) there seen (line-steps (there .line) (now (line .entry))) r ⌝ }
+    ensures { λ r. ⌜ Met (inside-of owner (rows-in (now (rows .entry)))) there seen (line-steps (there .line) (now (line .entry))) r ⌝ }
 {
     if line.len() == 0 {
         return Turn::On(seen, there);
     }
     match srec::read_srecord(line, pool, 0) {
-        SAnswer::Read(given) => judge_record(first, size, there, seen, given),
+        SAnswer::Read(given) => judge_record(owner, rows, there, seen, given),
         SAnswer::Refused(e) => Turn::Stop(Loading::Refused(LoaderError::Line(e), there.line)),
     }
 }
 
 // What the next line comes to in the first pass.
-fn judge_next(text: &[u8], pool: &mut [u8], first: u32, size: usize, w: Walk, seen: usize) -> Turn
+fn judge_next(
+    text: &[u8],
+    pool: &mut [u8],
+    owner: usize,
+    rows: &[usize],
+    w: Walk,
+    seen: usize,
+) -> Turn
     requires { ⌜ Under-way (now text) w × (seen ≤ w .line) × (length (now pool) ≡ 252) ⌝ }
-    ensures { λ r. ⌜ Judged (within first size) (now (text .entry)) w seen r ⌝ }
+    ensures { λ r. ⌜ Judged (inside-of owner (rows-in (now (rows .entry)))) (now (text .entry)) w seen r ⌝ }
 {
     let from = w.position;
     if from == text.len() {
@@ -175,12 +184,12 @@ fn judge_next(text: &[u8], pool: &mut [u8], first: u32, size: usize, w: Walk, se
         position: from + n,
         line: w.line + 1,
     };
-    judge_line(line, pool, first, size, there, seen)
+    judge_line(line, pool, owner, rows, there, seen)
 }
 
-// The first pass: the answer to a text for a window that is not refused. Nothing is written.
-fn judge_text(text: &[u8], first: u32, size: usize) -> Loading
-    ensures { λ r. ⌜ told-loading r ≡ verdict (decision (within first size) nothing-yet (steps-of (now (text .entry)))) ⌝ }
+// The first pass: the answer to a text for windows that are not refused. Nothing is written.
+fn judge_text(text: &[u8], owner: usize, rows: &[usize]) -> Loading
+    ensures { λ r. ⌜ told-loading r ≡ verdict (decision (inside-of owner (rows-in (now (rows .entry)))) nothing-yet (steps-of (now (text .entry)))) ⌝ }
 {
     let mut pool = [0u8; MOST_DATA];
     let mut w = Walk {
@@ -189,7 +198,7 @@ fn judge_text(text: &[u8], first: u32, size: usize) -> Loading
     };
     let mut seen = 0;
     loop {
-        match judge_next(text, &mut pool, first, size, w, seen) {
+        match judge_next(text, &mut pool, owner, rows, w, seen) {
             Turn::On(n, next) => {
                 w = next;
                 seen = n;
@@ -200,9 +209,16 @@ fn judge_text(text: &[u8], first: u32, size: usize) -> Loading
 }
 
 // Stores and marks what a record states, and returns whether the text goes on after it.
-fn write_record(pool: &[u8], first: u32, given: SRecord, page: &mut [u8], marks: &mut [u8]) -> bool
-    requires { ⌜ Lies-in given (now pool) ⌝ }
-    ensures { λ r. ⌜ Wrote-record first given (now (pool .entry)) (now (page .entry)) (now (marks .entry)) r (now (page .exit)) (now (marks .exit)) ⌝ }
+fn write_record(
+    pool: &[u8],
+    owner: usize,
+    rows: &[usize],
+    given: SRecord,
+    page: &mut [u8],
+    marks: &mut [u8],
+) -> bool
+    requires { ⌜ Lies-in given (now pool) × Sound (length (now page)) (rows-in (now rows)) ⌝ }
+    ensures { λ r. ⌜ Wrote-record (site-of owner (rows-in (now (rows .entry)))) given (now (pool .entry)) (now (page .entry)) (now (marks .entry)) r (now (page .exit)) (now (marks .exit)) ⌝ }
 {
     let kind = given.kind;
     let digit = kind.digit();
@@ -212,22 +228,29 @@ fn write_record(pool: &[u8], first: u32, given: SRecord, page: &mut [u8], marks:
     if digit <= types::S3 {
         let from = given.at;
         let end = from + given.len;
-        put(given.address, &pool[from..end], first, page, marks);
+        put(given.address, &pool[from..end], owner, rows, page, marks);
         return true;
     }
     digit == types::S5
 }
 
 // Stores and marks what a line states, and returns whether the text goes on after it.
-fn write_line(line: &[u8], pool: &mut [u8], first: u32, page: &mut [u8], marks: &mut [u8]) -> bool
-    requires { ⌜ length (now pool) ≡ 252 ⌝ }
-    ensures { λ r. ⌜ Wrote-line first (now (line .entry)) (now (page .entry)) (now (marks .entry)) r (now (page .exit)) (now (marks .exit)) ⌝ }
+fn write_line(
+    line: &[u8],
+    pool: &mut [u8],
+    owner: usize,
+    rows: &[usize],
+    page: &mut [u8],
+    marks: &mut [u8],
+) -> bool
+    requires { ⌜ (length (now pool) ≡ 252) × Sound (length (now page)) (rows-in (now rows)) ⌝ }
+    ensures { λ r. ⌜ Wrote-line (site-of owner (rows-in (now (rows .entry)))) (now (line .entry)) (now (page .entry)) (now (marks .entry)) r (now (page .exit)) (now (marks .exit)) ⌝ }
 {
     if line.len() == 0 {
         return true;
     }
     match srec::read_srecord(line, pool, 0) {
-        SAnswer::Read(given) => write_record(pool, first, given, page, marks),
+        SAnswer::Read(given) => write_record(pool, owner, rows, given, page, marks),
         SAnswer::Refused(_) => false,
     }
 }
@@ -236,13 +259,14 @@ fn write_line(line: &[u8], pool: &mut [u8], first: u32, page: &mut [u8], marks: 
 fn write_next(
     text: &[u8],
     pool: &mut [u8],
-    first: u32,
+    owner: usize,
+    rows: &[usize],
     w: Walk,
     page: &mut [u8],
     marks: &mut [u8],
 ) -> Further
-    requires { ⌜ Under-way (now text) w × (length (now pool) ≡ 252) ⌝ }
-    ensures { λ r. ⌜ Wrote first (now (text .entry)) w (now (page .entry)) (now (marks .entry)) r (now (page .exit)) (now (marks .exit)) ⌝ }
+    requires { ⌜ Under-way (now text) w × (length (now pool) ≡ 252) × Sound (length (now page)) (rows-in (now rows)) ⌝ }
+    ensures { λ r. ⌜ Wrote (site-of owner (rows-in (now (rows .entry)))) (now (text .entry)) w (now (page .entry)) (now (marks .entry)) r (now (page .exit)) (now (marks .exit)) ⌝ }
 {
     let from = w.position;
     if from == text.len() {
@@ -250,7 +274,7 @@ fn write_next(
     }
     let mut n = 0;
     let line = reader::first_line(&text[from..], &mut n);
-    if write_line(line, pool, first, page, marks) {
+    if write_line(line, pool, owner, rows, page, marks) {
         return Further::On(Walk {
             position: from + n,
             line: w.line + 1,
@@ -260,8 +284,9 @@ fn write_next(
 }
 
 // The second pass: all that a text states, onto page and marks.
-fn write_text(text: &[u8], first: u32, page: &mut [u8], marks: &mut [u8])
-    ensures { λ _. ⌜ Painted first (placements (now (text .entry))) (now (page .entry)) (now (marks .entry)) (now (page .exit)) (now (marks .exit)) ⌝ }
+fn write_text(text: &[u8], owner: usize, rows: &[usize], page: &mut [u8], marks: &mut [u8])
+    requires { ⌜ Sound (length (now page)) (rows-in (now rows)) ⌝ }
+    ensures { λ _. ⌜ Painted (site-of owner (rows-in (now (rows .entry)))) (placements (now (text .entry))) (now (page .entry)) (now (marks .entry)) (now (page .exit)) (now (marks .exit)) ⌝ }
 {
     let mut pool = [0u8; MOST_DATA];
     let mut w = Walk {
@@ -269,7 +294,7 @@ fn write_text(text: &[u8], first: u32, page: &mut [u8], marks: &mut [u8])
         line: 0,
     };
     loop {
-        match write_next(text, &mut pool, first, w, page, marks) {
+        match write_next(text, &mut pool, owner, rows, w, page, marks) {
             Further::On(next) => {
                 w = next;
             }
@@ -285,10 +310,32 @@ pub fn load_srecords(text: &[u8], first: u32, page: &mut [u8], marks: &mut [u8])
     if window::is_unfit(first, page.len(), marks.len()) {
         return Loading::Refused(LoaderError::BadWindow, 0);
     }
-    let answer = judge_text(text, first, page.len());
+    let rows = [owners::FIRST, first as usize, page.len(), 0];
+    let answer = judge_text(text, owners::FIRST, &rows);
     if answer.is_accepted() {
         marks::clear(marks);
-        write_text(text, first, page, marks);
+        write_text(text, owners::FIRST, &rows, page, marks);
+    }
+    answer
+}
+
+// Loads a text of S-records for one owner through a window table into a shared pool. A mark for each of the owner's places says whether the text states it; every other byte and mark stays.
+pub fn load_srecords_table(
+    text: &[u8],
+    owner: usize,
+    rows: &[usize],
+    pool: &mut [u8],
+    marks: &mut [u8],
+) -> Loading
+    ensures { λ r. ⌜ LoadTable s-records owner (rows-in (now (rows .entry))) (now (text .entry)) (now (pool .entry)) (now (marks .entry)) r (now (pool .exit)) (now (marks .exit)) ⌝ }
+{
+    if window::is_bad_table(owner, rows, pool.len(), marks.len()) {
+        return Loading::Refused(LoaderError::BadTable, 0);
+    }
+    let answer = judge_text(text, owner, rows);
+    if answer.is_accepted() {
+        window::clear_marks(owner, rows, marks);
+        write_text(text, owner, rows, pool, marks);
     }
     answer
 }

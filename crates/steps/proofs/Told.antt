@@ -13,7 +13,7 @@ use Rattle.reader.specs.declared.ReaderError.the-variants.{MissingStartCode, Re
 use Rattle.reader.specs.Told.{refuses, refusal-of}
 use Rattle.reader.proofs.Claims.{untold, untold-told}
 use Rattle.steps.specs.declared.LoaderError.{LoaderError}
-use Rattle.steps.specs.declared.LoaderError.the-variants.{Line, MissingEndOfFileRecord, BadWindow, OutsideWindow, CountMismatch, StartConflict}
+use Rattle.steps.specs.declared.LoaderError.the-variants.{Line, MissingEndOfFileRecord, BadWindow, OutsideWindow, CountMismatch, StartConflict, BadTable}
 use Rattle.steps.specs.declared.Loading.{Loading}
 use Rattle.steps.specs.declared.Loading.the-variants.{Accepted, Refused}
 use Rattle.steps.specs.declared.Start.{Start as CodeStart}
@@ -34,6 +34,7 @@ error (refusal n vs) =
     if eqb n 17 then OutsideWindow (getD vs 0 0) else
     if eqb n 20 then CountMismatch (getD vs 0 0) (getD vs 1 0) else
     if eqb n 21 then StartConflict else
+    if eqb n 23 then BadTable else
     Line (reader-error (untold (refuses (refusal n vs))))
 
 of-line : (e : ReaderError) → Line (reader-error (untold (refuses (refusal-of e)))) ≡ Line e
@@ -57,6 +58,7 @@ again BadWindow = refl
 again (OutsideWindow a) = refl
 again (CountMismatch a b) = refl
 again StartConflict = refl
+again BadTable = refl
 
 untold-start : Option Start → CodeStart
 untold-start none = Unstated

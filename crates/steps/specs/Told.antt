@@ -3,10 +3,10 @@
 use mathlib.Core.Path.{_≡_}
 use mathlib.Core.Bool.{Bool, true, false}
 use mathlib.Core.Option.{Option, none, some}
-use Rattle.record.specs.Refusals.{Refusal, missing-end-of-file-record, bad-window, outside-window, count-mismatch, start-conflict}
+use Rattle.record.specs.Refusals.{Refusal, missing-end-of-file-record, bad-window, outside-window, count-mismatch, start-conflict, bad-table}
 use Rattle.reader.specs.Told.{refusal-of}
 use Rattle.steps.specs.declared.LoaderError.{LoaderError}
-use Rattle.steps.specs.declared.LoaderError.the-variants.{Line, MissingEndOfFileRecord, BadWindow, OutsideWindow, CountMismatch, StartConflict}
+use Rattle.steps.specs.declared.LoaderError.the-variants.{Line, MissingEndOfFileRecord, BadWindow, OutsideWindow, CountMismatch, StartConflict, BadTable}
 use Rattle.steps.specs.declared.Loading.{Loading}
 use Rattle.steps.specs.declared.Loading.the-variants.{Accepted, Refused}
 use Rattle.steps.specs.declared.Start.{Start as CodeStart}
@@ -21,6 +21,7 @@ loader-refusal BadWindow = bad-window
 loader-refusal (OutsideWindow address) = outside-window address
 loader-refusal (CountMismatch stated seen) = count-mismatch stated seen
 loader-refusal StartConflict = start-conflict
+loader-refusal BadTable = bad-table
 
 abbrev pub told-start : CodeStart → Option Start
 told-start Unstated = none

@@ -14,6 +14,8 @@ pub enum LoaderError {
     CountMismatch(usize, usize),
     // A record states another start than the first that was stated.
     StartConflict,
+    // A window table, its pool or its marks break a limit, or there is no such owner.
+    BadTable,
 }
 
 // Where a program starts, as a text states it.

@@ -8,3 +8,8 @@ pub mod AsBytes
 pub mod Table
 pub mod Tables
 pub mod Reasons
+pub mod Words
+pub mod TableTests
+pub mod Finding
+pub mod Through
+pub mod Alone

@@ -237,17 +237,16 @@ load-window-unique S src text first page marks r r′ p p′ m m′ x y =
 -- ---- the second pass
 
 -- nothing painted leaves page and marks as they are
-pub painted-nothing : (first : ℕ) (page marks : List ℕ) → Painted first [] page marks page marks
-painted-nothing first page marks = record { page = sym (painted-none _ 0 page); marks = sym (painted-none _ 0 (bits marks)); row = row-same marks }
+pub painted-nothing : (site : ℕ → Option ℕ) (page marks : List ℕ) → Painted site [] page marks page marks
+painted-nothing site page marks = record { page = sym (painted-none _ 0 page); marks = sym (painted-none _ 0 (bits marks)); row = row-same marks }
 
-pub painting-start : (first : ℕ) (s : List Step) (page marks : List ℕ) → Same-painting first s page marks s page marks
-painting-start first s page marks = record { size = refl; page = refl; marks = refl; row = row-same marks }
+pub painting-start : (site : ℕ → Option ℕ) (s : List Step) (page marks : List ℕ) → Same-painting site s page marks s page marks
+painting-start site s page marks = record { size = refl; page = refl; marks = refl; row = row-same marks }
 
 -- what a line states is painted first, and then what is stated after it
-pub painting-step : (first : ℕ) (s₀ s : List Step) (ps : List Placement) (page₀ marks₀ page′ marks′ : List ℕ)
-    → stated s₀ ≡ ps ++ stated s → Painted first ps page₀ marks₀ page′ marks′ → Same-painting first s₀ page₀ marks₀ s page′ marks′
-painting-step first s₀ s ps page₀ marks₀ page′ marks′ all p =
-    let site = window first (length page₀) in
+pub painting-step : (site : ℕ → Option ℕ) (s₀ s : List Step) (ps : List Placement) (page₀ marks₀ page′ marks′ : List ℕ)
+    → stated s₀ ≡ ps ++ stated s → Painted site ps page₀ marks₀ page′ marks′ → Same-painting site s₀ page₀ marks₀ s page′ marks′
+painting-step site s₀ s ps page₀ marks₀ page′ marks′ all p =
     let qs = stated s in
     record {
       size = ap length (p .page) ∙ length-painted site ps 0 page₀;
@@ -258,29 +257,28 @@ painting-step first s₀ s ps page₀ marks₀ page′ marks′ all p =
     }
 
 -- one painting after another
-pub painting-on : (first : ℕ) (s₀ s s′ : List Step) (page₀ marks₀ page marks page′ marks′ : List ℕ)
-    → Same-painting first s₀ page₀ marks₀ s page marks → Same-painting first s page marks s′ page′ marks′ → Same-painting first s₀ page₀ marks₀ s′ page′ marks′
-painting-on first s₀ s s′ page₀ marks₀ page marks page′ marks′ p n =
-    let z = p .size in
-    record { size = n .size ∙ z; page = rw z at (n .page) ∙ p .page; marks = rw z at (n .marks) ∙ p .marks; row = row-both marks₀ marks marks′ (p .row) (n .row) }
+pub painting-on : (site : ℕ → Option ℕ) (s₀ s s′ : List Step) (page₀ marks₀ page marks page′ marks′ : List ℕ)
+    → Same-painting site s₀ page₀ marks₀ s page marks → Same-painting site s page marks s′ page′ marks′ → Same-painting site s₀ page₀ marks₀ s′ page′ marks′
+painting-on site s₀ s s′ page₀ marks₀ page marks page′ marks′ p n =
+    record { size = n .size ∙ p .size; page = n .page ∙ p .page; marks = n .marks ∙ p .marks; row = row-both marks₀ marks marks′ (p .row) (n .row) }
 
 -- where nothing more is stated all is painted
-pub painting-end : (first : ℕ) (s₀ s : List Step) (page₀ marks₀ page marks : List ℕ) → Same-painting first s₀ page₀ marks₀ s page marks → stated s ≡ []
-    → Painted first (stated s₀) page₀ marks₀ page marks
-painting-end first s₀ s page₀ marks₀ page marks p n =
+pub painting-end : (site : ℕ → Option ℕ) (s₀ s : List Step) (page₀ marks₀ page marks : List ℕ) → Same-painting site s₀ page₀ marks₀ s page marks → stated s ≡ []
+    → Painted site (stated s₀) page₀ marks₀ page marks
+painting-end site s₀ s page₀ marks₀ page marks p n =
     record {
-      page = sym (painted-none (window first (length page₀)) 0 page) ∙ rw n at (p .page);
-      marks = sym (painted-none (window first (length page₀)) 0 (bits marks)) ∙ rw n at (p .marks);
+      page = sym (painted-none site 0 page) ∙ rw n at (p .page);
+      marks = sym (painted-none site 0 (bits marks)) ∙ rw n at (p .marks);
       row = p .row;
     }
 
 -- ---- the load in code
 
-passed : (a : Loading) → is-accepted a ≡ true → (t : CodeTally) × (a ≡ Accepted t)
+pub passed : (a : Loading) → is-accepted a ≡ true → (t : CodeTally) × (a ≡ Accepted t)
 passed (Accepted t) e = (t, refl)
 passed (Refused r n) e = let z : _≡_ {A = ℕ} 0 1 = cc in absurd (omega arith)
 
-turned-away : (a : Loading) → is-accepted a ≡ false → (e : LoaderError) × (n : ℕ) × (a ≡ Refused e n)
+pub turned-away : (a : Loading) → is-accepted a ≡ false → (e : LoaderError) × (n : ℕ) × (a ≡ Refused e n)
 turned-away (Accepted t) e = (BadWindow, 0, cc)
 turned-away (Refused r n) e = (r, n, refl)
 
@@ -305,7 +303,7 @@ module _ {S : Type 0} (src : Source S) (text : List ℕ) (first : ℕ) (page mar
         as-loaded a page marks (rw q (refused-load src text first page marks (loader-refusal e) n (judged-so ∙ ap told-loading q)))
 
     pub load-accepted : is-accepted a ≡ true → (marks₀ page′ marks′ : List ℕ) → marks₀ ≡ replicate (length marks) 0
-        → Painted first (stated (steps-of src text)) page marks₀ page′ marks′ → LoadWindow src text first page marks a page′ marks′
+        → Painted (window first (length page)) (stated (steps-of src text)) page marks₀ page′ marks′ → LoadWindow src text first page marks a page′ marks′
     load-accepted t marks₀ page′ marks′ c p =
         let (k, q) = passed a t in
         let m : marks′ ≡ packed (marked (window first (length page)) 0 (stated (steps-of src text)) (flags (length page) marks))

@@ -1,14 +1,18 @@
--- A run upon a window, place by place.
+-- A run upon a site, place by place.
 -- Assumes nothing.
-use mathlib.Core.Path.{_≡_, sym, ap, _∙_}
+use mathlib.Core.Path.{_≡_, refl, sym, ap, _∙_}
 use mathlib.Core.Logic.{_⊎_, inl, inr}
-use Prim.Native.Nat.{ℕ, _+_, _-_, _≤_, _<_}
+use Prim.Native.Nat.{ℕ, _+_, _-_, _≤_, _<_, min}
 use native.Mathlib.Omega.{arith}
+use mathlib.Core.Bool.{Bool, true, false, _&&_}
 use mathlib.Core.Option.{Option, none, some, Option·getD}
 use mathlib.Core.List.{List, _++_, append-nil}
 use lib.ListN.{length, getD, take, drop, replicate, length-replicate, getD-replicate, List·getD-eq-default, List·getD-append, length-append, length-drop, drop-of-length-le}
 use lib.Seq.{ext-getD, drop-drop, take-length, length-take-le, getD-append-add, getD-take, getD-drop}
-use borrow.Author.Tests.{lt-ltb, le-ltb}
+use lib.Dec.{ltb}
+use borrow.Author.Tests.{lt-ltb, le-ltb, ltb-true}
+use Rattle.digits.specs.Common.{if_then_else_}
+use Rattle.digits.proofs.Tests.{both}
 use Rattle.marks.proofs.Below.{split}
 use Rattle.marks.specs.Marks.{mark-at, bits, marked-run}
 use Rattle.marks.specs.Claims.{Run-marked}
@@ -18,9 +22,11 @@ use Rattle.steps.specs.Runs.{run}
 use Rattle.steps.proofs.Places.{length-painted, painted-at}
 use Rattle.steps.proofs.Runs.{last-before, last-within, last-beyond, marks-of-run}
 use Rattle.window.specs.declared.Part.{Part}
-use Rattle.window.specs.Window.{window}
-use Rattle.window.specs.Contracts.{Parted, Copied, PutRun}
-use Rattle.window.specs.Claims.{Stored-run, Run-is-stored}
+use Rattle.window.specs.declared.Row.{Row}
+use Rattle.window.specs.Window.{within, window}
+use Rattle.window.specs.Contracts.{Parted, Copied, Painted, stretch, PutIn}
+use Rattle.window.specs.Claims.{Beside, Stored-run, Run-is-stored}
+use Rattle.window.proofs.Tests.{within-true, true-within}
 
 -- ---- what a window shows
 
@@ -34,101 +40,85 @@ shows-not first size i h = rw (le-ltb i size h)
 
 -- ---- a run upon a list of places
 
-module _ (first size address : ℕ) (bytes old : List ℕ) where
+module _ (site : ℕ → Option ℕ) (address : ℕ) (bytes old : List ℕ) where
   abbrev new : List ℕ
-  new = painted (window first size) 0 (run address bytes) old
+  new = painted site 0 (run address bytes) old
 
-  pub run-there : (i k : ℕ) → i < length old → i < size → k < length bytes → first + i ≡ address + k → getD new i 0 ≡ getD bytes k 0
+  pub run-there : (i k : ℕ) → i < length old → k < length bytes → site i ≡ some (address + k) → getD new i 0 ≡ getD bytes k 0
   unfolding byte-shown
-  run-there i k h s l e = rw (painted-at (window first size) (run address bytes) old i h, shows first size i s, e, last-within address k bytes l)
+  run-there i k h l e = rw (painted-at site (run address bytes) old i h, e, last-within address k bytes l)
 
-  -- a place that the run does not state, or that is not shown
-  abbrev Apart : ℕ → Type 0
-  Apart i = (first + i < address) ⊎ ((address + length bytes ≤ first + i) ⊎ (size ≤ i))
-
-  pub run-apart : (i : ℕ) → Apart i → getD new i 0 ≡ getD old i 0
+  -- a place that the run does not state, or that shows nothing
+  kept : (x : ℕ) (s : Option ℕ) → Beside address (length bytes) s → byte-shown s (run address bytes) x ≡ x
   unfolding byte-shown
-  run-apart i a = split (length old) i
-      (λ u. List·getD-eq-default new 0 {n = i} (omega (arith, length-painted (window first size) (run address bytes) 0 old)) ∙ sym (List·getD-eq-default old 0 {n = i} u))
-      (λ h. painted-at (window first size) (run address bytes) old i h ∙ split size i (λ s. not-shown s) (λ s. ap (λ (x : Option ℕ). byte-shown x (run address bytes) (getD old i 0)) (shows first size i s) ∙ not-stated a s))
-    where
-      not-shown : size ≤ i → byte-shown (window first size i) (run address bytes) (getD old i 0) ≡ getD old i 0
-      not-shown s = rw (shows-not first size i s)
+  kept x none b = refl
+  kept x (some a) (inl l) = ap (λ (o : Option ℕ). Option·getD o x) (last-before a address bytes l)
+  kept x (some a) (inr u) = ap (λ (o : Option ℕ). Option·getD o x) (last-beyond a address bytes u)
 
-      not-stated : Apart i → i < size → byte-shown (some (first + i)) (run address bytes) (getD old i 0) ≡ getD old i 0
-      not-stated (inl l) s = ap (λ (o : Option ℕ). Option·getD o (getD old i 0)) (last-before (first + i) address bytes l)
-      not-stated (inr (inl u)) s = ap (λ (o : Option ℕ). Option·getD o (getD old i 0)) (last-beyond (first + i) address bytes u)
-      not-stated (inr (inr u)) s = absurd (omega arith)
+  pub run-apart : (i : ℕ) → Beside address (length bytes) (site i) → getD new i 0 ≡ getD old i 0
+  run-apart i b = split (length old) i
+      (λ u. List·getD-eq-default new 0 {n = i} (omega (arith, length-painted site (run address bytes) 0 old)) ∙ sym (List·getD-eq-default old 0 {n = i} u))
+      (λ h. painted-at site (run address bytes) old i h ∙ kept (getD old i 0) (site i) b)
 
   -- nothing else has these bytes at these places
   pub run-only : (new′ : List ℕ) → length new′ ≡ length old
-      → ((i k : ℕ) → i < length old → i < size → k < length bytes → first + i ≡ address + k → getD new′ i 0 ≡ getD bytes k 0)
-      → ((i : ℕ) → i < length old → Apart i → getD new′ i 0 ≡ getD old i 0) → new′ ≡ new
+      → ((i k : ℕ) → i < length old → k < length bytes → site i ≡ some (address + k) → getD new′ i 0 ≡ getD bytes k 0)
+      → ((i : ℕ) → i < length old → Beside address (length bytes) (site i) → getD new′ i 0 ≡ getD old i 0) → new′ ≡ new
   run-only new′ l there apart =
-      ext-getD 0 new′ new (l ∙ sym (length-painted (window first size) (run address bytes) 0 old)) (λ i h. at i (omega arith))
+      ext-getD 0 new′ new (l ∙ sym (length-painted site (run address bytes) 0 old)) (λ i h. at i (omega arith) (site i) refl)
     where
-      aside : (i : ℕ) → i < length old → Apart i → getD new′ i 0 ≡ getD new i 0
-      aside i h a = apart i h a ∙ sym (run-apart i a)
+      aside : (i : ℕ) → i < length old → Beside address (length bytes) (site i) → getD new′ i 0 ≡ getD new i 0
+      aside i h b = apart i h b ∙ sym (run-apart i b)
 
-      at : (i : ℕ) → i < length old → getD new′ i 0 ≡ getD new i 0
-      at i h =
-          split size i (λ s. aside i h (inr (inr s)))
-          (λ s. split address (first + i)
-          (λ l. split (address + length bytes) (first + i) (λ u. aside i h (inr (inl u)))
-          (λ u. let k = first + i - address in
-          let e : first + i ≡ address + k = omega arith in
-          there i k h s (omega arith) e ∙ sym (run-there i k h s (omega arith) e)))
-          (λ l. aside i h (inl l)))
+      at : (i : ℕ) → i < length old → (s : Option ℕ) → site i ≡ s → getD new′ i 0 ≡ getD new i 0
+      at i h none e = aside i h (rw e tt)
+      at i h (some a) e =
+          split address a
+          (λ l. split (address + length bytes) a (λ u. aside i h (rw e (inr u)))
+          (λ u. let k = a - address in
+          let q : a ≡ address + k = omega arith in
+          let shown : site i ≡ some (address + k) = e ∙ ap some q in
+          there i k h (omega arith) shown ∙ sym (run-there i k h (omega arith) shown)))
+          (λ l. aside i h (rw e (inl l)))
 
 -- ---- page and marks
 
-module _ (first address : ℕ) (bytes page marks : List ℕ) where
+module _ (site : ℕ → Option ℕ) (address : ℕ) (bytes page marks : List ℕ) where
   abbrev ones : List ℕ
   ones = replicate (length bytes) 1
 
   ones-length : length ones ≡ length bytes
   ones-length = length-replicate {A = ℕ} (length bytes) 1
 
-  pub put-is : (page′ marks′ : List ℕ) → Stored-run first address bytes page marks page′ marks′ → PutRun first address bytes page marks page′ marks′
+  pub put-is : (page′ marks′ : List ℕ) → Stored-run site address bytes page marks page′ marks′ → Painted site (run address bytes) page marks page′ marks′
   put-is page′ marks′ s =
       record {
-        page = run-only first (length page) address bytes page page′ (s .page-length)
-            (λ i k h z l e. s .byte i k h l e)
-            (λ i h a. s .byte-kept i (in-page i h a));
-        marks = rw (marks-of-run address bytes) (run-only first (length page) address ones (bits marks) (bits marks′) (omega (arith, bits-length marks, bits-length marks′, s .marks-length))
-            (λ i k h z l e. bits-say marks′ i ∙ s .marked i k z (omega (arith, ones-length)) e (omega (arith, bits-length marks)) ∙ sym (getD-replicate (length bytes) k 1 0 (omega (arith, ones-length))))
-            (λ i h a. bits-say marks′ i ∙ s .mark-kept i (rw ones-length at a) ∙ sym (bits-say marks i)));
+        page = run-only site address bytes page page′ (s .page-length) (s .byte) (λ i h b. s .byte-kept i b);
+        marks = rw (marks-of-run address bytes) (run-only site address ones (bits marks) (bits marks′) (omega (arith, bits-length marks, bits-length marks′, s .marks-length))
+            (λ i k h l e. bits-say marks′ i ∙ s .marked i k (omega (arith, ones-length)) e (omega (arith, bits-length marks)) ∙ sym (getD-replicate (length bytes) k 1 0 (omega (arith, ones-length))))
+            (λ i h b. bits-say marks′ i ∙ s .mark-kept i (rw ones-length at b) ∙ sym (bits-say marks i)));
         row = record { same-length = s .marks-length; bytes = s .marks-bytes };
       }
-    where
-      in-page : (i : ℕ) → i < length page → (first + i < address) ⊎ ((address + length bytes ≤ first + i) ⊎ (length page ≤ i)) → (first + i < address) ⊎ (address + length bytes ≤ first + i)
-      in-page i h (inl l) = inl l
-      in-page i h (inr (inl u)) = inr u
-      in-page i h (inr (inr s)) = absurd (omega arith)
 
-  is-put : (page′ marks′ : List ℕ) → PutRun first address bytes page marks page′ marks′ → Stored-run first address bytes page marks page′ marks′
+  is-put : (page′ marks′ : List ℕ) → Painted site (run address bytes) page marks page′ marks′ → Stored-run site address bytes page marks page′ marks′
   is-put page′ marks′ p =
       rw (p .page) (record {
-        page-length = length-painted (window first (length page)) (run address bytes) 0 page;
+        page-length = length-painted site (run address bytes) 0 page;
         marks-length = p .row .same-length;
         marks-bytes = p .row .bytes;
-        byte = λ i k h l e. run-there first (length page) address bytes page i k h h l e;
-        marked = λ i k h l e g. says i ∙ run-there first (length page) address ones (bits marks) i k (omega (arith, bits-length marks)) h (omega (arith, ones-length)) e ∙ getD-replicate (length bytes) k 1 0 l;
-        byte-kept = λ i a. run-apart first (length page) address bytes page i (to-apart i a);
-        mark-kept = λ i a. says i ∙ run-apart first (length page) address ones (bits marks) i (rw ones-length a) ∙ bits-say marks i;
+        byte = run-there site address bytes page;
+        marked = λ i k l e g. says i ∙ run-there site address ones (bits marks) i k (omega (arith, bits-length marks)) (omega (arith, ones-length)) e ∙ getD-replicate (length bytes) k 1 0 l;
+        byte-kept = run-apart site address bytes page;
+        mark-kept = λ i b. says i ∙ run-apart site address ones (bits marks) i (rw ones-length b) ∙ bits-say marks i;
       })
     where
-      says : (i : ℕ) → mark-at marks′ i ≡ getD (painted (window first (length page)) 0 (run address ones) (bits marks)) i 0
+      says : (i : ℕ) → mark-at marks′ i ≡ getD (painted site 0 (run address ones) (bits marks)) i 0
       says i =
-          let m : bits marks′ ≡ painted (window first (length page)) 0 (run address ones) (bits marks) = rw (marks-of-run address bytes) at (p .marks) in
+          let m : bits marks′ ≡ painted site 0 (run address ones) (bits marks) = rw (marks-of-run address bytes) at (p .marks) in
           sym (bits-say marks′ i) ∙ ap (λ (l : List ℕ). getD l i 0) m
 
-      to-apart : (i : ℕ) → (first + i < address) ⊎ (address + length bytes ≤ first + i) → (first + i < address) ⊎ ((address + length bytes ≤ first + i) ⊎ (length page ≤ i))
-      to-apart i (inl l) = inl l
-      to-apart i (inr u) = inr (inl u)
-
 pub run-is-stored : Run-is-stored
-run-is-stored first address bytes page marks page′ marks′ = (is-put first address bytes page marks page′ marks′, put-is first address bytes page marks page′ marks′)
+run-is-stored site address bytes page marks page′ marks′ = (is-put site address bytes page marks page′ marks′, put-is site address bytes page marks page′ marks′)
 
 -- ---- what the code makes of it
 
@@ -169,43 +159,74 @@ copied bytes place page h part old l e = rw (is, drop-drop (place + length bytes
     is : part ≡ bytes
     is = e ∙ rw (take-length bytes, drop-of-length-le old l) (append-nil bytes)
 
--- the part of a run that lies in the window, copied and marked
-pub put-part : (first address : ℕ) (bytes page marks : List ℕ) (part : Part) (page′ marks′ : List ℕ)
-    → Parted first (length page) address (length bytes) part
-    → Copied (take (part .len) (drop (part .skip) bytes)) (part .place) page page′
-    → marks′ ≡ marked-run marks (part .place) (part .len)
-    → PutRun first address bytes page marks page′ marks′
-put-part first address bytes page marks part page′ marks′ q c m =
-    put-is first address bytes page marks page′ marks′ (record {
+-- ---- one window of a table
+
+module _ (size : ℕ) (r : Row) (i : ℕ) where
+  pub stretch-shows : i < size → r .place ≤ i → i < r .place + r .size → stretch size r i ≡ some (r .first + (i - r .place))
+  unfolding stretch
+  stretch-shows h l u = rw (lt-ltb i size h, true-within (r .place) (r .size) i l u)
+
+  pub stretch-shown : (a : ℕ) → stretch size r i ≡ some a → (i < size) × (r .place ≤ i) × (i < r .place + r .size) × (a ≡ r .first + (i - r .place))
+  unfolding stretch
+  stretch-shown a = go (ltb i size && within (r .place) (r .size) i) refl
+    where
+      go : (b : Bool) → ltb i size && within (r .place) (r .size) i ≡ b → (if b then some (r .first + (i - r .place)) else none) ≡ some a
+          → (i < size) × (r .place ≤ i) × (i < r .place + r .size) × (a ≡ r .first + (i - r .place))
+      go true e q =
+          let (x, y) = both (ltb i size) (within (r .place) (r .size) i) e in
+          let (l, u) = within-true (r .place) (r .size) i y in
+          let z : r .first + (i - r .place) ≡ a = cc in
+          (ltb-true i size x, l, u, sym z)
+      go false e q = let z : _≡_ {A = ℕ} 0 1 = cc in absurd (omega arith)
+
+-- the part of a run that lies in a window, copied and marked
+pub put-part : (r : Row) (address : ℕ) (bytes page marks : List ℕ) (start size : ℕ) → start ≡ min (r .place) (length page) → size ≡ min (r .size) (length page - start)
+    → (part : Part) (place : ℕ) → place ≡ start + part .place → (page′ marks′ : List ℕ)
+    → Parted (r .first) size address (length bytes) part
+    → Copied (take (part .len) (drop (part .skip) bytes)) place page page′
+    → marks′ ≡ marked-run marks place (part .len)
+    → PutIn r address bytes page marks page′ marks′
+put-part r address bytes page marks start size is-start is-size part place is-place page′ marks′ q c m =
+    put-is (stretch (length page) r) address bytes page marks page′ marks′ (record {
       page-length = c .same-length;
-      marks-length = rw m (r .same-length);
-      marks-bytes = λ b. rw m (r .bytes b);
+      marks-length = rw m (rm .same-length);
+      marks-bytes = λ b. rw m (rm .bytes b);
       byte = byte;
-      marked = λ i k h l e g. let (x, y) = q .all i k h l e in rw m (r .inside i (omega (arith, q .same-address (omega arith))) (omega (arith, q .same-address (omega arith))) g);
-      byte-kept = λ i a. c .elsewhere i (beside i a);
-      mark-kept = λ i a. rw m (r .elsewhere i (beyond i a));
+      marked = λ i k l e g. let (x, y) = among i k l e in rw m (rm .inside i x y g);
+      byte-kept = λ i b. c .elsewhere i (rw filled (away i b));
+      mark-kept = λ i b. rw m (rm .elsewhere i (away i b));
     })
   where
-    r : Run-marked marks (part .place) (part .len) (marked-run marks (part .place) (part .len))
-    r = run-made-so marks (part .place) (part .len)
+    rm : Run-marked marks place (part .len) (marked-run marks place (part .len))
+    rm = run-made-so marks place (part .len)
 
     filled : length (take (part .len) (drop (part .skip) bytes)) ≡ part .len
     filled = length-take-le (part .len) (drop (part .skip) bytes) (omega (arith, q .in-run, length-drop (part .skip) bytes))
 
-    byte : (i k : ℕ) → i < length page → k < length bytes → first + i ≡ address + k → getD page′ i 0 ≡ getD bytes k 0
+    -- the number of the byte that a place has, in the run and in the part
+    found : (i k : ℕ) → k < length bytes → stretch (length page) r i ≡ some (address + k) → (part .skip ≤ k) × (k < part .skip + part .len) × (i ≡ place + (k - part .skip))
+    found i k l e =
+        let (h, x, y, z) = stretch-shown (length page) r i (address + k) e in
+        let (s, t) = q .all (i - r .place) k (omega arith) l (omega arith) in
+        (s, t, omega (arith, q .same-address (omega arith)))
+
+    among : (i k : ℕ) → k < length bytes → stretch (length page) r i ≡ some (address + k) → (place ≤ i) × (i < place + part .len)
+    among i k l e = let (s, t, z) = found i k l e in (omega arith, omega arith)
+
+    byte : (i k : ℕ) → i < length page → k < length bytes → stretch (length page) r i ≡ some (address + k) → getD page′ i 0 ≡ getD bytes k 0
     byte i k h l e =
-        let (x, y) = q .all i k h l e in
-        let a = q .same-address (omega arith) in
+        let (s, t, z) = found i k l e in
         let j = k - part .skip in
-        let i-is : i ≡ part .place + j = omega arith in
         let k-is : part .skip + j ≡ k = omega arith in
-        rw i-is (c .there j (omega (arith, filled)) ∙ getD-take (part .len) (drop (part .skip) bytes) j 0 (omega arith) ∙ getD-drop (part .skip) bytes j 0 ∙ ap (λ (n : ℕ). getD bytes n 0) k-is)
+        rw z (c .there j (omega (arith, filled)) ∙ getD-take (part .len) (drop (part .skip) bytes) j 0 (omega arith) ∙ getD-drop (part .skip) bytes j 0 ∙ ap (λ (n : ℕ). getD bytes n 0) k-is)
 
-    beyond : (i : ℕ) → (first + i < address) ⊎ ((address + length bytes ≤ first + i) ⊎ (length page ≤ i)) → (i < part .place) ⊎ (part .place + part .len ≤ i)
-    beyond i (inl l) = split (part .place + part .len) i (λ u. inr u) (λ u. split (part .place) i (λ v. absurd (omega (arith, q .same-address (omega arith)))) (λ v. inl v))
-    beyond i (inr (inl l)) = split (part .place + part .len) i (λ u. inr u) (λ u. split (part .place) i (λ v. absurd (omega (arith, q .same-address (omega arith), q .in-run))) (λ v. inl v))
-    beyond i (inr (inr l)) = inr (omega (arith, q .in-page))
+    -- a place of the part shows an address of the run
+    not-beside : (i : ℕ) → place ≤ i → i < place + part .len → Beside address (length bytes) (stretch (length page) r i) → ⊥
+    not-beside i l u b = go (rw (stretch-shows (length page) r i (omega (arith, q .in-page)) (omega (arith, q .in-page)) (omega (arith, q .in-page))) at b)
+      where
+        go : (r .first + (i - r .place) < address) ⊎ (address + length bytes ≤ r .first + (i - r .place)) → ⊥
+        go (inl x) = omega (arith, q .same-address (omega arith), q .in-page)
+        go (inr x) = omega (arith, q .same-address (omega arith), q .in-run, q .in-page)
 
-    beside : (i : ℕ) → (first + i < address) ⊎ (address + length bytes ≤ first + i) → (i < part .place) ⊎ (part .place + length (take (part .len) (drop (part .skip) bytes)) ≤ i)
-    beside i (inl l) = rw filled (beyond i (inl l))
-    beside i (inr l) = rw filled (beyond i (inr (inl l)))
+    away : (i : ℕ) → Beside address (length bytes) (stretch (length page) r i) → (i < place) ⊎ (place + part .len ≤ i)
+    away i b = split (place + part .len) i (λ u. inr u) (λ u. split place i (λ v. absurd (not-beside i v u b)) (λ v. inl v))

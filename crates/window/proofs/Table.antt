@@ -14,7 +14,8 @@ use Rattle.digits.specs.Common.{if_then_else_}
 use Rattle.digits.proofs.Tests.{both, or-false, or-true, split}
 use Rattle.marks.specs.Marks.{row-length}
 use Rattle.window.specs.Window.{within, window, unfit, one-window}
-use Rattle.window.specs.Table.{Row, has, takes, site-of, inside-of, overlap, clash, clashes, any-clash, is-owner, good-row, good-rows, fits, owned, Is-owner, Two-of, Bad-table, too-many, call-of-nobody, window-of-nobody, pool-too-long, marks-differ, beyond-addresses, beyond-pool, address-shared, place-shared, Refused-exactly, Overlap-is-shared, Owners-apart, Shown-is-inside, Inside-is-shown, Shown-once, One-window-table, Examples}
+use Rattle.window.specs.declared.Row.{Row}
+use Rattle.window.specs.Table.{has, takes, site-of, inside-of, overlap, clash, clashes, any-clash, is-owner, good-row, good-rows, fits, owned, Is-owner, Two-of, Bad-table, too-many, call-of-nobody, window-of-nobody, pool-too-long, marks-differ, beyond-addresses, beyond-pool, address-shared, place-shared, Refused-exactly, Overlap-is-shared, Owners-apart, Shown-is-inside, Inside-is-shown, Shown-once, One-window-table, Examples}
 use Rattle.window.proofs.Tests.{within-true, true-within}
 
 -- ---- stretches
@@ -69,7 +70,7 @@ shown-address owner i r e =
     (o, true-within (r .first) (r .size) (r .first + (i - r .place)) (omega arith) (omega arith))
 
 -- no later window has a place of this one
-not-later : (owner i : ℕ) (r : Row) (rows : List Row) → clashes r rows ≡ false → within (r .place) (r .size) i ≡ true → site-of owner rows i ≡ none
+pub not-later : (owner i : ℕ) (r : Row) (rows : List Row) → clashes r rows ≡ false → within (r .place) (r .size) i ≡ true → site-of owner rows i ≡ none
 unfolding site-of
 not-later owner i r [] e h = refl
 not-later owner i r (r′ ∷ rows) e h =
@@ -215,7 +216,7 @@ either false y e f g = g e
 owner-is : (owner : ℕ) → is-owner owner ≡ true → Is-owner owner
 owner-is owner e = either (eqb owner 1) (eqb owner 2) e (λ h. inl (eqb-true owner 1 h)) (λ h. inr (eqb-true owner 2 h))
 
-is-owner-so : (owner : ℕ) → Is-owner owner → is-owner owner ≡ true
+pub is-owner-so : (owner : ℕ) → Is-owner owner → is-owner owner ≡ true
 is-owner-so owner (inl e) = rw e
 is-owner-so owner (inr e) = rw e
 
@@ -343,7 +344,7 @@ module _ (owner first pool marks : ℕ) where
   itself : eqb owner owner ≡ true
   itself = eq-eqb owner owner refl
 
-  inside-same : (a : ℕ) → inside-of owner (whole-pool ∷ []) a ≡ within first pool a
+  pub inside-same : (a : ℕ) → inside-of owner (whole-pool ∷ []) a ≡ within first pool a
   unfolding inside-of
   inside-same a = rw itself (go (within first pool a))
     where
@@ -351,7 +352,7 @@ module _ (owner first pool marks : ℕ) where
       go true = refl
       go false = refl
 
-  site-same : (i : ℕ) → site-of owner (whole-pool ∷ []) i ≡ window first pool i
+  pub site-same : (i : ℕ) → site-of owner (whole-pool ∷ []) i ≡ window first pool i
   unfolding site-of window within
   site-same i =
       let a : first + (i - 0) ≡ first + i = omega arith in

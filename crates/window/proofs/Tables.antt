@@ -5,21 +5,27 @@ use Prim.Native.Nat.{ℕ, _+_, _-_, _*_, _^_, _≤_, _<_}
 use native.Mathlib.Omega.{arith}
 use mathlib.Core.Bool.{Bool, true, false, not, _&&_}
 use mathlib.Core.Option.{Option, none, some}
-use mathlib.Core.List.{List, [], _∷_}
+use mathlib.Core.List.{List, [], _∷_, map}
 use lib.Dec.{eqb, leb}
 use lib.ListN.{length, getD}
-use borrow.Author.Tests.{eqb-true, leb-true}
+use borrow.Author.Tests.{eqb-true, leb-true, not-true}
 use Rattle.digits.specs.Common.{if_then_else_}
 use Rattle.digits.proofs.Tests.{both, and-false}
-use Rattle.record.specs.Refusals.{bad-table}
+use Rattle.record.specs.Refusals.{Refusal, bad-table}
 use Rattle.marks.specs.Marks.{row-length, mark-at, flags, bits, packed}
-use Rattle.marks.specs.Claims.{All-flags}
+use Rattle.marks.specs.Claims.{Bytes, All-flags, Row-of}
 use Rattle.marks.proofs.Below.{split}
 use Rattle.marks.proofs.Rows.{flags-length}
-use Rattle.marks.proofs.Claims.{bits-length, bits-say, flags-made-so, flags-are-flags, row-made-so, row-unpacks, row-holds-places}
-use Rattle.steps.specs.Steps.{Step, Tally, Verdict, accepted, refused, verdict, stated}
+use Rattle.marks.proofs.Claims.{bits-length, bits-say, flags-made-so, flags-are-flags, row-made-so, row-unpacks, row-holds-places, same-bits}
+use Rattle.steps.specs.declared.Loading.{Loading}
+use Rattle.steps.specs.declared.Loading.the-variants.{Refused}
+use Rattle.steps.specs.declared.LoaderError.the-variants.{BadTable}
+use Rattle.steps.specs.Told.{loader-refusal, tallied, told-loading, is-accepted}
+use Rattle.steps.specs.Steps.{Step, Tally, nothing-yet, Verdict, accepted, refused, decision, verdict, stated}
 use Rattle.steps.specs.Source.{Source, steps-of}
-use Rattle.steps.specs.Sites.{Loaded, Room, mark-shown, marked, store, stopping-by, load-steps}
+use Rattle.steps.specs.Sites.{Loaded, Room, mark-shown, painted, marked, store, stopping-by, load-steps}
+use Rattle.steps.specs.Runs.{as-mark}
+use Rattle.steps.proofs.Runs.{marks-by-ones}
 use Rattle.steps.specs.Sites as sites
 use Rattle.steps.specs.Packed.{row-after}
 use Rattle.steps.specs.Owners.{Buffers, Event, load-by, loads-of, after, answer-of, answers-to}
@@ -29,10 +35,12 @@ use Rattle.steps.proofs.Sites as general
 use Rattle.steps.proofs.Packed.{stored-flags}
 use Rattle.steps.proofs.Places.{marked-at, length-marked}
 use Rattle.steps.proofs.Owners.{after-lengths, kept-mark, beyond, isolation}
-use Rattle.window.specs.Table.{Row, has, site-of, good-row, good-rows, is-owner, any-clash, fits, owned}
+use Rattle.window.specs.declared.Row.{Row}
+use Rattle.window.specs.Table.{has, site-of, inside-of, good-row, good-rows, is-owner, any-clash, Sound, fits, owned}
+use Rattle.window.specs.Contracts.{Painted, ClearMarks}
 use Rattle.window.specs.Window.{within, unfit, one-window}
 use Rattle.window.specs.Load.{load-window}
-use Rattle.window.specs.Tables.{stopping-by-table, load-rows, load-table, Alike-for, Table-non-interference, Table-what-is-stored, Table-unused-stay, Table-refusal-changes-nothing, Table-sizes-kept, Load-table-unique, Table-as-window, Cabinet, cabinet-after, answers-for, Same-for, Table-isolation}
+use Rattle.window.specs.Tables.{stopping-by-table, load-rows, load-table, LoadTable, Alike-for, Table-non-interference, Table-what-is-stored, Table-unused-stay, Table-refusal-changes-nothing, Table-sizes-kept, Load-table-unique, Table-as-window, Cabinet, cabinet-after, answers-for, Same-for, Table-isolation}
 use Rattle.window.proofs.Tests.{within-true}
 use Rattle.window.proofs.Loads as loads
 use Rattle.window.proofs.Table.{owners-apart, one-window-table}
@@ -125,17 +133,18 @@ accepted-fits owner pool marks rows s k = go (fits owner pool marks rows) refl
     go true e v = e
     go false e v = let z : _≡_ {A = ℕ} 0 1 = cc in absurd (omega arith)
 
-fits-marks : (owner pool marks : ℕ) (rows : List Row) → fits owner pool marks rows ≡ true → (marks ≡ row-length pool) × (good-rows pool rows ≡ true)
+fits-marks : (owner pool marks : ℕ) (rows : List Row) → fits owner pool marks rows ≡ true → (marks ≡ row-length pool) × (good-rows pool rows ≡ true) × (any-clash rows ≡ false)
 unfolding fits
 fits-marks owner pool marks rows e =
     let e₁ = both (is-owner owner) (leb (length rows) 16 && (leb pool 65536 && (eqb marks (row-length pool) && (good-rows pool rows && not (any-clash rows))))) e .1 in
     let e₂ = both (leb (length rows) 16) (leb pool 65536 && (eqb marks (row-length pool) && (good-rows pool rows && not (any-clash rows)))) e₁ .1 in
     let e₃ = both (leb pool 65536) (eqb marks (row-length pool) && (good-rows pool rows && not (any-clash rows))) e₂ .1 in
     let (m, e₄) = both (eqb marks (row-length pool)) (good-rows pool rows && not (any-clash rows)) e₃ in
-    (eqb-true marks (row-length pool) m, both (good-rows pool rows) (not (any-clash rows)) e₄ .0)
+    let (g, n) = both (good-rows pool rows) (not (any-clash rows)) e₄ in
+    (eqb-true marks (row-length pool) m, g, not-true (any-clash rows) n)
 
 -- a place after the pool shows nothing
-after-pool : (owner pool : ℕ) (rows : List Row) → good-rows pool rows ≡ true → (i : ℕ) → pool ≤ i → site-of owner rows i ≡ none
+pub after-pool : (owner pool : ℕ) (rows : List Row) → good-rows pool rows ≡ true → (i : ℕ) → pool ≤ i → site-of owner rows i ≡ none
 unfolding site-of
 after-pool owner pool [] g i h = refl
 after-pool owner pool (r ∷ rows) g i h =
@@ -304,6 +313,59 @@ table-as-window S src owner first text pool marks o u = (
   page-same src owner first text pool marks o u,
   λ i h. mark-same src owner first text pool marks o u i h ((load-window src text first pool marks) .answer) refl,
 )
+
+-- ---- the load in code
+
+module _ {S : Type 0} (src : Source S) (owner : ℕ) (rows : List Row) (text pool marks : List ℕ) where
+  -- what a load returns and leaves is its contract
+  as-loaded : (a : Loading) (p m : List ℕ) → load-table src owner rows text pool marks ≡ record { answer = told-loading a; page = p; marks = m } → LoadTable src owner rows text pool marks a p m
+  as-loaded a p m l = record { answer = ap (λ (x : Loaded). x .answer) (sym l); pool = ap (λ (x : Loaded). x .page) (sym l); marks = ap (λ (x : Loaded). x .marks) (sym l) }
+
+  abbrev judged : Verdict
+  judged = general.judged (owned owner (length pool) (length marks) rows) (steps-of src text)
+
+  refused-load : (r : Refusal) (n : ℕ) → judged ≡ refused r n → load-table src owner rows text pool marks ≡ record { answer = refused r n; page = pool; marks = marks }
+  unfolding load-table load-rows row-after load-steps store
+  refused-load r n e = rw e
+
+  accepted-load : (t : Tally) → judged ≡ accepted t
+      → load-table src owner rows text pool marks
+      ≡ record { answer = accepted t; page = painted (site-of owner rows) 0 (stated (steps-of src text)) pool; marks = packed (marked (site-of owner rows) 0 (stated (steps-of src text)) (bits marks)) }
+  unfolding load-table load-rows row-after load-steps store owned
+  accepted-load t e = rw e
+
+  pub load-bad-table : fits owner (length pool) (length marks) rows ≡ false → LoadTable src owner rows text pool marks (Refused BadTable 0) pool marks
+  unfolding owned stopping-by verdict
+  load-bad-table e = as-loaded (Refused BadTable 0) pool marks (refused-load bad-table 0 (rw e))
+
+  module _ (fit : fits owner (length pool) (length marks) rows ≡ true) (a : Loading) (h : told-loading a ≡ verdict (decision (inside-of owner rows) nothing-yet (steps-of src text))) where
+    judged-so : judged ≡ told-loading a
+    unfolding owned stopping-by
+    judged-so = rw fit (sym h)
+
+    pub load-table-refused : is-accepted a ≡ false → LoadTable src owner rows text pool marks a pool marks
+    load-table-refused f =
+        let (e, n, q) = loads.turned-away a f in
+        as-loaded a pool marks (rw q (refused-load (loader-refusal e) n (judged-so ∙ ap told-loading q)))
+
+    pub load-table-accepted : is-accepted a ≡ true → Bytes marks → (marks₀ pool′ marks′ : List ℕ) → ClearMarks owner rows marks marks₀
+        → Painted (site-of owner rows) (stated (steps-of src text)) pool marks₀ pool′ marks′ → LoadTable src owner rows text pool marks a pool′ marks′
+    load-table-accepted t b marks₀ pool′ marks′ c p =
+        let (k, q) = loads.passed a t in
+        let ps = stated (steps-of src text) in
+        let list = marked (site-of owner rows) 0 ps (bits marks) in
+        let says : bits marks′ ≡ list = p .marks ∙ ap (painted (site-of owner rows) 0 (map as-mark ps)) (c .marks) ∙ sym (marks-by-ones (site-of owner rows) ps (bits marks)) in
+        let n : length marks′ ≡ length marks = p .row .same-length ∙ c .row .same-length in
+        let flagged : All-flags list = rw says at (bits-flags marks′) in
+        let size : length list ≡ 8 * length marks′ = sym (ap length says) ∙ bits-length marks′ in
+        let row : Row-of list (packed list) = row-made-so list flagged in
+        let again = bits-packed list (length marks′) size flagged in
+        let m : marks′ ≡ packed list = same-bits marks′ (packed list) (p .row .bytes (c .row .bytes b)) (row .bytes) (sym (again .1)) (says ∙ sym (again .0)) in
+        as-loaded a pool′ marks′ (rw (p .page, m, q) (accepted-load (tallied k) (judged-so ∙ ap told-loading q)))
+
+-- a table that is not refused is sound
+pub fits-sound : (owner pool marks : ℕ) (rows : List Row) → fits owner pool marks rows ≡ true → Sound pool rows
+fits-sound owner pool marks rows e = let (m, g, n) = fits-marks owner pool marks rows e in (g, n)
 
 -- ---- isolation
 

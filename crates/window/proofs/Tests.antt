@@ -1,8 +1,8 @@
 -- The tests of a window: the addresses that it holds, and which byte of a run is the first outside.
 -- Assumes nothing.
 use mathlib.Core.Path.{_≡_, refl, sym, _∙_}
+use mathlib.Core.Logic.{_⊎_, inl, inr}
 use Prim.Native.Nat.{ℕ, _+_, _^_, _≤_, _<_}
-use native.Mathlib.Nat.{add-zero}
 use native.Mathlib.Omega.{arith}
 use mathlib.Core.Bool.{Bool, true, false, not, _&&_, _||_, true≢false}
 use mathlib.Core.Option.{none}
@@ -12,6 +12,7 @@ use lib.ListN.{length}
 use borrow.Author.Tests.{eq-eqb, eqb-true, le-leb, lt-leb, lt-ltb, le-ltb, leb-true, ltb-true, ltb-false, not-false}
 use Rattle.digits.proofs.Tests.{both, or-false}
 use Rattle.marks.specs.Marks.{row-length}
+use Rattle.marks.proofs.Below.{split}
 use Rattle.steps.specs.Steps.{outside}
 use Rattle.steps.specs.Runs.{run}
 use Rattle.steps.proofs.Runs.{run-inside, run-outside}
@@ -43,6 +44,11 @@ module _ (first size address : ℕ) where
       go true = le-ltb address (first + size) u
       go false = refl
 
+-- what is not held lies before or after
+pub beside : (first size address : ℕ) → within first size address ≡ false → (address < first) ⊎ (first + size ≤ address)
+beside first size a e =
+    split first a (λ l. split (first + size) a (λ u. inr u) (λ u. absurd (true≢false (sym (true-within first size a l u) ∙ e)))) (λ l. inl l)
+
 -- ---- a window that is not refused
 
 pub good-window : (first : ℕ) (page marks : List ℕ) → unfit first (length page) (length marks) ≡ false → Window first page marks
@@ -63,30 +69,26 @@ no-window first page marks e w =
 
 -- ---- the first byte outside
 
-module _ (first size address : ℕ) where
-  pub outside-nothing : (len : ℕ) → len ≡ 0 → FirstOutside first size address len Inside
+module _ (inside : ℕ → Bool) (address : ℕ) where
+  pub outside-nothing : (len : ℕ) → len ≡ 0 → FirstOutside inside address len Inside
   unfolding outside run
   outside-nothing len z = record { answer = go; among = λ i e. let w : _≡_ {A = ℕ} 0 1 = cc in absurd (omega arith) }
     where
-      go : (bytes : List ℕ) → length bytes ≡ len → outside (within first size) (run address bytes) ≡ none
+      go : (bytes : List ℕ) → length bytes ≡ len → outside inside (run address bytes) ≡ none
       go [] e = refl
       go (b ∷ bytes) e = absurd (omega arith)
 
-  pub outside-none : (len : ℕ) → first ≤ address → address + len ≤ first + size → FirstOutside first size address len Inside
-  outside-none len l u =
+  pub outside-none : (len : ℕ) → ((i : ℕ) → i < len → inside (address + i) ≡ true) → FirstOutside inside address len Inside
+  outside-none len x =
       record {
-        answer = λ bytes e. run-inside (within first size) address bytes (λ i h. true-within first size (address + i) (omega arith) (omega arith));
+        answer = λ bytes e. run-inside inside address bytes (λ i h. x i (omega arith));
         among = λ i e. let w : _≡_ {A = ℕ} 0 1 = cc in absurd (omega arith);
       }
 
-  pub outside-at : (len k : ℕ) → k < len → ((i : ℕ) → i < k → within first size (address + i) ≡ true) → within first size (address + k) ≡ false
-      → FirstOutside first size address len (Outside k)
+  pub outside-at : (len k : ℕ) → k < len → ((i : ℕ) → i < k → inside (address + i) ≡ true) → inside (address + k) ≡ false
+      → FirstOutside inside address len (Outside k)
   outside-at len k h x o =
       record {
-        answer = λ bytes e. run-outside (within first size) address k bytes (omega arith) x o;
+        answer = λ bytes e. run-outside inside address k bytes (omega arith) x o;
         among = λ i e. let z : k ≡ i = cc in omega arith;
       }
-
-  -- the very first
-  pub outside-first : (len : ℕ) → 0 < len → within first size address ≡ false → FirstOutside first size address len (Outside 0)
-  outside-first len h o = outside-at len 0 h (λ i l. absurd (omega arith)) (rw (add-zero address) o)

@@ -14,7 +14,7 @@ use Rattle.steps.specs.Sites.{Room, Loaded, stopping-by, stopping-in, painted}
 use Rattle.steps.specs.Packed.{load-packed}
 use Rattle.steps.specs.Runs.{as-mark}
 use Rattle.steps.specs.Told.{told-loading}
-use Rattle.window.specs.Window.{window, one-window}
+use Rattle.window.specs.Window.{one-window}
 use Rattle.window.specs.Contracts.{Row-kept}
 
 -- the window of a page and marks, from the address `first` on
@@ -37,8 +37,8 @@ pub record LoadWindow {S : Type 0} (src : Source S) (text : List ℕ) (first : �
   pub marks : marks′ ≡ (load-window src text first page₀ marks₀) .marks
 
 -- what is stated from here on, painted on page and marks as they are, is what was stated from there on painted on them as they were
-pub record Same-painting (first : ℕ) (s₀ : List Step) (page₀ marks₀ : List ℕ) (s : List Step) (page′ marks′ : List ℕ) : Type 0 where
+pub record Same-painting (site : ℕ → Option ℕ) (s₀ : List Step) (page₀ marks₀ : List ℕ) (s : List Step) (page′ marks′ : List ℕ) : Type 0 where
   pub size : length page′ ≡ length page₀
-  pub page : painted (window first (length page₀)) 0 (stated s) page′ ≡ painted (window first (length page₀)) 0 (stated s₀) page₀
-  pub marks : painted (window first (length page₀)) 0 (map as-mark (stated s)) (bits marks′) ≡ painted (window first (length page₀)) 0 (map as-mark (stated s₀)) (bits marks₀)
+  pub page : painted site 0 (stated s) page′ ≡ painted site 0 (stated s₀) page₀
+  pub marks : painted site 0 (map as-mark (stated s)) (bits marks′) ≡ painted site 0 (map as-mark (stated s₀)) (bits marks₀)
   pub row : Row-kept marks₀ marks′

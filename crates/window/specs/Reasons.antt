@@ -15,7 +15,8 @@ use Rattle.steps.specs.Account.{Account, All-pass, Decided}
 use Rattle.window.specs.Window.{within}
 use Rattle.window.specs.Claims.{Window}
 use Rattle.window.specs.Load.{load-window}
-use Rattle.window.specs.Table.{Row, inside-of, Bad-table}
+use Rattle.window.specs.declared.Row.{Row}
+use Rattle.window.specs.Table.{inside-of, Bad-table}
 use Rattle.window.specs.Tables.{load-table}
 
 -- a reason for an answer: where the load goes is bad, which is this refusal; no line stops the load; or a line does, with this verdict

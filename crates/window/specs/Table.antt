@@ -14,14 +14,23 @@ use Rattle.record.specs.Refusals.{bad-table}
 use Rattle.marks.specs.Marks.{row-length}
 use Rattle.steps.specs.Sites.{Room}
 use Rattle.steps.specs.Owners.{Apart}
+use Rattle.window.specs.declared.Row.{Row}
 use Rattle.window.specs.Window.{within, unfit, one-window}
 
--- one window of the table
-pub record Row : Type 0 where
-  pub owner : ℕ
-  pub first : ℕ
-  pub size : ℕ
-  pub place : ℕ
+-- an owner, a first address, a length and a place
+abbrev pub row : (owner first size place : ℕ) → Row
+row owner first size place = record { owner = owner; first = first; size = size; place = place }
+
+abbrev pub nobody : Row
+nobody = row 0 0 0 0
+
+-- a table in numbers, four a window: its owner, its first address, its length and its place. What is left over is not read
+unfoldable pub rows-in : List ℕ → List Row
+rows-in [] = []
+rows-in (owner ∷ []) = []
+rows-in (owner ∷ first ∷ []) = []
+rows-in (owner ∷ first ∷ size ∷ []) = []
+rows-in (owner ∷ first ∷ size ∷ place ∷ numbers) = row owner first size place ∷ rows-in numbers
 
 -- ---- what an owner has
 
@@ -81,6 +90,10 @@ good-row pool r = is-owner (r .owner) && (leb (r .first + r .size) (2 ^ 32) && l
 abbrev pub good-rows : (pool : ℕ) → List Row → Bool
 good-rows pool [] = true
 good-rows pool (r ∷ rows) = good-row pool r && good-rows pool rows
+
+-- no window of the table breaks a limit, and no two of them clash
+abbrev pub Sound : (pool : ℕ) → List Row → Type 0
+Sound pool rows = (good-rows pool rows ≡ true) × (any-clash rows ≡ false)
 
 -- table, pool, marks and call keep within the limits
 unfoldable pub fits : (owner pool marks : ℕ) → List Row → Bool
@@ -161,10 +174,6 @@ One-window-table =
     → owned owner pool marks (record { owner = owner; first = first; size = pool; place = 0 } ∷ []) ≡ one-window first pool marks
 
 -- ---- examples
-
--- an owner, a first address, a length and a place
-abbrev pub row : (owner first size place : ℕ) → Row
-row owner first size place = record { owner = owner; first = first; size = size; place = place }
 
 pub record Examples : Type 0 where
   -- no windows at all

@@ -21,7 +21,8 @@ use Rattle.steps.specs.Owners.{Event, load-by, loads-of}
 use Rattle.steps.specs.Told.{told-loading}
 use Rattle.window.specs.Window.{unfit}
 use Rattle.window.specs.Load.{load-window}
-use Rattle.window.specs.Table.{Row, is-owner, site-of, owned}
+use Rattle.window.specs.declared.Row.{Row}
+use Rattle.window.specs.Table.{is-owner, site-of, owned}
 
 -- where and how a text stops the load: before the first line if the table is refused, else at the first line that decides, if one does
 unfoldable pub stopping-by-table : {S : Type 0} → Source S → (owner : ℕ) → List Row → (text pool marks : List ℕ) → Option Decision

@@ -6,6 +6,7 @@
 //!     bench WHO page BYTES RECORDS REPETITIONS EVERY
 //!     bench port|face|floor srecord|srecords BYTES RECORDS REPETITIONS TYPE
 //!     bench port|face salvage|noisy BYTES RECORDS REPETITIONS
+//!     bench port|face table|last BYTES RECORDS REPETITIONS WINDOWS
 //!
 //! WHO is crate, port, face or floor. WHAT is record or text (reading), line or object (writing), or
 //! load. BYTES are a record's payload, RECORDS how many there are in a text, or calls a repetition.
@@ -15,7 +16,8 @@
 //! EVERY is marked; the crate is given its records. `srecord` and `srecords` read a record and load the
 //! text as S-records of at most 252 bytes, each to the number that `record` and `load` print. `salvage` saves
 //! what can be of the text, which is all of it, and `noisy` of the text after a line that is refused, which is
-//! its end record.
+//! its end record. `table` loads the text through a table of so many windows that fill the pool, and `last` through
+//! one whose last window fills it and whose others are empty, each to the number that `load` prints.
 //! It prints a number that comes from the results, the same for all, and the nanoseconds taken.
 
 mod floor;
@@ -55,6 +57,9 @@ pub struct Given {
     /// The marks of all payloads as a page, and its records as the crate takes them.
     marked: Vec<u8>,
     of_page: Vec<original::Record>,
+    /// Tables of windows that fill a pool: all of them together, and the last alone.
+    table: Tabled,
+    last: Tabled,
     /// What is lent for writing.
     out: Vec<u8>,
     page: Vec<u8>,
@@ -62,7 +67,37 @@ pub struct Given {
     dropped: Vec<u8>,
 }
 
-/// The inputs; `step` is a chunk's length, which places of a page are marked, or the type of S-records.
+/// A window table as the face has it, and as the C entry points take it.
+struct Tabled {
+    of_face: ihex::Table,
+    bytes: Vec<u8>,
+}
+
+/// A table of so many windows of the first owner that fill a pool, one after the other in the addresses and in the pool:
+/// all but the last have so many bytes.
+fn filling(windows: usize, part: usize) -> Tabled {
+    let before = windows.clamp(1, ihex::MAX_WINDOWS) - 1;
+    let rest = ihex::MAX_POOL - before * part;
+    let (mut windows, mut bytes, mut place) = (vec![], vec![], 0);
+    for length in std::iter::repeat(part).take(before).chain([rest]) {
+        let owner = ihex::Owner::First;
+        let first = place as u32;
+        windows.push(ihex::Window {
+            owner,
+            first,
+            length,
+            place,
+        });
+        let (long, at) = (length as u64, place as u64);
+        bytes.extend(ihex_sys::window(owner.number(), first, long, at));
+        place += length;
+    }
+    let of_face = ihex::Table::new(&windows, place).expect("a good table");
+    Tabled { of_face, bytes }
+}
+
+/// The inputs; `step` is a chunk's length, which places of a page are marked, the type of S-records, or how many windows a
+/// table has.
 fn given(n: usize, records: usize, step: usize) -> Given {
     let byte = |i: usize| (i.wrapping_add(1).wrapping_mul(2_654_435_761) >> 13) as u8;
     let pool: Vec<u8> = (0..n * records).map(byte).collect();
@@ -91,6 +126,8 @@ fn given(n: usize, records: usize, step: usize) -> Given {
         noisy: format!("x\n{text}"),
         srecord: srecord(data_type(step), 0, &pool[..n.min(pool.len())]),
         srecords: srecords(data_type(step), n, &pool),
+        table: filling(step, ihex::MAX_POOL / ihex::MAX_WINDOWS),
+        last: filling(step, 0),
         marked: marked(pool.len(), step),
         of_page: of_page(&pool, step),
         pool,
@@ -254,6 +291,21 @@ fn face_srecord(given: &mut Given) -> u64 {
 fn face_srecords(given: &mut Given) -> u64 {
     let loaded = ihex::srec::load_srecords(&given.srecords, 0, &mut given.page, &mut given.marks);
     loaded.map_or(0, |loaded| loaded.data_records as u64)
+}
+
+fn face_through(table: &ihex::Table, text: &str, pool: &mut [u8], marks: &mut [u8]) -> u64 {
+    let loaded = table.load(ihex::Owner::First, text, pool, marks);
+    loaded.map_or(0, |loaded| loaded.data_records as u64)
+}
+
+fn face_table(given: &mut Given) -> u64 {
+    let (pool, marks) = (&mut given.page, &mut given.marks);
+    face_through(&given.table.of_face, &given.text, pool, marks)
+}
+
+fn face_last(given: &mut Given) -> u64 {
+    let (pool, marks) = (&mut given.page, &mut given.marks);
+    face_through(&given.last.of_face, &given.text, pool, marks)
 }
 
 /// How long the clean file of a text is, and how many entries its list has, in one number.
@@ -452,6 +504,25 @@ mod by_port {
         loaded(&given.across, &mut given.page, &mut given.marks)
     }
 
+    fn through(table: &[u8], text: &str, pool: &mut [u8], marks: &mut [u8]) -> u64 {
+        let (mut line, mut start, mut a, mut b, mut c) = (0, 0, 0, 0, 0);
+        let text = text.as_bytes();
+        ihex_sys::load_table(
+            text, 1, table, pool, marks, &mut line, &mut start, &mut a, &mut b, &mut c,
+        );
+        a
+    }
+
+    pub fn table(given: &mut Given) -> u64 {
+        let (pool, marks) = (&mut given.page, &mut given.marks);
+        through(&given.table.bytes, &given.text, pool, marks)
+    }
+
+    pub fn last(given: &mut Given) -> u64 {
+        let (pool, marks) = (&mut given.page, &mut given.marks);
+        through(&given.last.bytes, &given.text, pool, marks)
+    }
+
     fn saved(text: &str, out: &mut [u8], list: &mut [u8]) -> u64 {
         let (mut a, mut b) = (0, 0);
         ihex_sys::salvage(text.as_bytes(), out, list, &mut a, &mut b);
@@ -547,6 +618,8 @@ fn work(who: &str, what: &str) -> Option<Work> {
         ("face", "srecords") => face_srecords,
         ("face", "salvage") => face_salvage,
         ("face", "noisy") => face_noisy,
+        ("face", "table") => face_table,
+        ("face", "last") => face_last,
         ("port", "record") => by_port::record,
         ("port", "text") => by_port::text,
         ("port", "chunks") => by_port::chunks,
@@ -561,6 +634,8 @@ fn work(who: &str, what: &str) -> Option<Work> {
         ("port", "srecords") => by_port::srecords,
         ("port", "salvage") => by_port::salvage,
         ("port", "noisy") => by_port::noisy,
+        ("port", "table") => by_port::table,
+        ("port", "last") => by_port::last,
         ("floor", "record") => by_floor::record,
         ("floor", "text") => by_floor::text,
         ("floor", "line") => by_floor::line,
@@ -579,7 +654,8 @@ usage: bench crate|port|face|floor record|text|line|object|load BYTES RECORDS RE
        bench port segment|linear|across BYTES RECORDS REPETITIONS
        bench crate|port|face|floor page BYTES RECORDS REPETITIONS EVERY
        bench port|face|floor srecord|srecords BYTES RECORDS REPETITIONS TYPE
-       bench port|face salvage|noisy BYTES RECORDS REPETITIONS";
+       bench port|face salvage|noisy BYTES RECORDS REPETITIONS
+       bench port|face table|last BYTES RECORDS REPETITIONS WINDOWS";
 
 fn main() {
     let words: Vec<String> = env::args().skip(1).collect();

@@ -8,8 +8,9 @@
 //! It adds what the crate lacks: input that is not UTF-8 ([`ByteReader`],
 //! [`Record::from_record_bytes`]), line numbers and columns ([`Reader::numbered`],
 //! [`ReaderError::column`]), a text that comes in chunks ([`ChunkReader`]), the loading of a text
-//! into a page with marks, and its start ([`load`], [`Marks`], [`Start`]), the writing of such a page
-//! ([`write_page`]), what can be saved of a noisy capture ([`salvage`](fn@salvage)), and S-records ([`srec`]).
+//! into a page with marks, and its start ([`load`], [`Marks`], [`Start`]), the loads of two owners into one
+//! pool ([`Table`]), the writing of such a page ([`write_page`]), what can be saved of a noisy capture
+//! ([`salvage`](fn@salvage)), and S-records ([`srec`]).
 //!
 //! No function panics, whatever its arguments.
 //!
@@ -36,6 +37,7 @@ mod reader;
 mod record;
 mod salvage;
 pub mod srec;
+mod table;
 mod writer;
 
 pub use checksum::*;
@@ -46,6 +48,7 @@ pub use page::*;
 pub use reader::*;
 pub use record::*;
 pub use salvage::*;
+pub use table::*;
 pub use writer::*;
 
 /// Ends the program where the archive answers a code that the function it calls does not have, so

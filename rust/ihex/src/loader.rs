@@ -6,6 +6,7 @@ use std::fmt;
 use crate::reader::{write_line, LineError, ReaderError};
 use crate::srec::SReaderError;
 use crate::stranger;
+use crate::table::BadTable;
 
 /// Where a program starts, as a text states it. Two starts are equal only if they are stated alike: 1000:0000
 /// and 0FFF:0010 are two starts, and so are 0000:1234 and 00001234.
@@ -64,7 +65,10 @@ pub enum LoadError {
     /// The marks do not have [`marks_len`](crate::marks_len) bytes for the places of the page, the page has
     /// over 65,536 places, or it ends beyond 2^32.
     BadWindow,
-    /// A byte of a data record lies outside the window.
+    /// The pool or the marks do not have the length that the window table was made for.
+    BadTable(BadTable),
+    /// A byte of a data record lies outside the window; through a [`Table`](crate::Table), outside all windows of
+    /// the owner.
     OutsideWindow {
         /// The record's line.
         line: usize,
@@ -96,7 +100,9 @@ impl LoadError {
             | LoadError::OutsideWindow { line, .. }
             | LoadError::CountMismatch { line, .. }
             | LoadError::StartConflict { line } => Some(*line),
-            LoadError::MissingEndOfFileRecord | LoadError::BadWindow => None,
+            LoadError::MissingEndOfFileRecord | LoadError::BadWindow | LoadError::BadTable(_) => {
+                None
+            }
         }
     }
 
@@ -109,7 +115,7 @@ impl LoadError {
         }
     }
 
-    /// The refusal's number: 1 to 9, 13, 16, 17, 20 or 21.
+    /// The refusal's number: 1 to 9, 13, 16, 17, 20, 21 or 23.
     pub fn number(&self) -> u32 {
         match self {
             LoadError::Line(LineError { error, .. }) => error.number(),
@@ -119,6 +125,7 @@ impl LoadError {
             LoadError::OutsideWindow { .. } => 17,
             LoadError::CountMismatch { .. } => 20,
             LoadError::StartConflict { .. } => 21,
+            LoadError::BadTable(why) => why.number(),
         }
     }
 }
@@ -130,6 +137,7 @@ impl fmt::Display for LoadError {
             LoadError::SRecordLine { line, error } => write_line(f, *line, error.column(), error),
             LoadError::MissingEndOfFileRecord => write!(f, "text has no end of file record"),
             LoadError::BadWindow => write!(f, "page and marks are no window"),
+            LoadError::BadTable(why) => why.fmt(f),
             LoadError::OutsideWindow { line, address } => {
                 write!(
                     f,
@@ -157,6 +165,7 @@ impl Error for LoadError {
         match self {
             LoadError::Line(refused) => Some(&refused.error),
             LoadError::SRecordLine { error, .. } => Some(error),
+            LoadError::BadTable(why) => Some(why),
             _ => None,
         }
     }
@@ -195,7 +204,17 @@ where
     let code = ihex_sys::load(
         text, first, page, marks, &mut line, &mut start, &mut a, &mut b, &mut c,
     );
-    result(code, line, start, [a, b, c], |line, error| {
+    intel_result(code, line, start, [a, b, c])
+}
+
+/// What a load of Intel HEX comes to.
+pub(crate) fn intel_result(
+    code: u32,
+    line: usize,
+    start: u8,
+    values: [u64; 3],
+) -> Result<Loaded, LoadError> {
+    result(code, line, start, values, |line, error| {
         LoadError::Line(LineError { line, error })
     })
 }

@@ -293,14 +293,24 @@ where
     let code = ihex_sys::load_srecords(
         text, first, page, marks, &mut line, &mut start, &mut a, &mut b, &mut c,
     );
+    result(code, line, start, [a, b, c])
+}
+
+/// What a load of S-records comes to.
+pub(crate) fn result(
+    code: u32,
+    line: usize,
+    start: u8,
+    values: [u64; 3],
+) -> Result<Loaded, LoadError> {
     if code == ihex_sys::REFUSED + 20 {
         return Err(LoadError::CountMismatch {
             line,
-            stated: a as u16,
-            seen: b as usize,
+            stated: values[0] as u16,
+            seen: values[1] as usize,
         });
     }
-    loader::result(code, line, start, [a, b, c], |line, error| {
+    loader::result(code, line, start, values, |line, error| {
         LoadError::SRecordLine {
             line,
             error: SReaderError(error),

@@ -27,3 +27,4 @@ example!(page, "../examples/page.rs");
 example!(salvage, "../examples/salvage.rs");
 example!(srecord, "../examples/srecord.rs");
 example!(srecords, "../examples/srecords.rs");
+example!(table, "../examples/table.rs");

@@ -1,8 +1,8 @@
 //! The rules, by example: each line, list and load with its answer.
 
 use ihex::{
-    checksum, create_object_file_representation, load, types, ByteReader, LineError, LoadError,
-    Reader, ReaderError, ReaderOptions, Record, WriterError,
+    checksum, create_object_file_representation, load, types, BadTable, ByteReader, LineError,
+    LoadError, Reader, ReaderError, ReaderOptions, Record, WriterError,
 };
 
 fn read(line: &str) -> Result<Record, ReaderError> {
@@ -355,7 +355,7 @@ const WRITER_ERRORS: [(WriterError, u32, &str); 4] = [
 ];
 
 /// Each refusal of a load that is no line's, with its number, its line and its text.
-const LOAD_ERRORS: [(LoadError, u32, Option<usize>, &str); 4] = [
+const LOAD_ERRORS: [(LoadError, u32, Option<usize>, &str); 5] = [
     (
         LoadError::MissingEndOfFileRecord,
         13,
@@ -382,6 +382,12 @@ const LOAD_ERRORS: [(LoadError, u32, Option<usize>, &str); 4] = [
         21,
         Some(3),
         "line 3: start record states another start than the first one",
+    ),
+    (
+        LoadError::BadTable(BadTable::PoolTooLong(65_537)),
+        23,
+        None,
+        "pool has 65537 bytes, more than 65536",
     ),
 ];
 

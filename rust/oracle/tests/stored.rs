@@ -7,7 +7,7 @@ use oracle::comparisons::stored::List;
 use oracle::inputs::replay::Given;
 use oracle::models::replay::answer;
 
-const HEADINGS_AND_CASES: [(&str, &str); 20] = [
+const HEADINGS_AND_CASES: [(&str, &str); 23] = [
     ("# a heading", "# a heading"),
     ("C 01", "FF"),
     ("C", "00"),
@@ -45,10 +45,16 @@ const HEADINGS_AND_CASES: [(&str, &str); 20] = [
          0A3A303430303030303331303030303031304439",
         "! 21 @2 | CC | AA",
     ),
+    (
+        "N 2 B 2 3A3031303030353030373738330A3A303030303030303146460A 2 4 2 3 1 0 3 0",
+        "A 1 | CCCCCCCC77CCCCCCCCCCCC | B2AA",
+    ),
+    ("N 1 1 1  1 FFFFFFFF 2 0", "! 23 @0 | CC | AA"),
+    ("N 1 1 1 3A30303030303030314646", "A 0 | CC | AA"),
 ];
 
 /// What `replay` takes another way, or not at all.
-const PASSED_OVER: [&str; 9] = [
+const PASSED_OVER: [&str; 10] = [
     "",
     "Q 1",
     "C 0",
@@ -58,6 +64,7 @@ const PASSED_OVER: [&str; 9] = [
     "T 5 1 3A",
     "W 6 0 0 0 0 C",
     "O C 00 1 0 0 0",
+    "N 1 8 1 3A 1 0 8",
 ];
 
 fn list() -> List {
@@ -75,11 +82,11 @@ fn right_answers_agree() {
     assert_eq!(outcome.report.smallest, None);
     assert_eq!(
         (outcome.report.inputs, outcome.report.disagreements),
-        (19, 0)
+        (22, 0)
     );
     assert_eq!(
         outcome.told,
-        "2 C, 3 L, 5 T, 1 W, 1 O, 7 M; 2 of them no UTF-8, answered by the rule for bytes; 0 passed over"
+        "2 C, 3 L, 5 T, 1 W, 1 O, 7 M, 3 N; 2 of them no UTF-8, answered by the rule for bytes; 0 passed over"
     );
 }
 
@@ -108,10 +115,10 @@ fn what_is_no_case_is_passed_over_and_kept() {
     let outcome = list.compare();
     assert_eq!(
         (outcome.report.inputs, outcome.report.disagreements),
-        (19, 0)
+        (22, 0)
     );
-    assert!(outcome.told.ends_with("; 10 passed over"));
-    assert_eq!(outcome.over, 10);
+    assert!(outcome.told.ends_with("; 11 passed over"));
+    assert_eq!(outcome.over, 11);
     assert_eq!(list.answered().answers, list.answers);
 }
 

@@ -48,7 +48,14 @@ pub const BASE_UNKNOWN: u32 = 0;
 /// Why an entry is in the list: the text has no end record, and one was added.
 pub const MISSING_END_OF_FILE_RECORD: u32 = 13;
 
-/// The most places of a page.
+/// How many bytes stand for a window in a table.
+pub const WINDOW: usize = 24;
+/// The most windows of a table.
+pub const MOST_WINDOWS: usize = 16;
+/// The number of the refusal of a table.
+pub const BAD_TABLE: u32 = 23;
+
+/// The most places of a page, and of the pool of a window table.
 pub const MAX_PAGE: usize = 65_536;
 /// The most bytes of a page's file.
 pub const MAX_PAGE_FILE: usize = 458_810;
@@ -169,6 +176,28 @@ mod c {
             b: *mut u64,
             c: *mut u64,
         ) -> u32;
+        pub fn ihex_check_table(
+            table: *const u8,
+            table_len: usize,
+            pool_len: usize,
+            marks_len: usize,
+        ) -> u32;
+        pub fn ihex_load_table(
+            text: *const u8,
+            text_len: usize,
+            owner: u32,
+            table: *const u8,
+            table_len: usize,
+            pool: *mut u8,
+            pool_len: usize,
+            marks: *mut u8,
+            marks_len: usize,
+            line: *mut usize,
+            start: *mut u8,
+            a: *mut u64,
+            b: *mut u64,
+            c: *mut u64,
+        ) -> u32;
         pub fn ihex_page_file_length(
             first: u32,
             page: *const u8,
@@ -224,6 +253,22 @@ mod c {
             first: u32,
             page: *mut u8,
             page_len: usize,
+            marks: *mut u8,
+            marks_len: usize,
+            line: *mut usize,
+            start: *mut u8,
+            a: *mut u64,
+            b: *mut u64,
+            c: *mut u64,
+        ) -> u32;
+        pub fn ihex_load_srecords_table(
+            text: *const u8,
+            text_len: usize,
+            owner: u32,
+            table: *const u8,
+            table_len: usize,
+            pool: *mut u8,
+            pool_len: usize,
             marks: *mut u8,
             marks_len: usize,
             line: *mut usize,
@@ -409,6 +454,38 @@ pub fn load(
     }
 }
 
+/// Whether a window table, [`WINDOW`] bytes a window, is good for a pool and marks of these lengths: 0, or
+/// [`REFUSED`] and [`BAD_TABLE`].
+pub fn check_table(table: &[u8], pool_len: usize, marks_len: usize) -> u32 {
+    unsafe { c::ihex_check_table(table.as_ptr(), table.len(), pool_len, marks_len) }
+}
+
+/// A text for one owner, 1 or 2, through a window table into a pool with marks, one bit a place. On acceptance
+/// only the owner's places and their marks change.
+pub fn load_table(
+    text: &[u8],
+    owner: u32,
+    table: &[u8],
+    pool: &mut [u8],
+    marks: &mut [u8],
+    line: &mut usize,
+    start: &mut u8,
+    a: &mut u64,
+    b: &mut u64,
+    c: &mut u64,
+) -> u32 {
+    let (text, text_len) = (text.as_ptr(), text.len());
+    let (table, table_len) = (table.as_ptr(), table.len());
+    let (pool, pool_len) = (pool.as_mut_ptr(), pool.len());
+    let (marks, marks_len) = (marks.as_mut_ptr(), marks.len());
+    unsafe {
+        c::ihex_load_table(
+            text, text_len, owner, table, table_len, pool, pool_len, marks, marks_len, line, start,
+            a, b, c,
+        )
+    }
+}
+
 /// How long the file of a page with marks is. Marks take one bit a place.
 pub fn page_file_length(first: u32, page: &[u8], marks: &[u8], value: &mut u64) -> u32 {
     let (page, page_len) = (page.as_ptr(), page.len());
@@ -482,6 +559,41 @@ pub fn load_srecords(
             text, text_len, first, page, page_len, marks, marks_len, line, start, a, b, c,
         )
     }
+}
+
+/// A text of S-records for one owner through a window table, as [`load_table`] does a text of Intel HEX.
+pub fn load_srecords_table(
+    text: &[u8],
+    owner: u32,
+    table: &[u8],
+    pool: &mut [u8],
+    marks: &mut [u8],
+    line: &mut usize,
+    start: &mut u8,
+    a: &mut u64,
+    b: &mut u64,
+    c: &mut u64,
+) -> u32 {
+    let (text, text_len) = (text.as_ptr(), text.len());
+    let (table, table_len) = (table.as_ptr(), table.len());
+    let (pool, pool_len) = (pool.as_mut_ptr(), pool.len());
+    let (marks, marks_len) = (marks.as_mut_ptr(), marks.len());
+    unsafe {
+        c::ihex_load_srecords_table(
+            text, text_len, owner, table, table_len, pool, pool_len, marks, marks_len, line, start,
+            a, b, c,
+        )
+    }
+}
+
+/// The bytes that stand for a window in a table.
+pub fn window(owner: u32, first: u32, length: u64, place: u64) -> [u8; WINDOW] {
+    let mut bytes = [0; WINDOW];
+    bytes[..4].copy_from_slice(&owner.to_le_bytes());
+    bytes[4..8].copy_from_slice(&first.to_le_bytes());
+    bytes[8..16].copy_from_slice(&length.to_le_bytes());
+    bytes[16..].copy_from_slice(&place.to_le_bytes());
+    bytes
 }
 
 /// The bytes that stand for a record in the list that an object is written from.

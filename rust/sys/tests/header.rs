@@ -13,7 +13,7 @@ fn defined(name: &str) -> Option<u64> {
 
 #[test]
 fn numbers_are_the_headers() {
-    let numbers: [(&str, u64); 23] = [
+    let numbers: [(&str, u64); 26] = [
         ("REFUSED", ihex_sys::REFUSED.into()),
         ("DONE", ihex_sys::DONE.into()),
         ("USED_UP", ihex_sys::USED_UP.into()),
@@ -45,6 +45,9 @@ fn numbers_are_the_headers() {
             "MISSING_END_OF_FILE_RECORD",
             ihex_sys::MISSING_END_OF_FILE_RECORD.into(),
         ),
+        ("WINDOW_SIZE", ihex_sys::WINDOW as u64),
+        ("MOST_WINDOWS", ihex_sys::MOST_WINDOWS as u64),
+        ("BAD_TABLE", ihex_sys::BAD_TABLE.into()),
         ("MAX_PAGE", ihex_sys::MAX_PAGE as u64),
         ("MAX_PAGE_FILE", ihex_sys::MAX_PAGE_FILE as u64),
         ("MAX_SRECORD_DATA", ihex_sys::MAX_SRECORD_DATA as u64),

@@ -26,8 +26,11 @@ code-loader-error-spec =
     (λ c. search needs)
     (λ c κs. search needs)
     (λ c. search needs)
+    (λ c κs. search needs)
+    (λ c. search needs)
     (λ c. search needs)
     (λ c. search needs)
     (λ c. search needs)
     returns-5
+    (λ c. search needs)
     (λ c. search needs))

@@ -1,27 +1,15 @@
 -- `ihex::ihex_load_srecords` meets its contract: the answer of the loader of S-records, in numbers.
 -- Assumes nothing.
-use Rattle.codes.proofs.Codes.{in-six}
+use mathlib.Core.Path.{ap, _∙_}
+use Rattle.codes.specs.Codes.{load-numbers}
 use borrow.Author.Needs.{needs}
 use Rattle.ihex.proofs.ihex_load_srecords.Statement.{statement}
 use Rattle.ihex.proofs.ihex_load_srecords.Tie as tie
 
 returns : tie.Need-returns
 returns c =
-    let l = c .before .before .before .before .before .before .before .load-srecords .ensures in
-    record {
-      numbers = in-six (l .answer) (c .before .before .code-loading .ensures) (c .before .line-at .ensures .answer) (c .start-kind .ensures .answer);
-      page-is = l .page;
-      marks-is = l .marks;
-    }
+    let l = c .before .before .before .before .before .before .before .before .before .before .load-srecords .ensures in
+    record { numbers = c .tell-load .ensures .numbers ∙ ap load-numbers (l .answer); page-is = l .page; marks-is = l .marks }
 
 pub ihex-load-srecords-spec : {M : Type 1} → statement M
-ihex-load-srecords-spec =
-    tie.close
-    (tie.spec
-    (λ c κs. search needs)
-    (λ c κs. search needs)
-    (λ c κs. search needs)
-    (λ c κs. search needs)
-    (λ c. search needs)
-    (λ c. search needs)
-    returns)
+ihex-load-srecords-spec = tie.close (tie.spec (λ c κs. search needs) (λ c κs. search needs) (λ c. search needs) (λ c. search needs) returns)

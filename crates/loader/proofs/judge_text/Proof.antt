@@ -6,21 +6,21 @@ use denote.Ref.{now}
 use borrow.Author.Needs.{needs}
 use lib.ListN.{length}
 use Rattle.reader.specs.Along.{unread}
-use Rattle.window.specs.Window.{within}
+use Rattle.window.specs.Table.{rows-in, inside-of}
 use Rattle.loader.proofs.Loads.{Judging, judging-start, judging-less, judging-again, judging-end}
 use Rattle.loader.proofs.judge_text.Statement.{statement}
 use Rattle.loader.proofs.judge_text.Tie as tie
 
 abbrev Inv-loop : tie.InvT-loop
-Inv-loop text first size pool₀ w₀ tally₀ pool w tally = Judging (within first size) text pool w tally
+Inv-loop text owner rows pool₀ w₀ tally₀ pool w tally = Judging (inside-of owner (rows-in rows)) text pool w tally
 
 abbrev μ-loop : tie.MeasureT-loop
-μ-loop text first size pool₀ w₀ tally₀ pool w tally = length (unread (w .state) text)
+μ-loop text owner rows pool₀ w₀ tally₀ pool w tally = length (unread (w .state) text)
 
 loop-holds : tie.Need-loop-holds Inv-loop μ-loop
 loop-holds c =
-    let s = c .before .before in
-    judging-start (within (s .args .first) (s .args .size)) (now (s .args .text)) _ (omega arith) (search needs) (c .begin .result) (c .begin .ensures)
+    let s = c .before .before .before in
+    judging-start (inside-of (s .args .owner) (rows-in (now (s .args .rows)))) (now (s .args .text)) _ (omega arith) (search needs) (c .begin .result) (c .begin .ensures)
 
 slice-aggregate-judge-next : tie.Need-slice-aggregate-judge-next Inv-loop μ-loop
 slice-aggregate-judge-next c = sym (c .before .loop .inv .room)
@@ -30,27 +30,27 @@ judge-next-requires c κs = let j = c .before .loop .inv in (j .under-way, j .fe
 
 loop-less : tie.Need-loop-less Inv-loop μ-loop
 loop-less c =
-    let s = c .before .before .before .before .before .before .before .before .before .args in
+    let s = c .before .before .before .before .before .before .before .before .before .before .args in
     let l = c .before .before .before .before .before .before .loop in
     let t = c .before .before .before .before .judge-next in
     let n = c .before .t .given in
-    judging-less (within (s .first) (s .size)) (now (s .text)) (l .pool) (l .w) (l .tally) (l .inv) (t .result) (t .ensures) (n .0 .1 .0) (n .0 .0) (n .1)
+    judging-less (inside-of (s .owner) (rows-in (now (s .rows)))) (now (s .text)) (l .pool) (l .w) (l .tally) (l .inv) (t .result) (t .ensures) (n .0 .1 .0) (n .0 .0) (n .1)
 
 loop-again : tie.Need-loop-again Inv-loop μ-loop
 loop-again c =
-    let s = c .before .before .before .before .before .before .before .before .before .args in
+    let s = c .before .before .before .before .before .before .before .before .before .before .args in
     let l = c .before .before .before .before .before .before .loop in
     let t = c .before .before .before .before .judge-next in
     let n = c .before .t .given in
-    judging-again (within (s .first) (s .size)) (now (s .text)) (l .pool) (l .w) (l .tally) (l .inv) (t .result) (t .ensures) (n .0 .1 .0) (n .0 .0) (n .1) (t .last .1 .0) (t .kept .1 .0)
+    judging-again (inside-of (s .owner) (rows-in (now (s .rows)))) (now (s .text)) (l .pool) (l .w) (l .tally) (l .inv) (t .result) (t .ensures) (n .0 .1 .0) (n .0 .0) (n .1) (t .last .1 .0) (t .kept .1 .0)
 
 returns : tie.Need-returns Inv-loop μ-loop
 returns c =
-    let s = c .before .before .before .before .before .before .before .before .before .args in
+    let s = c .before .before .before .before .before .before .before .before .before .before .args in
     let l = c .before .before .before .before .before .before .loop in
     let t = c .before .before .before .before .judge-next in
     let n = c .before .answer .given in
-    judging-end (within (s .first) (s .size)) (now (s .text)) (l .pool) (l .w) (l .tally) (l .inv) (t .result) (t .ensures) (n .0 .0) (n .1)
+    judging-end (inside-of (s .owner) (rows-in (now (s .rows)))) (now (s .text)) (l .pool) (l .w) (l .tally) (l .inv) (t .result) (t .ensures) (n .0 .0) (n .1)
 
 pub judge-text-spec : {M : Type 1} → statement M
 judge-text-spec =

@@ -6,7 +6,9 @@ use lib.Seq.{length-take-le}
 use native.Mathlib.Omega.{arith}
 use borrow.Author.Needs.{needs}
 use lib.ListN.{length}
+use Rattle.window.specs.Table.{rows-in, site-of}
 use Rattle.window.proofs.Spread.{stored-once, stored-twice}
+use Rattle.window.proofs.Through.{put-through-site}
 use Rattle.loader.specs.Placing.{byte-address}
 use Rattle.loader.specs.Helpers.{based}
 use Rattle.loader.proofs.Runs.{few, runs}
@@ -14,26 +16,33 @@ use Rattle.loader.proofs.put.Statement.{statement}
 use Rattle.loader.proofs.put.Tie as tie
 
 slice-aggregate-put-run : tie.Need-slice-aggregate-put-run
-slice-aggregate-put-run c =
-    let a = c .before .before .before .before .before .before .args in
-    sym (length-take-le (c .before .before .first-run .result) (now (a .bytes)) (omega (arith, c .before .before .first-run .ensures)))
+slice-aggregate-put-run c = sym (length-take-le (c .before .before .first-run .result) (now (c .before .before .before .before .before .before .before .args .bytes)) (omega (arith, c .before .before .first-run .ensures)))
 
 byte-address-requires-2 : tie.Need-byte-address-requires-2
 byte-address-requires-2 c κs = omega (arith, c .before .before .before .before .before .before .before .before .before .before .first-run .ensures)
 
 returns : tie.Need-returns
 returns c =
-    let s = c .before .before .before .before .before .before .before .before .before .before .before .before .before .before .before .before .before .before .before .before .before .before .before in
+    let s = c .before .before .before .before .before .before .before .before .before .before .before .before .before .before .before .before .before .before .before .before .before .before .before .before in
     let a = s .args in
-    stored-twice (byte-address (based (a .base)) (a .offset)) (a .first) (now (a .bytes)) (now (a .page)) (now (a .marks)) (c .before .before .before .before .before .before .before .before .before .before .before .before .before .before .before .before .before .before .before .first-run .result) (few (a .base) (a .offset) (length (now (a .bytes))) (search needs) (s .pre) (c .before .before .before .before .before .before .before .before .before .before .before .before .before .before .before .before .before .before .before .first-run .result) (c .before .before .before .before .before .before .before .before .before .before .before .before .before .before .before .before .before .before .before .first-run .ensures)) (runs (a .base) (a .offset) (length (now (a .bytes))) (search needs) (s .pre) (c .before .before .before .before .before .before .before .before .before .before .before .before .before .before .before .before .before .before .before .first-run .result) (c .before .before .before .before .before .before .before .before .before .before .before .before .before .before .before .before .before .before .before .first-run .ensures))
-    (c .before .before .before .before .before .before .before .before .before .before .before .before .before .before .before .before .before .before .byte-address .result) (c .before .before .before .before .before .before .before .before .before .before .before .before .before .before .before .before .before .before .byte-address .ensures) _ _ (c .before .before .before .before .before .before .before .before .before .before .before .before .before .before .put-run .ensures) (c .before .before .before .before .before .before .before .before .byte-address2 .result) (c .before .before .before .before .before .before .before .before .byte-address2 .ensures) _ _ (c .before .before .before .before .put-run2 .ensures)
+    let k = c .before .before .before .before .before .before .before .before .before .before .before .before .before .before .before .before .before .before .before .first-run in
+    let rows = rows-in (now (a .rows)) in
+    let p = c .before .before .before .before .before .before .before .before .before .before .before .before .before .before .put-run in
+    let q = c .before .before .before .before .put-run2 in
+    stored-twice (byte-address (based (a .base)) (a .offset)) (site-of (a .owner) rows) (now (a .bytes)) (now (a .page)) (now (a .marks)) (k .result)
+    (few (a .base) (a .offset) (length (now (a .bytes))) (search needs) (s .pre .0) (k .result) (k .ensures)) (runs (a .base) (a .offset) (length (now (a .bytes))) (search needs) (s .pre .0) (k .result) (k .ensures))
+    (c .before .before .before .before .before .before .before .before .before .before .before .before .before .before .before .before .before .before .byte-address .result) (c .before .before .before .before .before .before .before .before .before .before .before .before .before .before .before .before .before .before .byte-address .ensures) _ _ (put-through-site (a .owner) rows _ _ _ _ _ _ (s .pre .1) (p .ensures))
+    (c .before .before .before .before .before .before .before .before .byte-address2 .result) (c .before .before .before .before .before .before .before .before .byte-address2 .ensures) _ _ (put-through-site (a .owner) rows _ _ _ _ _ _ (rw (p .kept .1 .1 .1 .1 .0) (s .pre .1)) (q .ensures))
 
 returns-2 : tie.Need-returns-2
 returns-2 c =
-    let s = c .before .before .before .before .before .before .before .before .before .before .before .before .before .before in
+    let s = c .before .before .before .before .before .before .before .before .before .before .before .before .before .before .before in
     let a = s .args in
-    stored-once (byte-address (based (a .base)) (a .offset)) (a .first) (now (a .bytes)) (now (a .page)) (now (a .marks)) (c .before .before .before .before .before .before .before .before .before .before .first-run .result) (few (a .base) (a .offset) (length (now (a .bytes))) (search needs) (s .pre) (c .before .before .before .before .before .before .before .before .before .before .first-run .result) (c .before .before .before .before .before .before .before .before .before .before .first-run .ensures)) (runs (a .base) (a .offset) (length (now (a .bytes))) (search needs) (s .pre) (c .before .before .before .before .before .before .before .before .before .before .first-run .result) (c .before .before .before .before .before .before .before .before .before .before .first-run .ensures))
-    (c .before .before .before .before .before .before .before .before .before .byte-address .result) (c .before .before .before .before .before .before .before .before .before .byte-address .ensures) _ _ (c .before .before .before .before .before .put-run .ensures) (omega arith)
+    let k = c .before .before .before .before .before .before .before .before .before .before .first-run in
+    let rows = rows-in (now (a .rows)) in
+    stored-once (byte-address (based (a .base)) (a .offset)) (site-of (a .owner) rows) (now (a .bytes)) (now (a .page)) (now (a .marks)) (k .result)
+    (few (a .base) (a .offset) (length (now (a .bytes))) (search needs) (s .pre .0) (k .result) (k .ensures)) (runs (a .base) (a .offset) (length (now (a .bytes))) (search needs) (s .pre .0) (k .result) (k .ensures))
+    (c .before .before .before .before .before .before .before .before .before .byte-address .result) (c .before .before .before .before .before .before .before .before .before .byte-address .ensures) _ _ (put-through-site (a .owner) rows _ _ _ _ _ _ (s .pre .1) (c .before .before .before .before .before .put-run .ensures)) (omega (arith, c .if1 .left))
 
 pub put-spec : {M : Type 1} → statement M
 put-spec =

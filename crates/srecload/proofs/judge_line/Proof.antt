@@ -3,7 +3,7 @@
 use mathlib.Core.Path.{subst}
 use native.Mathlib.Omega.{arith}
 use denote.Ref.{now}
-use Rattle.window.specs.Window.{within}
+use Rattle.window.specs.Table.{rows-in, inside-of}
 use Rattle.srec.specs.declared.SAnswer.{SAnswer}
 use Rattle.srec.specs.Record.{data-of}
 use Rattle.srec.specs.Answer.{ReadSRecord}
@@ -15,26 +15,26 @@ use Rattle.srecload.proofs.judge_line.Tie as tie
 
 -- the record that was read
 came : (c : tie.After-given)
-    → let s = c .before .before .before .before .before .before .before .before .before in
+    → let s = c .before .before .before .before .before .before .before .before .before .before in
     let r = c .before .before .before .before .read-srecord in
     Came (now (s .args .line)) (r .last .1 .0) (c .given .given .0 .0)
 came c =
-    let s = c .before .before .before .before .before .before .before .before .before in
+    let s = c .before .before .before .before .before .before .before .before .before .before in
     let r = c .before .before .before .before .read-srecord in
     came-read (now (s .args .line)) (now (s .args .pool)) (r .last .1 .0) (s .pre .0) (c .given .given .0 .0)
     (subst (λ (x : SAnswer). ReadSRecord (now (s .args .line)) (now (s .args .pool)) 0 x (r .last .1 .0)) (c .given .given .1) (r .ensures))
 
 returns : tie.Need-returns
 returns c =
-    let a = c .before .before .before .args in
-    rw (line-empty (a .there .line) (now (a .line)) (c .if1 .taken)) (met-nothing (within (a .first) (a .size)) (a .there) (a .seen))
+    let a = c .before .before .before .before .args in
+    rw (line-empty (a .there .line) (now (a .line)) (c .if1 .taken)) (met-nothing (inside-of (a .owner) (rows-in (now (a .rows)))) (a .there) (a .seen))
 
 judge-record-requires : tie.Need-judge-record-requires
-judge-record-requires c κs = (came (c .before) .few, c .before .before .before .before .before .before .before .before .before .before .pre .1)
+judge-record-requires c κs = (came (c .before) .few, c .before .before .before .before .before .before .before .before .before .before .before .pre .1)
 
 returns-2 : tie.Need-returns-2
 returns-2 c =
-    let s = c .before .before .before .before .before .before .before .before .before .before .before in
+    let s = c .before .before .before .before .before .before .before .before .before .before .before .before in
     let r = c .before .before .before .before .before .before .read-srecord in
     let x = c .before .before .given .given .0 .0 in
     rw (line-came (s .args .there .line) (now (s .args .line)) (r .last .1 .0) x (omega arith) (came (c .before .before))) (c .judge-record .ensures (data-of x (r .last .1 .0)) (came (c .before .before) .sized))
@@ -42,10 +42,10 @@ returns-2 c =
 returns-3 : tie.Need-returns-3
 returns-3 c =
     λ rest.
-    let s = c .before .before .before .before .before .before .before .before .before .before in
+    let s = c .before .before .before .before .before .before .before .before .before .before .before in
     let r = c .before .before .before .before .before .read-srecord in
     let g = c .before .e .given in
-    met-refused (within (s .args .first) (s .args .size)) (s .args .there .line) (s .args .seen) (now (s .args .line)) (g .0 .0) (omega arith)
+    met-refused (inside-of (s .args .owner) (rows-in (now (s .args .rows)))) (s .args .there .line) (s .args .seen) (now (s .args .line)) (g .0 .0) (omega arith)
     (came-refused (now (s .args .line)) (now (s .args .pool)) (r .last .1 .0) (s .pre .0) (g .0 .0)
     (subst (λ (x : SAnswer). ReadSRecord (now (s .args .line)) (now (s .args .pool)) 0 x (r .last .1 .0)) (g .1) (r .ensures))) rest
 

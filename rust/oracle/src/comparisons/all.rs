@@ -3,7 +3,8 @@
 use crate::comparisons::run::{Kind, Plan};
 use crate::comparisons::seen::{Answers, Places};
 use crate::comparisons::{
-    chunks, dumps, forms, joined, lines, loads, long, pages, salvage, srecords, sums, texts, writes,
+    chunks, dumps, forms, joined, lines, loads, long, pages, salvage, srecords, sums, tables,
+    texts, writes,
 };
 use crate::subjects::face::RealFace;
 use crate::subjects::port::Port;
@@ -40,6 +41,7 @@ pub fn of_face(plan: Plan) -> Vec<Kind<'static>> {
         long::of_face(plan),
         srecords::of_face(plan),
         salvage::of_face(plan),
+        tables::of_face(plan),
     ];
     parts.into_iter().flatten().collect()
 }
@@ -59,6 +61,7 @@ fn answers() -> impl Iterator<Item = &'static Answers> {
         .chain(&pages::SEEN)
         .chain(srecords::answers())
         .chain(&salvage::SEEN)
+        .chain(&tables::SEEN)
         .chain(&loads::SEEN_WRAPS)
 }
 
@@ -87,5 +90,5 @@ pub fn show_seen() -> bool {
     for row in places() {
         whole &= row.show();
     }
-    whole & forms::show_seen() & dumps::show_seen() & salvage::show_seen()
+    whole & forms::show_seen() & dumps::show_seen() & salvage::show_seen() & tables::show_seen()
 }

@@ -74,10 +74,12 @@ fn note_starts(case: &LoadCase, answer: LoadAnswer) {
 }
 
 /// What a model answers to a load; page and marks are changed.
-pub type Model = fn(&LoadCase, &mut [u8], &mut [u8]) -> LoadAnswer;
+pub trait Model: Fn(&LoadCase, &mut [u8], &mut [u8]) -> LoadAnswer {}
+
+impl<F: Fn(&LoadCase, &mut [u8], &mut [u8]) -> LoadAnswer> Model for F {}
 
 /// A page and marks to load into, and copies of them on which a model has run, with its answer.
-fn lent(case: &LoadCase, model: Model) -> (Lent, Lent, Vec<u8>, Vec<u8>, LoadAnswer) {
+fn lent(case: &LoadCase, model: impl Model) -> (Lent, Lent, Vec<u8>, Vec<u8>, LoadAnswer) {
     let (page, mut marks) = (Lent::new(case.page), Lent::new(case.marks));
     if let Some(last) = marks.slice().last_mut() {
         *last = case.last;
@@ -114,7 +116,7 @@ pub type Values<'a> = (&'a mut u64, &'a mut u64, &'a mut u64);
 /// noted.
 pub fn by_port(
     case: &LoadCase,
-    model: Model,
+    model: impl Model,
     note: impl Fn(LoadAnswer),
     load: impl Fn(&[u8], &mut [u8], &mut [u8], Places, Values) -> u32,
 ) -> Option<String> {
@@ -181,7 +183,7 @@ pub fn face(case: &LoadCase) -> Option<String> {
 /// What is wrong with a load by a loader of the face, if it should answer as a model does.
 pub fn by_face_with(
     case: &LoadCase,
-    model: Model,
+    model: impl Model,
     load: impl Fn(&[u8], &mut [u8], &mut [u8]) -> Result<Loaded, LoadError>,
 ) -> Option<String> {
     let (mut page, mut marks, held, marked, should) = lent(case, model);

@@ -18,5 +18,6 @@ pub mod seen;
 pub mod srecords;
 pub mod stored;
 pub mod sums;
+pub mod tables;
 pub mod texts;
 pub mod writes;

@@ -20,5 +20,6 @@ pub mod standing;
 pub mod start_records;
 pub mod starts;
 pub mod sums;
+pub mod tables;
 pub mod texts;
 pub mod writes;

@@ -8,6 +8,7 @@ use crate::inputs::loads::LoadCase;
 use crate::inputs::shrink::Case;
 use crate::inputs::spelling::hex;
 use crate::inputs::sums::SumCase;
+use crate::inputs::tables::{Kind, Row, TableCase};
 use crate::inputs::texts::TextCase;
 use crate::inputs::writes::{ObjectCase, RecordCase};
 use crate::subjects::told::Entry;
@@ -20,6 +21,8 @@ const MOST_PAGE: usize = 65_537;
 pub const MARKS: u8 = 0xAA;
 /// The most records of an object.
 pub const MOST_RECORDS: usize = 64;
+/// The most windows of a table: one more than it may have.
+const MOST_ROWS: usize = 17;
 /// The flag with which the first answer of a text alone is told.
 const FIRST: u8 = 4;
 
@@ -35,6 +38,7 @@ pub enum Given {
     Record(RecordCase),
     Object(ObjectCase),
     Load(LoadCase),
+    Table(TableCase),
 }
 
 /// The digits of a number, in capitals.
@@ -83,13 +87,22 @@ impl Words<'_> {
         Some(entry).filter(Entry::is_record)
     }
 
-    /// All that are left, as entries.
-    fn entries(mut self) -> Option<Vec<Entry>> {
-        let mut entries = Vec::new();
+    fn row(&mut self) -> Option<Row> {
+        Some(Row {
+            owner: self.number()?,
+            first: self.number()?,
+            length: self.number()?,
+            place: self.number()?,
+        })
+    }
+
+    /// All that are left, each taken so.
+    fn all<T>(mut self, one: fn(&mut Self) -> Option<T>) -> Option<Vec<T>> {
+        let mut found = Vec::new();
         while self.0.clone().next().is_some() {
-            entries.push(self.entry()?);
+            found.push(one(&mut self)?);
         }
-        Some(entries)
+        Some(found)
     }
 }
 
@@ -124,7 +137,7 @@ fn object_of(mut words: Words) -> Option<ObjectCase> {
         out: words.up_to(MOST)?,
         pool: words.bytes()?,
         entries: words
-            .entries()
+            .all(Words::entry)
             .filter(|entries| entries.len() <= MOST_RECORDS)?,
         spare: 0,
         tail: 0,
@@ -139,6 +152,40 @@ fn load_of(mut words: Words) -> Option<LoadCase> {
         last: MARKS,
         text: words.last_bytes()?,
     })
+}
+
+fn table_of(mut words: Words) -> Option<TableCase> {
+    let (owner, pool) = (words.number()?, words.up_to(MOST_PAGE)?);
+    let (marks, text) = (words.up_to(MOST_PAGE)?, words.bytes()?);
+    let rows = words.all(Words::row);
+    Some(TableCase {
+        marks,
+        last: MARKS,
+        ..TableCase::new(
+            Kind::Intel,
+            text,
+            owner,
+            rows.filter(|rows| rows.len() <= MOST_ROWS)?,
+            pool,
+        )
+    })
+}
+
+fn row_told(row: &Row) -> String {
+    let Row {
+        owner,
+        first,
+        length,
+        place,
+    } = row;
+    format!("{owner:X} {first:X} {length:X} {place:X}")
+}
+
+fn table_told(case: &TableCase) -> String {
+    let rows = case.rows.iter().map(row_told);
+    let words: Vec<String> = [hex(&case.text)].into_iter().chain(rows).collect();
+    let (owner, pool, marks) = (case.owner, case.pool, case.marks);
+    format!("N {owner:X} {pool:X} {marks:X} {}", words.join(" "))
 }
 
 /// A record as the words of a case.
@@ -176,6 +223,7 @@ impl Given {
             "W" => record_of(words).map(Given::Record),
             "O" => object_of(words).map(Given::Object),
             "M" => load_of(words).map(Given::Load),
+            "N" => table_of(words).map(Given::Table),
             _ => None,
         }
     }
@@ -193,6 +241,7 @@ impl Given {
                 format!("W {entry} {:X} {}", case.out, hex(&case.pool))
             }
             Given::Object(case) => return object_told(case),
+            Given::Table(case) => return table_told(case),
             Given::Load(case) => {
                 let (first, page, marks) = (case.first, case.page, case.marks);
                 format!("M {first:X} {page:X} {marks:X} {}", hex(&case.text))
@@ -208,6 +257,7 @@ impl Given {
             Given::Line(case) => &case.line,
             Given::Text(case) | Given::First(case) => &case.text,
             Given::Load(case) => &case.text,
+            Given::Table(case) => &case.text,
             _ => return false,
         };
         str::from_utf8(read).is_err()
@@ -230,6 +280,7 @@ impl Case for Given {
             Given::Record(case) => smaller(case, Given::Record),
             Given::Object(case) => smaller(case, Given::Object),
             Given::Load(case) => smaller(case, Given::Load),
+            Given::Table(case) => smaller(case, Given::Table),
         }
     }
 

@@ -167,6 +167,18 @@ pub struct Statement {
     pub places: Vec<(usize, u8)>,
 }
 
+impl Statement {
+    /// Whether a start is taken after those before it; then it is one of them.
+    fn takes(&mut self, rules: Rules, later: Start) -> bool {
+        let first = self.start.unwrap_or(later);
+        if self.start.is_some() && (rules.differs)(first, later) {
+            return false;
+        }
+        self.start = Some((rules.kept)(first, later));
+        true
+    }
+}
+
 /// What a text states, or the refusal.
 pub type Stated = Result<Statement, LoadAnswer>;
 
@@ -180,13 +192,36 @@ pub fn window(case: &LoadCase, fits: fn(usize, usize) -> bool) -> Result<Range<u
     Ok(window)
 }
 
-/// What a text states by these rules.
+/// Where the bytes of a text are to lie.
+pub struct Site<'a> {
+    /// The place of an address, if it has one.
+    pub place: &'a dyn Fn(u64) -> Option<usize>,
+    /// Which address of a data record lies outside, if one does.
+    pub outside: &'a dyn Fn(&[u64]) -> Option<u64>,
+}
+
+/// What a text states in its window by these rules.
 pub fn stated(rules: Rules, case: &LoadCase) -> Stated {
     let window = window(case, rules.fits)?;
+    let site = Site {
+        place: &|address| place_in(&window, address),
+        outside: &|addresses| (rules.outside)(addresses, &window),
+    };
+    stated_at(rules, &case.text, &site)
+}
+
+/// The place of an address in a window, if it lies in it.
+pub fn place_in(window: &Range<u64>, address: u64) -> Option<usize> {
+    let inside = window.contains(&address);
+    inside.then(|| (address - window.start) as usize)
+}
+
+/// What a text states at a site by these rules.
+pub fn stated_at(rules: Rules, text: &[u8], site: &Site) -> Stated {
     let mut latest = Latest::None;
     let mut stated = Statement::default();
-    for (answer, place) in rows(&case.text, BOTH_STOPS) {
-        let refused = |number, a, b| Err(LoadAnswer::refused(number, a, b, place.line));
+    for (answer, line) in rows(text, BOTH_STOPS) {
+        let refused = |number, a, b| Err(LoadAnswer::refused(number, a, b, line.line));
         let record = match answer {
             Ok(record) => record,
             Err(why) => {
@@ -195,11 +230,9 @@ pub fn stated(rules: Rules, case: &LoadCase) -> Stated {
             }
         };
         if let Some(later) = start_of(&record) {
-            let first = stated.start.unwrap_or(later);
-            if stated.start.is_some() && (rules.differs)(first, later) {
+            if !stated.takes(rules, later) {
                 return refused(21, 0, 0);
             }
-            stated.start = Some((rules.kept)(first, later));
             latest = (rules.start)(latest);
         }
         match record {
@@ -207,13 +240,12 @@ pub fn stated(rules: Rules, case: &LoadCase) -> Stated {
                 stated.records += 1;
                 let address = |i| (rules.placing)(latest, offset.into(), i);
                 let addresses: Vec<u64> = (0..value.len() as u64).map(address).collect();
-                if let Some(outside) = (rules.outside)(&addresses, &window) {
+                if let Some(outside) = (site.outside)(&addresses) {
                     return refused(17, outside, 0);
                 }
-                let placed = addresses.into_iter().zip(value);
-                let inside = placed.filter(|(address, _)| window.contains(address));
-                let place = |(address, byte)| ((address - window.start) as usize, byte);
-                stated.places.extend(inside.map(place));
+                let places = addresses.into_iter().map(site.place).zip(value);
+                let inside = places.filter_map(|(place, byte)| Some((place?, byte)));
+                stated.places.extend(inside);
             }
             Record::ExtendedSegmentAddress(n) => {
                 latest = (rules.segment)(latest, u64::from(n) << 4);

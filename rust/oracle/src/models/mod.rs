@@ -9,5 +9,6 @@ pub mod pages;
 pub mod replay;
 pub mod salvage;
 pub mod srecords;
+pub mod tables;
 pub mod texts;
 pub mod writes;

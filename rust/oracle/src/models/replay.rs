@@ -6,9 +6,11 @@ use crate::inputs::lines::LineCase;
 use crate::inputs::loads::LoadCase;
 use crate::inputs::replay::{Given, MARKS};
 use crate::inputs::spelling::hex;
+use crate::inputs::tables::TableCase;
 use crate::inputs::texts::TextCase;
 use crate::models::lines::{self, in_pool, pour};
 use crate::models::loads::{self, LoadAnswer};
+use crate::models::tables;
 use crate::models::writes::{self, Written};
 use crate::subjects::the_crate::{by_crate, read, rows, Row};
 use crate::subjects::told::{pool_full, told, Told};
@@ -32,6 +34,7 @@ pub fn answer(given: &Given) -> String {
         Given::Record(case) => written(&writes::record(case), case.out),
         Given::Object(case) => written(&writes::object(case), case.out),
         Given::Load(case) => load(case),
+        Given::Table(case) => load_through(case),
     }
 }
 
@@ -142,9 +145,25 @@ fn loaded(answer: LoadAnswer) -> String {
     }
 }
 
-fn load(case: &LoadCase) -> String {
-    let mut page = vec![PAGE; case.page];
-    let mut marks = vec![MARKS; case.marks];
-    let said = loaded(loads::model(case, &mut page, &mut marks));
+/// What a model answers to a load, and the page and marks of these lengths after it.
+fn with_page(
+    page: usize,
+    marks: usize,
+    load: impl FnOnce(&mut [u8], &mut [u8]) -> LoadAnswer,
+) -> String {
+    let (mut page, mut marks) = (vec![PAGE; page], vec![MARKS; marks]);
+    let said = loaded(load(&mut page, &mut marks));
     format!("{said} |{} |{}", spelt_long(&page), spelt_long(&marks))
+}
+
+fn load(case: &LoadCase) -> String {
+    with_page(case.page, case.marks, |page, marks| {
+        loads::model(case, page, marks)
+    })
+}
+
+fn load_through(case: &TableCase) -> String {
+    with_page(case.pool, case.marks, |pool, marks| {
+        tables::model(case, pool, marks)
+    })
 }

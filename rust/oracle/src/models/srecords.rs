@@ -7,7 +7,7 @@ use crate::inputs::loads::LoadCase;
 use crate::inputs::spelling::digits;
 use crate::inputs::srecords::{address_bytes, has_data, SWriteCase, TYPES};
 use crate::models::loads::{
-    self, first_outside, laid, window, LoadAnswer, Start, Stated, Statement,
+    self, first_outside, laid, place_in, window, LoadAnswer, Site, Start, Stated, Statement,
 };
 use crate::models::writes::{refused, wrote, Written};
 use crate::subjects::told::{part, told, Told, LAST_PLACE};
@@ -217,23 +217,33 @@ fn lines(text: &[u8]) -> Vec<(usize, &[u8])> {
     found
 }
 
-/// What a text states by these rules.
+/// What a text states in its window by these rules.
 pub fn stated(rules: Rules, case: &LoadCase) -> Stated {
     let window = window(case, loads::RIGHT.fits)?;
+    let site = Site {
+        place: &|address| place_in(&window, address),
+        outside: &|addresses| first_outside(addresses, &window),
+    };
+    stated_at(rules, &case.text, &site)
+}
+
+/// What a text states at a site by these rules.
+pub fn stated_at(rules: Rules, text: &[u8], site: &Site) -> Stated {
     let mut latest = None;
     let mut stated = Statement::default();
-    for (line, bytes) in lines(&case.text) {
+    for (line, bytes) in lines(text) {
         let told = |(number, a, b): Refusal| LoadAnswer::refused(number, a, b, line);
         let said = read(rules, bytes).map_err(told)?;
         if (rules.placed)(said.kind) {
             latest = Some(said.kind);
             let address = |i| (rules.placing)(said.address.into(), i);
             let addresses: Vec<u64> = (0..said.data.len() as u64).map(address).collect();
-            if let Some(outside) = first_outside(&addresses, &window) {
+            if let Some(outside) = (site.outside)(&addresses) {
                 return Err(told((17, outside, 0)));
             }
-            let places = addresses.iter().map(|at| (at - window.start) as usize);
-            stated.places.extend(places.zip(said.data.iter().copied()));
+            let places = addresses.into_iter().map(site.place).zip(said.data.clone());
+            let inside = places.filter_map(|(place, byte)| Some((place?, byte)));
+            stated.places.extend(inside);
         }
         if said.kind == 5 && !(rules.agrees)(said.address.into(), stated.records) {
             return Err(told((20, said.address.into(), stated.records)));

@@ -99,6 +99,23 @@ pub trait Port: Sync {
         ihex_sys::load(text, first, page, marks, line, start, a, b, c)
     }
 
+    fn check_table(&self, table: &[u8], pool_len: usize, marks_len: usize) -> u32 {
+        ihex_sys::check_table(table, pool_len, marks_len)
+    }
+
+    fn load_table(
+        &self,
+        text: &[u8],
+        owner: u32,
+        table: &[u8],
+        pool: &mut [u8],
+        marks: &mut [u8],
+        (line, start): (&mut usize, &mut u8),
+        (a, b, c): (&mut u64, &mut u64, &mut u64),
+    ) -> u32 {
+        ihex_sys::load_table(text, owner, table, pool, marks, line, start, a, b, c)
+    }
+
     fn page_file_length(&self, first: u32, page: &[u8], marks: &[u8], value: &mut u64) -> u32 {
         ihex_sys::page_file_length(first, page, marks, value)
     }
@@ -160,6 +177,19 @@ pub trait Port: Sync {
         (a, b, c): (&mut u64, &mut u64, &mut u64),
     ) -> u32 {
         ihex_sys::load_srecords(text, first, page, marks, line, start, a, b, c)
+    }
+
+    fn load_srecords_table(
+        &self,
+        text: &[u8],
+        owner: u32,
+        table: &[u8],
+        pool: &mut [u8],
+        marks: &mut [u8],
+        (line, start): (&mut usize, &mut u8),
+        (a, b, c): (&mut u64, &mut u64, &mut u64),
+    ) -> u32 {
+        ihex_sys::load_srecords_table(text, owner, table, pool, marks, line, start, a, b, c)
     }
 }
 

@@ -16,5 +16,6 @@ pub mod salvage;
 pub mod srecords;
 pub mod starts;
 pub mod sums;
+pub mod tables;
 pub mod texts;
 pub mod writes;

@@ -1,0 +1,11 @@
+-- `marks::clear_run` meets its contract: `change_run` meets its own, with the bits cleared.
+-- Assumes nothing.
+use borrow.Author.Needs.{needs}
+use Rattle.marks.proofs.clear_run.Statement.{statement}
+use Rattle.marks.proofs.clear_run.Tie as tie
+
+returns : tie.Need-returns
+returns c = record { left = c .before .before .change-run .ensures .left }
+
+pub clear-run-spec : {M : Type 1} → statement M
+clear-run-spec = tie.close (tie.spec (λ c κs. search needs) (λ c. search needs) returns)
