@@ -310,7 +310,8 @@ uint32_t ihex_check_table(const void *table, size_t table_len, size_t pool_len, 
  * differences. There is no 16: it is 23, with line 0, exactly if ihex_check_table refuses the table or `owner` is neither 1 nor 2, whatever the
  * text is. And 17 is for a byte that lies outside all windows of the owner. So without windows a data byte is 17, and a text of the end record
  * alone is accepted. A data record may lie in more than one window, also across the end of the addresses, byte by byte: with windows of 4
- * addresses from 100 on and of 2 from 104 on, a record may state 103 to 105.
+ * addresses from 100 on and of 2 from 104 on, a record may state 103 to 105. What ihex_load says of joined texts and of damaged texts is said of
+ * ihex_load alone, and not of a load through a table.
  * After an accepted load a place of the owner's windows is marked exactly if the text states a byte at its address; then it holds the last such
  * byte, and else the byte that it held. Every other byte of the pool and every other bit of the marks stays: those of the other owner, those of
  * no window, and the unused bits. A refused load changes no byte of pool or marks. What they held before changes no answer.

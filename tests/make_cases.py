@@ -19,10 +19,10 @@ TOP = 2**64 - 1
 POOL, OUT, PAGE, MARKS = 0xEE, 0xDD, 0xCC, 0xAA
 
 
-# The model, behind the record reader.
+# The model, after the record reader.
 
 def judge(line, pool, position):
-    """What the record reader answers, and the pool behind the call."""
+    """What the record reader answers, and the pool after the call."""
     refusal, given = read(line)
     if refusal is not None:
         return refusal, pool
@@ -36,7 +36,7 @@ def judge(line, pool, position):
 
 
 class TextReader:
-    """A text, behind how many of its lines the reader stands, and whether a stop was met."""
+    """A text, how many of its lines the reader has passed, and whether a stop was met."""
 
     def __init__(self, text, stop_after_first_error, stop_after_eof):
         self.rows = lines_of(text)
@@ -45,7 +45,7 @@ class TextReader:
         self.after_error, self.after_eof = stop_after_first_error, stop_after_eof
 
     def next(self, pool):
-        """What a call answers, with the payload at the pool's start, and the pool behind the call."""
+        """What a call answers, with the payload at the pool's start, and the pool after the call."""
         row = next((i for i in range(self.behind, len(self.rows)) if self.rows[i]), None)
         if self.stopped or row is None:
             return "done", pool

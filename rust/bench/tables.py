@@ -98,7 +98,7 @@ def whole(x):
 
 
 def shown(x):
-    """A multiple with two digits behind the point, a percentage, which is over 4, with one."""
+    """A multiple with two digits after the point, a percentage, which is over 4, with one."""
     return f"{x:.2f}" if x < 4 else f"{x:.1f}"
 
 

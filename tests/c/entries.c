@@ -5,7 +5,7 @@
 #include "marks.h"
 #include <ctype.h>
 
-#define MORE 100 /* the room behind a page's file, where there is more than it takes */
+#define MORE 100 /* the room after a page's file, where there is more than it takes */
 
 LENT(list_, MOST);
 LENT(carry_, MOST);
@@ -124,7 +124,7 @@ static int digit_of(int c)
     return isdigit(c) ? c - '0' : isxdigit(c) ? toupper(c) - 'A' + 10 : -1;
 }
 
-/* two bytes as the digits of a payload: they spell it, or the first of them that is no digit is named */
+/* two bytes as the digits of a payload: they spell it, or the first of them that is not a digit is named */
 static void pair_of_bytes(int high, int low)
 {
     char text[] = ":0100000000FF";
@@ -153,7 +153,7 @@ static void pairs_of_bytes(void)
     }
 }
 
-/* places of a line's first byte that is no digit, and what is named */
+/* places of a line's first byte that is not a digit, and what is named */
 static const struct {
     size_t at;
     uint64_t named;
@@ -164,7 +164,7 @@ static const struct {
 
 #define OFFENDERS (sizeof offenders / sizeof offenders[0])
 
-/* what may stand there, and behind it; the last with 600 digits */
+/* what may stand there, and after it; the last with 600 digits */
 static char long_rest[602];
 static const char *const rests[] = {"G", "g0", "GG:", "\r0", "\xC3\xA9", "\x80" "0", long_rest};
 
@@ -232,7 +232,7 @@ static int stands(size_t p, size_t l, uint8_t f)
     return position.value == p && line.value == l && flags.value == f;
 }
 
-/* data, an empty line, a wrong checksum, an end record, and a line behind it */
+/* data, an empty line, a wrong checksum, an end record, and a line after it */
 static const char mixed[] = ":04012000102030403B\n\n:00000001FE\n:00000001FF\n:G";
 
 static void stops(void)
@@ -286,7 +286,7 @@ static void line_ends(void)
     CHECK(next("\r\n:00000001FF\r\n\r\r\n:00000001FF\r", 0, 0) == IHEX_DONE);
 }
 
-/* what stands ahead of a spoilt line: an empty line, and an odd one */
+/* what stands before a spoilt line: an empty line, and an odd one */
 static const char two_ahead[] = "\n:00000001FF0\r\n";
 
 /* a place is counted in its line, and no line end counts */
@@ -309,7 +309,7 @@ static void places_in_texts(void)
             }
 }
 
-/* no text; a position behind it; bits that mean nothing */
+/* no text; a position after it; bits that mean nothing */
 static void states(void)
 {
     begin(0);
@@ -428,7 +428,7 @@ static int answers(uint32_t r, const struct answer *e, const char *text)
     return r < IHEX_REFUSED ? shows(text + e->at, e->len) : nowhere();
 }
 
-/* how much of a line has come, the place of its first byte from 521 on that is no digit, or 0, and whether a CR waits */
+/* how much of a line has come, the place of its first byte from 521 on that is not a digit, or 0, and whether a CR waits */
 static struct {
     size_t len, other;
     int cr;
@@ -456,7 +456,7 @@ static void come(const char *bytes, size_t n)
         }
 }
 
-/* how many digits of it are left out ahead of the last byte that a carry holds */
+/* how many digits of it are left out before the last byte that a carry holds */
 static uint16_t left_out(void)
 {
     size_t n = begun.len <= IHEX_CARRY ? 0 : (begun.other ? begun.other : begun.len - 1) - (IHEX_CARRY - 1);
@@ -615,7 +615,7 @@ static void waiting_CR(void)
     CHECK(stands(0, 4, IHEX_FINISHED) && nowhere());
 }
 
-/* lines about the longest and far over it: digits only, or with a byte that is none at a place */
+/* lines about the longest and far over it: digits only, or with a byte that is not a digit at a place */
 static void long_lines(void)
 {
     static const size_t lengths[] = {519, 520, 521, 522, 523, 524, 1043, 5000, 70000}, places[] = {0, 1, 520, 521, 522, 523, 4999, 69999};
@@ -637,7 +637,7 @@ static void long_lines(void)
     }
 }
 
-/* a text with a spoilt line behind so many bytes: cut ahead of its place, behind it, where the carry is full, and in equal parts */
+/* a text with a spoilt line after so many bytes: cut before its place, after it, where the carry is full, and in equal parts */
 static void in_all_cuts(size_t n, size_t ahead, size_t at)
 {
     static const size_t full[] = {521, 522, 523}, steps[] = {1, 17, 4096};
@@ -668,7 +668,7 @@ static void places_in_chunks(void)
         }
 }
 
-/* each byte in the last place that the carry holds, ahead of one that is no digit: it is left out exactly where it is a digit */
+/* each byte in the last place that the carry holds, before one that is not a digit: it is left out exactly where it is a digit */
 static void bytes_behind_521(void)
 {
     static char text[IHEX_CARRY + 2];
@@ -687,7 +687,7 @@ static void bytes_behind_521(void)
     }
 }
 
-/* a CR is the line's at the text's end and ahead of another CR, and the line end's ahead of LF */
+/* a CR is the line's at the text's end and before another CR, and the line end's before LF */
 static void places_of_CR(void)
 {
     static const char *const ends[] = {"\r", "\r\r", "\r\r\n", "\r\n"};
@@ -726,7 +726,7 @@ static int begins(uint32_t r, size_t n, uint16_t out)
     return r == IHEX_USED_UP && used.value == n && skipped.value == out && line.value == 0;
 }
 
-/* a count, one more, and 600 more; the place of the carry's last byte, and of the one behind it */
+/* a count, one more, and 600 more; the place of the carry's last byte, and of the one after it */
 struct counted {
     uint16_t out, one, many;
     uint64_t last, next;
@@ -734,7 +734,7 @@ struct counted {
 
 static char six_hundred[601];
 
-/* a full carry whose last byte is no digit: it stays, and so does its place */
+/* a full carry whose last byte is not a digit: it stays, and so does its place */
 static void last_is_no_digit(const struct counted *c)
 {
     make_up(522, 'G', c->out);
@@ -778,7 +778,7 @@ static void last_is_a_CR(const struct counted *c)
     CHECK(begins(feed_text("\r", 0, 0), 522, c->out) && refuses(feed_text("\n", 0, 0), IHEX_RECORD_TOO_LONG, 0));
 }
 
-/* a place ahead of the carry's last byte is the line's own; without a colon there is none */
+/* a place before the carry's last byte is the line's own; without a colon there is none */
 static void ahead_of_the_last(const struct counted *c)
 {
     make_up(522, 'G', c->out);
@@ -940,7 +940,7 @@ static void small_carry(void)
         }
 }
 
-/* every setting of the flags, positions behind the end, and counts of used bytes and of digits left out that no call leaves */
+/* every setting of the flags, positions after the end, and counts of used bytes and of digits left out that no call leaves */
 static void made_up_states(void)
 {
     static const size_t places[] = {0, 21, SIZE_MAX}, counts[] = {0, 1, 522};
@@ -1230,7 +1230,7 @@ static void loads_in_windows(void)
     CHECK(load(doc, 0, 0) == IHEX_REFUSED + IHEX_OUTSIDE_WINDOW);
     CHECK(not_loaded(0x12005, 0, 2));
 
-    /* the last statement stands; text behind the end is not read; no data at all */
+    /* the last statement stands; text after the end is not read; no data at all */
     CHECK(load(":0100000011EE\n:0100000022DD\n:00000001FF\n:G\n", 0, 2) == IHEX_OK);
     CHECK(loaded(2, "10", 0, "\x22"));
     CHECK(load(end_line, 0xFFFFFFFF, 0) == IHEX_OK);
@@ -1312,7 +1312,7 @@ static void refused_loads(void)
     CHECK(not_loaded(0, 0, 0));
 }
 
-/* the place of a byte that is no digit, with its line; what stands behind that line is not read */
+/* the place of a byte that is not a digit, with its line; what stands after that line is not read */
 static void places_in_loads(void)
 {
     static const char *const behinds[] = {"", "\n:00000001FF\n", "\r\n0\n"};
@@ -1563,7 +1563,7 @@ static uint32_t page_file(size_t out_len)
     return r;
 }
 
-/* how many data records a file has: a line's type stands behind its colon, length and address */
+/* how many data records a file has: a line's type stands after its colon, length and address */
 static uint64_t data_records(const char *text, size_t n)
 {
     uint64_t count = 0;
@@ -1702,7 +1702,7 @@ static void has_text(const char *text)
 #define AB4 "ABABABAB"
 #define AB16 AB4 AB4 AB4 AB4
 
-/* a run across a multiple of 65,536 is cut there, and a gap across it has the type 04 record behind it */
+/* a run across a multiple of 65,536 is cut there, and a gap across it has the type 04 record after it */
 static void pages_across_a_multiple(void)
 {
     open_window(0xFFFE, 20);

@@ -149,7 +149,7 @@ static void refused_with(size_t table_len, size_t pool_len, size_t marks_len)
     end_case();
 }
 
-/* it is not refused: the end alone is accepted for both owners, and for no other */
+/* it is not refused: the end alone, of each kind of text, is accepted for both owners, and for no other */
 static void taken_with(size_t table_len, size_t pool_len)
 {
     static const uint32_t others[] = {0, 3, 257, 0x10001, 0x80000002, 0xFFFFFFFF};
@@ -157,19 +157,19 @@ static void taken_with(size_t table_len, size_t pool_len)
     size_t i;
     begin_case();
     CHECK(checked(table_len, pool_len, packed_len(pool_len)) == IHEX_OK);
-    for (i = 0; i < 2; i++) {
-        begin_text(i ? SRECORDS : INTEL);
+    for (kind = INTEL; kind <= SRECORDS; kind++) {
+        begin_text(kind);
         end();
         for (owner = 1; owner <= 2; owner++) {
             lend(&page_, pool_len);
             lend(&marks_, packed_len(pool_len));
             CHECK(load_through(owner, table_len) == IHEX_OK && no_other_start() && a.value == 0 && untouched(&page_));
         }
-    }
-    for (i = 0; i < COUNT(others); i++) {
-        lend(&page_, pool_len);
-        lend(&marks_, packed_len(pool_len));
-        CHECK(load_through(others[i], table_len) == R(IHEX_BAD_TABLE) && not_loaded(0, 0, 0));
+        for (i = 0; i < COUNT(others); i++) {
+            lend(&page_, pool_len);
+            lend(&marks_, packed_len(pool_len));
+            CHECK(load_through(others[i], table_len) == R(IHEX_BAD_TABLE) && not_loaded(0, 0, 0));
+        }
     }
     end_case();
 }
@@ -326,7 +326,7 @@ static void overlaps(void)
     pair(WINDOW(1, 0, 4, 0), WINDOW(1, 8, 4, FOUR_G), 8, 0);
 }
 
-/* each two of 16 windows, alike in one place or in one address */
+/* each two of 16 windows, alike in their places or in one address; no other two share either */
 static void each_two(void)
 {
     window rows[IHEX_MOST_WINDOWS];
@@ -337,8 +337,8 @@ static void each_two(void)
             for (n = 0; n < COUNT(rows); n++)
                 rows[n] = WINDOW(1, (uint32_t)(16 * n), 2, 2 * n);
             taken_with(spell(rows, COUNT(rows)), 32);
-            rows[i].place = rows[k].place + 1;
-            refused_with(spell(rows, COUNT(rows)), 33, 5);
+            rows[i].place = rows[k].place;
+            refused_with(spell(rows, COUNT(rows)), 32, 4);
             rows[i].place = 2 * i;
             rows[i].first = rows[k].first + 1;
             refused_with(spell(rows, COUNT(rows)), 32, 4);
@@ -615,18 +615,18 @@ static void refusals(void)
 static void starts_and_ends(void)
 {
     static const window row = {1, 0, 4, 1};
-    static const char *const behinds[] = {"", ":0100000099 66\n", "x\n", ":04000005000000CE29\n", "S1040000996 2\n"};
+    static const char *const rests[] = {"", ":0100000099 66\n", "x\n", ":04000005000000CE29\n", "S1040000996 2\n"};
     size_t i;
-    for (i = 0; i < COUNT(behinds); i++) {
+    for (i = 0; i < COUNT(rests); i++) {
         begin_text(INTEL);
-        sprintf(text, ":0100020011EC\n:04000005000000CD2A\n:00000001FF\n%s", behinds[i]);
+        sprintf(text, ":0100020011EC\n:04000005000000CD2A\n:00000001FF\n%s", rests[i]);
         CHECK(through(1, &row, 1, 6) == IHEX_OK && starts(IHEX_START_LINEAR_ADDRESS, 0xCD, 0) && a.value == 1 && left(".0010.", "\x11"));
-        sprintf(text, ":0400000312000010D7\n:00000001FF\n%s", behinds[i]);
+        sprintf(text, ":0400000312000010D7\n:00000001FF\n%s", rests[i]);
         CHECK(through(1, &row, 1, 6) == IHEX_OK && starts(IHEX_START_SEGMENT_ADDRESS, 0x1200, 0x10) && left(".0000.", ""));
-        sprintf(text, ":0100020011EC\n:00000001FE\n%s", behinds[i]);
+        sprintf(text, ":0100020011EC\n:00000001FE\n%s", rests[i]);
         CHECK(through(1, &row, 1, 6) == R(IHEX_CHECKSUM_MISMATCH) && not_loaded(0xFF, 0xFE, 2));
         begin_text(SRECORDS);
-        sprintf(text, "S104000211E8\nS5030001FB\nS8041234565F\n%s", behinds[i]);
+        sprintf(text, "S104000211E8\nS5030001FB\nS8041234565F\n%s", rests[i]);
         CHECK(through(1, &row, 1, 6) == IHEX_OK && starts(IHEX_START_LINEAR_ADDRESS, 0x123456, 0) && a.value == 1 && left(".0010.", "\x11"));
     }
 }
@@ -663,18 +663,14 @@ struct answer {
 
 static struct answer answered(uint32_t code)
 {
-    struct answer found;
-    memset(&found, 0, sizeof found);
-    found.code = code;
-    found.line = line.value;
-    found.start = started.value;
-    found.values[0] = a.value, found.values[1] = b.value, found.values[2] = c.value;
+    struct answer found = {code, line.value, started.value, {a.value, b.value, c.value}};
     return found;
 }
 
 static int alike(struct answer x, struct answer y)
 {
-    return memcmp(&x, &y, sizeof x) == 0;
+    return x.code == y.code && x.line == y.line && x.start == y.start && x.values[0] == y.values[0] && x.values[1] == y.values[1] &&
+           x.values[2] == y.values[2];
 }
 
 /* one window that fills the pool: the load is that of the one-window loader, but for the unused bits */

@@ -8,7 +8,8 @@ use lib.ListN.{length, getD, List·getD-eq-default}
 use borrow.Author.Tests.{lt-ltb, le-ltb}
 use Rattle.digits.proofs.Tests.{split}
 use Rattle.window.specs.declared.Row.{Row}
-use Rattle.entries.specs.Entry.{four-at, eight-at, nobody, window-at, row-at, rows-from, rows-of}
+use Rattle.window.specs.Table.{nobody}
+use Rattle.entries.specs.Entry.{four-at, eight-at, window-at, row-at, rows-from, rows-of}
 use Rattle.entries.specs.Claims.{Rows-length, Rows-each}
 
 -- a window that the table has

@@ -11,7 +11,8 @@ use Rattle.record.specs.declared.Record.the-variants.{Data, EndOfFile, StartSeg
 use Rattle.writer.specs.Claims.{In-range}
 use Rattle.window.specs.declared.Row.{Row}
 use Rattle.entries.specs.declared.Attempt.{Attempt}
-use Rattle.entries.specs.Entry.{records-of, nobody, row-at, RowAt, rows-of}
+use Rattle.window.specs.Table.{nobody}
+use Rattle.entries.specs.Entry.{records-of, row-at, RowAt, rows-of}
 use Rattle.entries.specs.declared.SAttempt.{SAttempt}
 use Rattle.entries.specs.Attempts.{WriteRecord, WriteSRecord, WriteList}
 

@@ -13,6 +13,7 @@ use Rattle.srec.specs.declared.SType.{SType}
 use Rattle.srec.specs.declared.SType.the-variants.{S0, S1, S2, S3, S5, S7, S8, S9}
 use Rattle.srec.specs.declared.SRecord.{SRecord}
 use Rattle.window.specs.declared.Row.{Row}
+use Rattle.window.specs.Table.{nobody}
 use Rattle.entries.specs.declared.Entry.{Entry}
 use Rattle.entries.specs.declared.Entry.the-variants.{Is, Bad}
 
@@ -87,9 +88,9 @@ entry-of Bad = none
 
 -- ---- a table in bytes
 
--- what is given for a window that a table does not have
-abbrev pub nobody : Row
-nobody = record { owner = 0; first = 0; size = 0; place = 0 }
+-- the bytes of a window in a table
+abbrev pub WINDOW-SIZE : ℕ
+WINDOW-SIZE = 24
 
 -- a window of 24 bytes: owner (4), first address (4), length (8), place (8)
 abbrev pub window-at : List ℕ → (at : ℕ) → Row
@@ -98,7 +99,7 @@ window-at bytes at =
 
 -- window i of a table, the first is 0
 unfoldable pub row-at : List ℕ → (i : ℕ) → Row
-row-at table i = if ltb i (length table / 24) then window-at table (24 * i) else nobody
+row-at table i = if ltb i (length table / WINDOW-SIZE) then window-at table (WINDOW-SIZE * i) else nobody
 
 pub record RowAt (table : List ℕ) (i : ℕ) (r : Row) : Type 0 where
   pub answer : r ≡ row-at table i
@@ -112,4 +113,4 @@ rows-from table i (suc n) = row-at table i ∷ rows-from table (suc i) n
 -- the windows of a table; a rest of fewer than 24 bytes is none
 unfoldable pub rows-of : List ℕ → List Row
 unfolding rows-from
-rows-of table = rows-from table 0 (length table / 24)
+rows-of table = rows-from table 0 (length table / WINDOW-SIZE)

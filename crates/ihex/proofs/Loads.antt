@@ -10,21 +10,20 @@ use native.Mathlib.Omega.{arith}
 use lib.ListN.{length, getD}
 use Rattle.digits.specs.Common.{Every}
 use Rattle.marks.specs.Marks.{mark-at, flags, Unused-clear}
-use Rattle.record.specs.Refusals.{Refusal}
-use Rattle.record.specs.Meaning.{end-of-file}
+use Rattle.record.specs.Refusals.{Refusal, bad-window}
 use Rattle.reader.specs.Lines.{lines}
 use Rattle.steps.specs.Steps.{Start, cs-with-ip, linear-address, Tally, Verdict, accepted, refused}
-use Rattle.steps.specs.Starts.{Starts-at}
 use Rattle.steps.specs.Source.{Source}
 use Rattle.steps.specs.Account.{Account, All-pass}
 use Rattle.window.specs.Window.{within}
 use Rattle.window.specs.Load.{load-window}
 use Rattle.window.specs.Loads.{Alike}
-use Rattle.window.specs.Reasons.{Load-reasons, Load-one-reason, bad-one, no-end, at-line}
+use Rattle.window.specs.Claims.{Window}
+use Rattle.window.specs.Reasons.{Why-in, bad-one, no-end, at-line, Load-reasons, Load-one-reason}
 use Rattle.window.proofs.Loads.{non-interference, same-placements, what-is-stored, refusal-changes-nothing}
 use Rattle.window.proofs.AsBytes.{packed-as-bytes}
 use Rattle.loader.specs.Placing.{intel}
-use Rattle.loader.specs.Claims.{record-on, start-on, Stops, the-end, no-record, first-outside, start-differs, account, Why}
+use Rattle.loader.specs.Claims.{Stops, the-end, no-record, first-outside, start-differs, account}
 use Rattle.loader.proofs.Claims.{reasons}
 use Rattle.loader.proofs.OneReason.{one-reason}
 use Rattle.loader.proofs.Stored.{none-ends}
@@ -38,7 +37,7 @@ use Rattle.srecload.proofs.Stored.{none-ends as s-none-ends}
 use Rattle.codes.specs.Codes.{OK, Load-numbers, load-numbers, kind-of-start, start-values}
 use Rattle.codes.proofs.Says.{was-accepted, was-refused}
 use Rattle.ihex.specs.Entries.{IhexLoadBy}
-use Rattle.ihex.specs.Loads.{Load-non-interference, Load-what-is-stored, Load-keeps, Load-packed-as-bytes, Load-reasoned, In-numbers, no-start, cs-ip, linear, Up-to, S-end, Ihex-load-start, Ihex-load-srecords-start, Load-refused-no-start, Ihex-refused-no-start, Ihex-load-srecords-refused-no-start, Ihex-non-interference, Ihex-what-is-stored, Ihex-load-keeps, Ihex-load-reasons, Ihex-packed-as-bytes, Ihex-load-srecords-non-interference, Ihex-load-srecords-what-is-stored, Ihex-load-srecords-keeps, Ihex-load-srecords-reasons, Ihex-load-srecords-packed-as-bytes, Ihex-both-kinds}
+use Rattle.ihex.specs.Loads.{Load-non-interference, Load-what-is-stored, Load-keeps, Load-packed-as-bytes, Load-reasoned, In-numbers, no-start, cs-ip, linear, S-end, Start-told, S-start-told, Ihex-load-start, Ihex-load-srecords-start, Load-refused-no-start, Ihex-refused-no-start, Ihex-load-srecords-refused-no-start, Ihex-non-interference, Ihex-what-is-stored, Ihex-load-keeps, Ihex-load-reasons, Ihex-packed-as-bytes, Ihex-load-srecords-non-interference, Ihex-load-srecords-what-is-stored, Ihex-load-srecords-keeps, Ihex-load-srecords-reasons, Ihex-load-srecords-packed-as-bytes, Ihex-both-kinds}
 
 -- ---- of any source
 
@@ -114,60 +113,50 @@ start-numbers r t e = rw e (go (t .start) refl)
     go (some (linear-address address)) q =
         linear address (ap kind-of-start q) (ap (λ (s : Option Start). getD (start-values s) 0 0) q) (ap (λ (s : Option Start). getD (start-values s) 1 0) q)
 
+-- by the reason of an acceptance: the line that decides is the end record
+module _ (text : List ℕ) (Good Bad : Type 0) (bad : Refusal) (inside : ℕ → Bool) (r : Load-numbers) where
+  at-end : (t : Tally) → r ≡ load-numbers (accepted t) → (ahead : List (List ℕ)) (line : List ℕ) (later : List (List ℕ)) (n : ℕ) (v : Verdict)
+      → lines text ≡ ahead ++ (line ∷ later) → All-pass (account inside) [] ahead → Stops inside ahead line n v → v ≡ accepted t → Start-told text r
+  at-end t e ahead line later n v w pass (the-end tally is c) q =
+      let same : tally ≡ t = cc in
+      (ahead, tally .start, record { line = line; later = later; whole = w; last = is; none-earlier = none-ends inside [] ahead pass }, c .start, start-numbers r tally (rw (← same) at e))
+  at-end t e ahead line later n v w pass (no-record f b is) q = let z : _≡_ {A = ℕ} 0 1 = cc in absurd (omega arith)
+  at-end t e ahead line later n v w pass (first-outside before after pl is i o) q = let z : _≡_ {A = ℕ} 0 1 = cc in absurd (omega arith)
+  at-end t e ahead line later n v w pass (start-differs s first-start is h d) q = let z : _≡_ {A = ℕ} 0 1 = cc in absurd (omega arith)
+
+  pub start-by-reason : (t : Tally) → r ≡ load-numbers (accepted t) → {v : Verdict} → Why-in intel account text Good Bad bad inside v → v ≡ accepted t → Start-told text r
+  start-by-reason t e (bad-one w) q = let z : _≡_ {A = ℕ} 0 1 = cc in absurd (omega arith)
+  start-by-reason t e (no-end w all) q = let z : _≡_ {A = ℕ} 0 1 = cc in absurd (omega arith)
+  start-by-reason t e (at-line n v w d) q = at-end t e (d .ahead) (d .line) (d .later) n v (d .whole) (d .pass) (d .stops) q
+
 pub ihex-load-start : Ihex-load-start
 ihex-load-start text first page marks r p m x ok =
     let (t, k) = accepts intel text first page marks r p m x ok in
-    go t (x .numbers ∙ ap load-numbers k) (reasons text first page marks) k
-  where
-    inside : ℕ → Bool
-    inside = within first (length page)
-
-    Told : Type 0
-    Told = (ahead : List (List ℕ)) × (o : Option Start)
-        × Up-to (λ (line : List ℕ). record-on line ≡ some end-of-file) (lines text) ahead × Starts-at start-on ahead o × In-numbers r o
-
-    at-end : (t : Tally) → r ≡ load-numbers (accepted t) → (ahead : List (List ℕ)) (line : List ℕ) (later : List (List ℕ)) (n : ℕ) (v : Verdict)
-        → lines text ≡ ahead ++ (line ∷ later) → All-pass (account inside) [] ahead → Stops inside ahead line n v → v ≡ accepted t → Told
-    at-end t e ahead line later n v w pass (the-end tally is c) q =
-        let same : tally ≡ t = cc in
-        (ahead, tally .start, record { line = line; later = later; whole = w; last = is; none-earlier = none-ends inside [] ahead pass }, c .start, start-numbers r tally (rw (← same) at e))
-    at-end t e ahead line later n v w pass (no-record f b is) q = let z : _≡_ {A = ℕ} 0 1 = cc in absurd (omega arith)
-    at-end t e ahead line later n v w pass (first-outside before after pl is i o) q = let z : _≡_ {A = ℕ} 0 1 = cc in absurd (omega arith)
-    at-end t e ahead line later n v w pass (start-differs s first-start is h d) q = let z : _≡_ {A = ℕ} 0 1 = cc in absurd (omega arith)
-
-    go : (t : Tally) → r ≡ load-numbers (accepted t) → {v : Verdict} → Why text first page marks v → v ≡ accepted t → Told
-    go t e (bad-one w) q = let z : _≡_ {A = ℕ} 0 1 = cc in absurd (omega arith)
-    go t e (no-end w all) q = let z : _≡_ {A = ℕ} 0 1 = cc in absurd (omega arith)
-    go t e (at-line n v w d) q = at-end t e (d .ahead) (d .line) (d .later) n v (d .whole) (d .pass) (d .stops) q
+    start-by-reason text (Window first page marks) (¬ Window first page marks) bad-window (within first (length page)) r t (x .numbers ∙ ap load-numbers k) (reasons text first page marks) k
 
 none-earlier : (ls : List (List ℕ)) → Every No-end ls → Every (λ (line : List ℕ). ¬ S-end line) ls
 none-earlier [] h = tt
 none-earlier (l ∷ ls) (n, h) = (λ e. n (e .0) (e .1), none-earlier ls h)
 
+module _ (text : List ℕ) (Good Bad : Type 0) (bad : Refusal) (inside : ℕ → Bool) (r : Load-numbers) where
+  s-at-end : (t : Tally) → r ≡ load-numbers (accepted t) → (ahead : List (List ℕ)) (line : List ℕ) (later : List (List ℕ)) (n : ℕ) (v : Verdict)
+      → lines text ≡ ahead ++ (line ∷ later) → All-pass (s-account inside) [] ahead → s-claims.Stops inside ahead line n v → v ≡ accepted t → S-start-told text r
+  s-at-end t e ahead line later n v w pass (s-claims.the-end address is) q =
+      let same : record { records = s-claims.data-records ahead; start = some (linear-address address) } ≡ t = cc in
+      (ahead, record { line = line; later = later; whole = w; last = (address, is); none-earlier = none-earlier ahead (s-none-ends inside [] ahead pass) }, start-numbers r _ (rw (← same) at e))
+  s-at-end t e ahead line later n v w pass (s-claims.no-record f b is) q = let z : _≡_ {A = ℕ} 0 1 = cc in absurd (omega arith)
+  s-at-end t e ahead line later n v w pass (s-claims.first-outside before after pl is i o) q = let z : _≡_ {A = ℕ} 0 1 = cc in absurd (omega arith)
+  s-at-end t e ahead line later n v w pass (s-claims.count-differs c is d) q = let z : _≡_ {A = ℕ} 0 1 = cc in absurd (omega arith)
+
+  pub s-start-by-reason : (t : Tally) → r ≡ load-numbers (accepted t) → {v : Verdict} → Why-in s-records s-account text Good Bad bad inside v → v ≡ accepted t → S-start-told text r
+  s-start-by-reason t e (bad-one w) q = let z : _≡_ {A = ℕ} 0 1 = cc in absurd (omega arith)
+  s-start-by-reason t e (no-end w all) q = let z : _≡_ {A = ℕ} 0 1 = cc in absurd (omega arith)
+  s-start-by-reason t e (at-line n v w d) q = s-at-end t e (d .ahead) (d .line) (d .later) n v (d .whole) (d .pass) (d .stops) q
+
 pub ihex-load-srecords-start : Ihex-load-srecords-start
 ihex-load-srecords-start text first page marks r p m x ok =
     let (t, k) = accepts s-records text first page marks r p m x ok in
-    go t (x .numbers ∙ ap load-numbers k) (s-reasons text first page marks) k
-  where
-    inside : ℕ → Bool
-    inside = within first (length page)
-
-    Told : Type 0
-    Told = (ahead : List (List ℕ)) × (u : Up-to S-end (lines text) ahead) × In-numbers r (some (linear-address (u .last .0)))
-
-    at-end : (t : Tally) → r ≡ load-numbers (accepted t) → (ahead : List (List ℕ)) (line : List ℕ) (later : List (List ℕ)) (n : ℕ) (v : Verdict)
-        → lines text ≡ ahead ++ (line ∷ later) → All-pass (s-account inside) [] ahead → s-claims.Stops inside ahead line n v → v ≡ accepted t → Told
-    at-end t e ahead line later n v w pass (s-claims.the-end address is) q =
-        let same : record { records = s-claims.data-records ahead; start = some (linear-address address) } ≡ t = cc in
-        (ahead, record { line = line; later = later; whole = w; last = (address, is); none-earlier = none-earlier ahead (s-none-ends inside [] ahead pass) }, start-numbers r _ (rw (← same) at e))
-    at-end t e ahead line later n v w pass (s-claims.no-record f b is) q = let z : _≡_ {A = ℕ} 0 1 = cc in absurd (omega arith)
-    at-end t e ahead line later n v w pass (s-claims.first-outside before after pl is i o) q = let z : _≡_ {A = ℕ} 0 1 = cc in absurd (omega arith)
-    at-end t e ahead line later n v w pass (s-claims.count-differs c is d) q = let z : _≡_ {A = ℕ} 0 1 = cc in absurd (omega arith)
-
-    go : (t : Tally) → r ≡ load-numbers (accepted t) → {v : Verdict} → s-claims.Why text first page marks v → v ≡ accepted t → Told
-    go t e (bad-one w) q = let z : _≡_ {A = ℕ} 0 1 = cc in absurd (omega arith)
-    go t e (no-end w all) q = let z : _≡_ {A = ℕ} 0 1 = cc in absurd (omega arith)
-    go t e (at-line n v w d) q = at-end t e (d .ahead) (d .line) (d .later) n v (d .whole) (d .pass) (d .stops) q
+    s-start-by-reason text (Window first page marks) (¬ Window first page marks) bad-window (within first (length page)) r t (x .numbers ∙ ap load-numbers k) (s-reasons text first page marks) k
 
 pub ihex-refused-no-start : Ihex-refused-no-start
 ihex-refused-no-start = load-refused-no-start intel

@@ -109,22 +109,28 @@ pub record Up-to (Last : List ℕ → Type 0) (ls ahead : List (List ℕ)) : Typ
   pub last : Last line
   pub none-earlier : Every (λ (l : List ℕ). ¬ Last l) ahead
 
--- where `ihex_load` returns IHEX_OK, its start is that of the first line before the end record that states one, and else none
+-- the start of a text of Intel HEX, in numbers: that of the first line before the end record that states one, and else none
+abbrev pub Start-told : (text : List ℕ) → Load-numbers → Type 0
+Start-told text r =
+    (ahead : List (List ℕ)) × (o : Option Start)
+    × Up-to (λ (line : List ℕ). record-on line ≡ some end-of-file) (lines text) ahead × Starts-at start-on ahead o × In-numbers r o
+
+-- where `ihex_load` returns IHEX_OK, it is told
 abbrev pub Ihex-load-start : Type 0
 Ihex-load-start =
-    (text : List ℕ) (first : ℕ) (page marks : List ℕ) (r : Load-numbers) (p m : List ℕ) → IhexLoad text first page marks r p m → r .code ≡ OK
-    → (ahead : List (List ℕ)) × (o : Option Start)
-    × Up-to (λ (line : List ℕ). record-on line ≡ some end-of-file) (lines text) ahead × Starts-at start-on ahead o × In-numbers r o
+    (text : List ℕ) (first : ℕ) (page marks : List ℕ) (r : Load-numbers) (p m : List ℕ) → IhexLoad text first page marks r p m → r .code ≡ OK → Start-told text r
 
 -- a line is an end of S-records, with this address
 abbrev pub S-end : (line : List ℕ) → Type 0
 S-end line = (address : ℕ) × (srecord-on line ≡ some (s-end address))
 
--- where `ihex_load_srecords` does, it is the address of the first end, as a linear address
+-- the start of a text of S-records, in numbers: the address of the first end, as a linear address
+abbrev pub S-start-told : (text : List ℕ) → Load-numbers → Type 0
+S-start-told text r = (ahead : List (List ℕ)) × (u : Up-to S-end (lines text) ahead) × In-numbers r (some (linear-address (u .last .0)))
+
 abbrev pub Ihex-load-srecords-start : Type 0
 Ihex-load-srecords-start =
-    (text : List ℕ) (first : ℕ) (page marks : List ℕ) (r : Load-numbers) (p m : List ℕ) → IhexLoadSrecords text first page marks r p m → r .code ≡ OK
-    → (ahead : List (List ℕ)) × (u : Up-to S-end (lines text) ahead) × In-numbers r (some (linear-address (u .last .0)))
+    (text : List ℕ) (first : ℕ) (page marks : List ℕ) (r : Load-numbers) (p m : List ℕ) → IhexLoadSrecords text first page marks r p m → r .code ≡ OK → S-start-told text r
 
 -- a refusal reports no start
 abbrev pub Load-refused-no-start : {S : Type 0} → Source S → Type 0

@@ -1,10 +1,10 @@
 -- What is claimed of `ihex_load_table`, `ihex_load_srecords_table` and `ihex_check_table`, in their numbers: document 02, wish 12. Each is said once for
 -- a load of any source, and then of both. Each claim is proved in `proofs/Tables.antt`.
 -- Assumes nothing.
-use Prim.Native.Nat.{ℕ, _%_, _≤_, _<_}
+use Prim.Native.Nat.{ℕ, _+_, _%_, _≤_, _<_}
 use mathlib.Core.Path.{_≡_}
 use mathlib.Core.Logic.{_≢_, _↔_, _⊎_}
-use mathlib.Core.Bool.{Bool, false}
+use mathlib.Core.Bool.{Bool, true}
 use mathlib.Core.Option.{some}
 use mathlib.Core.List.{List, [], _∷_}
 use lib.Dec.{eqb}
@@ -16,19 +16,18 @@ use Rattle.steps.specs.Steps.{Verdict, by, stated}
 use Rattle.steps.specs.Source.{Source, steps-of}
 use Rattle.steps.specs.Sites.{Shown, Owed}
 use Rattle.steps.specs.Account.{Account}
-use Rattle.window.specs.Window.{unfit}
 use Rattle.window.specs.Table.{Is-owner, row, site-of}
 use Rattle.window.specs.Tables.{stopping-by-table, Cabinet, Same-for}
-use Rattle.window.specs.Reasons.{Why-table}
+use Rattle.window.specs.Reasons.{Why-table, one-of}
 use Rattle.loader.specs.Placing.{intel}
-use Rattle.loader.specs.Claims.{account}
+use Rattle.loader.specs.Claims.{account, line-refusals}
 use Rattle.srecload.specs.Placing.{s-records}
-use Rattle.srecload.specs.Claims.{account as s-account}
-use Rattle.entries.specs.Entry.{rows-of}
+use Rattle.srecload.specs.Claims.{account as s-account, line-refusals as s-line-refusals}
+use Rattle.entries.specs.Entry.{WINDOW-SIZE, rows-of}
 use Rattle.table.specs.Claims.{Bad-bytes}
 use Rattle.codes.specs.Codes.{OK, BAD-TABLE, Load-numbers}
 use Rattle.ihex.specs.Entries.{IhexLoadBy, IhexLoadTableBy, IhexCheckTable}
-use Rattle.ihex.specs.Loads.{Reasoned}
+use Rattle.ihex.specs.Loads.{Reasoned, Start-told, S-start-told}
 
 -- ---- what is refused
 
@@ -38,10 +37,10 @@ Ihex-check-table-exactly =
     (table : List ℕ) (pool marks r : ℕ) → IhexCheckTable table pool marks r
     → ((r ≡ OK) ⊎ (r ≡ BAD-TABLE)) × ((owner : ℕ) → Is-owner owner → (r ≡ BAD-TABLE) ↔ Bad-bytes owner table pool marks)
 
--- bytes that are no whole windows: 23 at line 0, and nothing changes
+-- bytes whose number is not a multiple of 24: 23 at line 0, and nothing changes
 abbrev pub Table-torn : {S : Type 0} → Source S → Type 0
 Table-torn src =
-    (text : List ℕ) (owner : ℕ) (table pool marks : List ℕ) (r : Load-numbers) (p m : List ℕ) → IhexLoadTableBy src text owner table pool marks r p m → length table % 24 ≢ 0
+    (text : List ℕ) (owner : ℕ) (table pool marks : List ℕ) (r : Load-numbers) (p m : List ℕ) → IhexLoadTableBy src text owner table pool marks r p m → length table % WINDOW-SIZE ≢ 0
     → (r .code ≡ BAD-TABLE) × (r .line ≡ 0) × (p ≡ pool) × (m ≡ marks)
 
 abbrev pub Ihex-load-table-torn : Type 0
@@ -50,10 +49,34 @@ Ihex-load-table-torn = Table-torn intel
 abbrev pub Ihex-load-srecords-table-torn : Type 0
 Ihex-load-srecords-table-torn = Table-torn s-records
 
--- of whole windows, what is returned has a reason, and nothing else has one: 23 exactly where a limit is broken, and else as in the lines
+-- 23 exactly where the table or the call is refused, and then with line 0
+abbrev pub Table-refused-exactly : {S : Type 0} → Source S → Type 0
+Table-refused-exactly src =
+    (text : List ℕ) (owner : ℕ) (table pool marks : List ℕ) (r : Load-numbers) (p m : List ℕ) → IhexLoadTableBy src text owner table pool marks r p m
+    → ((r .code ≡ BAD-TABLE) ↔ Bad-bytes owner table (length pool) (length marks)) × (r .code ≡ BAD-TABLE → r .line ≡ 0)
+
+abbrev pub Ihex-load-table-refused-exactly : Type 0
+Ihex-load-table-refused-exactly = Table-refused-exactly intel
+
+abbrev pub Ihex-load-srecords-table-refused-exactly : Type 0
+Ihex-load-srecords-table-refused-exactly = Table-refused-exactly s-records
+
+-- what is returned is 0, or IHEX_REFUSED and one of these numbers: there is no 16
+abbrev pub Table-returns : {S : Type 0} → Source S → (numbers : List ℕ) → Type 0
+Table-returns src numbers =
+    (text : List ℕ) (owner : ℕ) (table pool marks : List ℕ) (r : Load-numbers) (p m : List ℕ) → IhexLoadTableBy src text owner table pool marks r p m
+    → (r .code ≡ OK) ⊎ ((n : ℕ) × (one-of numbers n ≡ true) × (r .code ≡ 256 + n))
+
+abbrev pub Ihex-load-table-returns : Type 0
+Ihex-load-table-returns = Table-returns intel (13 ∷ 23 ∷ line-refusals)
+
+abbrev pub Ihex-load-srecords-table-returns : Type 0
+Ihex-load-srecords-table-returns = Table-returns s-records (13 ∷ 23 ∷ s-line-refusals)
+
+-- of any other bytes, what is returned has a reason, and nothing else has one: 23 exactly where a limit is broken, and else as in the lines
 abbrev pub Table-reasoned : {S : Type 0} → Source S → (account : (inside : ℕ → Bool) → Account) → Type 0
 Table-reasoned src account =
-    (text : List ℕ) (owner : ℕ) (table pool marks : List ℕ) (r : Load-numbers) (p m : List ℕ) → IhexLoadTableBy src text owner table pool marks r p m → length table % 24 ≡ 0
+    (text : List ℕ) (owner : ℕ) (table pool marks : List ℕ) (r : Load-numbers) (p m : List ℕ) → IhexLoadTableBy src text owner table pool marks r p m → length table % WINDOW-SIZE ≡ 0
     → Reasoned (Why-table src account owner (rows-of table) text pool marks) r
 
 abbrev pub Ihex-load-table-reasons : Type 0
@@ -73,6 +96,27 @@ Ihex-load-table-keeps = Table-keeps intel
 
 abbrev pub Ihex-load-srecords-table-keeps : Type 0
 Ihex-load-srecords-table-keeps = Table-keeps s-records
+
+-- ---- the start
+
+-- with IHEX_OK the start is told as by the loads into a page, and with a refusal there is none
+abbrev pub Ihex-load-table-start : Type 0
+Ihex-load-table-start =
+    (text : List ℕ) (owner : ℕ) (table pool marks : List ℕ) (r : Load-numbers) (p m : List ℕ) → IhexLoadTableBy intel text owner table pool marks r p m → r .code ≡ OK → Start-told text r
+
+abbrev pub Ihex-load-srecords-table-start : Type 0
+Ihex-load-srecords-table-start =
+    (text : List ℕ) (owner : ℕ) (table pool marks : List ℕ) (r : Load-numbers) (p m : List ℕ) → IhexLoadTableBy s-records text owner table pool marks r p m → r .code ≡ OK → S-start-told text r
+
+abbrev pub Table-refused-no-start : {S : Type 0} → Source S → Type 0
+Table-refused-no-start src =
+    (text : List ℕ) (owner : ℕ) (table pool marks : List ℕ) (r : Load-numbers) (p m : List ℕ) → IhexLoadTableBy src text owner table pool marks r p m → r .code ≢ OK → r .start ≡ 0
+
+abbrev pub Ihex-load-table-refused-no-start : Type 0
+Ihex-load-table-refused-no-start = Table-refused-no-start intel
+
+abbrev pub Ihex-load-srecords-table-refused-no-start : Type 0
+Ihex-load-srecords-table-refused-no-start = Table-refused-no-start s-records
 
 -- ---- demand 3, for one owner
 
@@ -154,12 +198,11 @@ returns-to me [] returns = []
 returns-to me (call ∷ calls) [] = []
 returns-to me (call ∷ calls) (r ∷ returns) = if eqb (caller call) me then r ∷ returns-to me calls returns else returns-to me calls returns
 
--- Two rows of calls with one table of whole windows, in which this owner makes the same calls: whatever the others load, and wherever their calls stand among
+-- Two rows of calls with one table, good or bad, in which this owner makes the same calls: whatever the others load, and wherever their calls stand among
 -- its own, what is returned to this owner is the same, and so is what is left in its windows, if it was the same there before.
 abbrev pub Ihex-owners-isolated : Type 0
 Ihex-owners-isolated =
-    (me : ℕ) (table : List ℕ) → length table % 24 ≡ 0
-    → (calls₁ calls₂ : List Called) → calls-of me calls₁ ≡ calls-of me calls₂
+    (me : ℕ) (table : List ℕ) (calls₁ calls₂ : List Called) → calls-of me calls₁ ≡ calls-of me calls₂
     → (b₁ b₂ b₁′ b₂′ : Cabinet) (returns₁ returns₂ : List Load-numbers)
     → length (b₁ .pool) ≡ length (b₂ .pool) → length (b₁ .marks) ≡ length (b₂ .marks) → Same-for me (rows-of table) b₁ b₂
     → Table-calls table b₁ calls₁ returns₁ b₁′ → Table-calls table b₂ calls₂ returns₂ b₂′
@@ -167,12 +210,11 @@ Ihex-owners-isolated =
 
 -- ---- one window
 
--- a table with one window, which fills the pool from place 0 on, loads as `ihex_load` and `ihex_load_srecords` do, in every window that these do not refuse:
--- the same is returned, and pool and marks are the same, the bits after the pool aside
+-- a table that is not refused, with one window of the owner's, which fills the pool from place 0 on, loads as `ihex_load` and `ihex_load_srecords` do: the same is
+-- returned, and pool and marks are the same, the bits after the pool aside
 abbrev pub Table-of-one : {S : Type 0} → Source S → Type 0
 Table-of-one src =
-    (text : List ℕ) (owner first : ℕ) (table pool marks : List ℕ) → Is-owner owner → unfit first (length pool) (length marks) ≡ false
-    → length table ≡ 24 → rows-of table ≡ row owner first (length pool) 0 ∷ []
+    (text : List ℕ) (owner first : ℕ) (table pool marks : List ℕ) → ¬ Bad-bytes owner table (length pool) (length marks) → rows-of table ≡ row owner first (length pool) 0 ∷ []
     → (r : Load-numbers) (p m : List ℕ) (r′ : Load-numbers) (p′ m′ : List ℕ)
     → IhexLoadTableBy src text owner table pool marks r p m → IhexLoadBy src text first pool marks r′ p′ m′
     → (r ≡ r′) × (p ≡ p′) × ((i : ℕ) → i < length pool → mark-at m i ≡ mark-at m′ i)

@@ -5,7 +5,8 @@ use Prim.Native.Nat.{ℕ}
 use native.Mathlib.Omega.{arith}
 use mathlib.Core.Bool.{Bool}
 use mathlib.Core.List.{List, []}
-use Rattle.record.specs.Refusals.{Refusal, number-of, contains-invalid-characters, missing-end-of-file-record, bad-window, outside-window, start-conflict}
+use lib.ListN.{length}
+use Rattle.record.specs.Refusals.{Refusal, number-of, contains-invalid-characters, missing-end-of-file-record, bad-window, outside-window, start-conflict, bad-table}
 use Rattle.digits.specs.Digits.{number-after}
 use Rattle.record.specs.Line.{wrong, judge}
 use Rattle.digits.specs.Reading.{named}
@@ -19,10 +20,13 @@ use Rattle.steps.specs.Steps.{Placement, nothing-yet, Verdict, refused, stated}
 use Rattle.steps.specs.Source as source
 use Rattle.steps.specs.Account.{Decided}
 use Rattle.window.specs.Reasons.{bad-one, no-end, at-line, Among}
-use Rattle.window.proofs.Reasons.{load-reasons, table-reasons}
+use Rattle.window.specs.Window.{within}
+use Rattle.window.specs.Claims.{Window}
+use Rattle.window.specs.Table.{inside-of, Bad-table}
+use Rattle.window.proofs.Reasons.{load-reasons, table-reasons, why-among}
 use Rattle.loader.specs.Placing.{intel, intel-by}
 use Rattle.window.specs.Load.{stopping-by-window, load-window}
-use Rattle.loader.specs.Claims.{in-force, data-records, Stops, the-end, no-record, first-outside, start-differs, account, Why, Reasons, Reasons-by-table, Load-names-the-offender, refusal-numbers, Total, Examples}
+use Rattle.loader.specs.Claims.{in-force, data-records, Stops, the-end, no-record, first-outside, start-differs, account, Why, Reasons, Reasons-by-table, Load-names-the-offender, line-refusals, Total-by-table, Lines-give, Total, Examples}
 use Rattle.loader.proofs.Reasons.{counted-none, walked}
 
 pub examples : Examples
@@ -41,7 +45,7 @@ reasons-by-table = table-reasons intel account (λ inside text. walked inside (l
 
 -- ---- totality
 
-refused-line : {line : List ℕ} {r : Refusal} (n : ℕ) → Fault line r → Among refusal-numbers (refused r n)
+refused-line : {line : List ℕ} {r : Refusal} (n : ℕ) → Fault line r → Among line-refusals (refused r n)
 refused-line n (no-colon a) = refl
 refused-line n (no-digit p f) = refl
 refused-line n (short a b c d) = refl
@@ -52,19 +56,21 @@ refused-line n (length-differs a b c d e f g h) = refl
 refused-line n (type-unknown a b c d e f g) = refl
 refused-line n (size-differs a b c d e f g h) = refl
 
-stops-among : {inside : ℕ → Bool} {ahead : List (List ℕ)} {line : List ℕ} {n : ℕ} {v : Verdict} → Stops inside ahead line n v → Among refusal-numbers v
+stops-among : {inside : ℕ → Bool} {ahead : List (List ℕ)} {line : List ℕ} {n : ℕ} {v : Verdict} → Stops inside ahead line n v → Among line-refusals v
 stops-among (the-end tally e c) = tt
 stops-among {line} {n} (no-record r b e) = refused-line n (subst (Stands line) e (stands line))
 stops-among (first-outside before after p e i o) = refl
 stops-among (start-differs s first e a d) = refl
 
-why-among : {text : List ℕ} {first : ℕ} {page marks : List ℕ} {v : Verdict} → Why text first page marks v → Among refusal-numbers v
-why-among (bad-one w) = refl
-why-among (no-end w all) = refl
-why-among (at-line n v w d) = stops-among (d .stops)
+pub lines-give : Lines-give
+lines-give inside ahead line n v stops = stops-among stops
 
 pub total : Total
-total text first page marks = why-among (reasons text first page marks)
+total text first page marks = why-among intel account line-refusals lines-give text (Window first page marks) (¬ Window first page marks) bad-window (within first (length page)) (reasons text first page marks)
+
+pub total-by-table : Total-by-table
+total-by-table owner rows text pool marks =
+    let Bad = Bad-table owner (length pool) (length marks) rows in why-among intel account line-refusals lines-give text (¬ Bad) Bad bad-table (inside-of owner rows) (reasons-by-table owner rows text pool marks)
 
 -- ---- the offender
 

@@ -19,7 +19,7 @@
 // most 17.
 //
 // A lent buffer holds one byte in each place before the call: pool EE, output DD, page CC, marks AA.
-// Behind an answer stand ` | ` and the whole buffer; behind one of M or N the page, and then the marks. A
+// After an answer stand ` | ` and the whole buffer; after one of M or N the page, and then the marks. A
 // page or marks of more than 64 bytes are told in runs, each as its byte, `<` and the place where it
 // ends. The answer is one of these:
 //
@@ -34,7 +34,7 @@
 // The answers of T stand in one line with `; ` between them, up to "done" or refusal 10, and at most
 // 40 of them. Behind ` @` stands the number of lines behind which the reader stands then. One more
 // call, with a pool of 4,096 bytes, is told at the end without its pool. A first answer alone has no
-// ` @`. Behind a refusal of M or N stand ` @` and the number of its line.
+// ` @`. After a refusal of M or N stand ` @` and the number of its line.
 //
 // The number of a refusal is in decimal, and every other number in hexadecimal with capitals. A
 // case that is none of these is answered by `?`. Each case ends in LF, and what a case has beyond
@@ -60,6 +60,9 @@ ghost use lib.ListN.{length};
 
 // How many answers of a text are printed at most.
 const MOST_ANSWERS: usize = 40;
+
+// The most numbers of a table in a case: those of 17 windows.
+const MOST_NUMBERS: usize = 68;
 
 // How many bytes of a buffer are printed one by one at most: of a page and of marks, and of any other.
 const MOST_OF_PAGE: usize = 64;
@@ -533,10 +536,10 @@ fn load_through(
     pool: &mut [u8],
     marks: &mut [u8],
 ) {
-    let mut numbers = [0usize; 68];
+    let mut numbers = [0usize; MOST_NUMBERS];
     let mut n = 0;
     let mut i = from;
-    while n < 68 {
+    while n < MOST_NUMBERS {
         if i >= text.len() {
             break;
         }

@@ -8,7 +8,8 @@ use mathlib.Core.Option.{some}
 use mathlib.Core.List.{List, []}
 use Rattle.digits.specs.Digits.{number-after}
 use Rattle.digits.specs.Reading.{named}
-use Rattle.record.specs.Refusals.{Refusal, number-of, contains-invalid-characters, missing-end-of-file-record, bad-window, outside-window, count-mismatch}
+use lib.ListN.{length}
+use Rattle.record.specs.Refusals.{Refusal, number-of, contains-invalid-characters, missing-end-of-file-record, bad-window, outside-window, count-mismatch, bad-table}
 use Rattle.record.specs.Line.{Said, says, wrong}
 use Rattle.reader.specs.Lines.{lines}
 use Rattle.srec.specs.Line.{judge}
@@ -21,9 +22,12 @@ use Rattle.steps.specs.Source as source
 use Rattle.steps.specs.Account.{Decided}
 use Rattle.window.specs.Reasons.{bad-one, no-end, at-line, Among}
 use Rattle.window.specs.Load.{stopping-by-window, load-window}
-use Rattle.window.proofs.Reasons.{load-reasons, table-reasons}
+use Rattle.window.specs.Window.{within}
+use Rattle.window.specs.Claims.{Window}
+use Rattle.window.specs.Table.{inside-of, Bad-table}
+use Rattle.window.proofs.Reasons.{load-reasons, table-reasons, why-among}
 use Rattle.srecload.specs.Placing.{S-meaning, s-meaning, s-records}
-use Rattle.srecload.specs.Claims.{said-record, Means, of-header, of-data, of-count, of-end, Records-by-format, data-records, Stops, the-end, no-record, first-outside, count-differs, account, Why, Reasons, Reasons-by-table, Offends, Load-names-the-offender, refusal-numbers, Total, Examples}
+use Rattle.srecload.specs.Claims.{said-record, Means, of-header, of-data, of-count, of-end, Records-by-format, data-records, Stops, the-end, no-record, first-outside, count-differs, account, Why, Reasons, Reasons-by-table, Offends, Load-names-the-offender, line-refusals, Total-by-table, Lines-give, Total, Examples}
 use Rattle.srecload.proofs.Meeting.{means-header, means-data, means-count, means-end}
 use Rattle.srecload.proofs.Reasons.{counted-none, walked}
 
@@ -77,7 +81,7 @@ reasons-by-table = table-reasons s-records account (λ inside text. walked insid
 
 -- ---- totality
 
-refused-line : {line : List ℕ} {r : Refusal} (n : ℕ) → Fault line r → Among refusal-numbers (refused r n)
+refused-line : {line : List ℕ} {r : Refusal} (n : ℕ) → Fault line r → Among line-refusals (refused r n)
 refused-line n (no-start a) = refl
 refused-line n (no-digit p f) = refl
 refused-line n (no-type a) = refl
@@ -89,19 +93,21 @@ refused-line n (sum-differs a b c d e f g h i j k) = refl
 refused-line n (length-differs a b c d e f g) = refl
 refused-line n (size-differs a b c d e f g h) = refl
 
-stops-among : {inside : ℕ → Bool} {ahead : List (List ℕ)} {line : List ℕ} {n : ℕ} {v : Verdict} → Stops inside ahead line n v → Among refusal-numbers v
+stops-among : {inside : ℕ → Bool} {ahead : List (List ℕ)} {line : List ℕ} {n : ℕ} {v : Verdict} → Stops inside ahead line n v → Among line-refusals v
 stops-among (the-end a e) = tt
 stops-among {line} {n} (no-record r b e) = refused-line n (subst (Stands line) e (stands line))
 stops-among (first-outside before after p e i o) = refl
 stops-among (count-differs k e d) = refl
 
-why-among : {text : List ℕ} {first : ℕ} {page marks : List ℕ} {v : Verdict} → Why text first page marks v → Among refusal-numbers v
-why-among (bad-one w) = refl
-why-among (no-end w all) = refl
-why-among (at-line n v w d) = stops-among (d .stops)
+pub lines-give : Lines-give
+lines-give inside ahead line n v stops = stops-among stops
 
 pub total : Total
-total text first page marks = why-among (reasons text first page marks)
+total text first page marks = why-among s-records account line-refusals lines-give text (Window first page marks) (¬ Window first page marks) bad-window (within first (length page)) (reasons text first page marks)
+
+pub total-by-table : Total-by-table
+total-by-table owner rows text pool marks =
+    let Bad = Bad-table owner (length pool) (length marks) rows in why-among s-records account line-refusals lines-give text (¬ Bad) Bad bad-table (inside-of owner rows) (reasons-by-table owner rows text pool marks)
 
 -- ---- the offender
 

@@ -23,7 +23,7 @@ use Rattle.steps.specs.Steps.{Placement, linear-address, Tally, Verdict, accept
 use Rattle.steps.specs.Sites.{Loaded, Owed-at}
 use Rattle.steps.specs.Account.{Account}
 use Rattle.window.specs.declared.Row.{Row}
-use Rattle.window.specs.Tables.{LoadTable}
+use Rattle.window.specs.Tables.{load-table, LoadTable}
 use Rattle.window.specs.Loads.{Alike, Unpacks-to}
 use Rattle.window.specs.Loads as loads
 use Rattle.window.specs.Reasons.{Load-reasons, Load-one-reason, Table-reasons, Table-one-reason, Among}
@@ -176,12 +176,21 @@ Load-names-the-offender =
     (text : List ℕ) (first : ℕ) (page marks : List ℕ) (r : Refusal) (n : ℕ) → (load text first page marks) .answer ≡ refused r n → number-of r ≡ 2
     → (place : ℕ) × Offends text n place × (r ≡ contains-invalid-characters (named place))
 
--- the numbers of refusals that a load can give
-abbrev pub refusal-numbers : List ℕ
-refusal-numbers = 1 ∷ 2 ∷ 3 ∷ 4 ∷ 5 ∷ 6 ∷ 7 ∷ 8 ∷ 9 ∷ 13 ∷ 16 ∷ 17 ∷ 20 ∷ []
+-- the numbers of refusals that a line can give
+abbrev pub line-refusals : List ℕ
+line-refusals = 1 ∷ 2 ∷ 3 ∷ 4 ∷ 5 ∷ 6 ∷ 7 ∷ 8 ∷ 9 ∷ 17 ∷ 20 ∷ []
 
+-- those that a load can give: 13 and 16 beside them, and through a table 13 and 23
 abbrev pub Total : Type 0
-Total = (text : List ℕ) (first : ℕ) (page marks : List ℕ) → Among refusal-numbers ((load text first page marks) .answer)
+Total = (text : List ℕ) (first : ℕ) (page marks : List ℕ) → Among (13 ∷ 16 ∷ line-refusals) ((load text first page marks) .answer)
+
+abbrev pub Total-by-table : Type 0
+Total-by-table =
+    (owner : ℕ) (rows : List Row) (text pool marks : List ℕ) → Among (13 ∷ 23 ∷ line-refusals) ((load-table s-records owner rows text pool marks) .answer)
+
+-- a line that stops a load with a refusal gives one of the first list: never 13, 16 or 23
+abbrev pub Lines-give : Type 0
+Lines-give = (inside : ℕ → Bool) (ahead : List (List ℕ)) (line : List ℕ) (n : ℕ) (v : Verdict) → Stops inside ahead line n v → Among line-refusals v
 
 -- ---- the contract
 

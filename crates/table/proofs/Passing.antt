@@ -1,4 +1,4 @@
--- A table in bytes handed on as numbers: bytes that are no table are refused, and else the load is that of the windows.
+-- A table in bytes handed on as numbers: bytes that are not a table are refused, and else the load is that of the windows.
 -- Assumes nothing.
 use mathlib.Core.Path.{_≡_, refl}
 use Prim.Native.Nat.{ℕ, _*_, _/_, _%_, _≤_}

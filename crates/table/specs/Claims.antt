@@ -16,22 +16,22 @@ use Rattle.window.specs.Table.{Is-owner, Bad-table}
 use Rattle.window.specs.Tables.{stopping-by-table, load-table, Alike-for}
 use Rattle.loader.specs.Placing.{intel}
 use Rattle.srecload.specs.Placing.{s-records}
-use Rattle.entries.specs.Entry.{rows-of}
+use Rattle.entries.specs.Entry.{WINDOW-SIZE, rows-of}
 use Rattle.table.specs.Load.{load-bytes, LoadBytes, IsBad}
 
 -- bytes are refused as a table: a part of a window is left over, or a limit is broken
 abbrev pub Bad-bytes : (owner : ℕ) (table : List ℕ) (pool marks : ℕ) → Type 0
-Bad-bytes owner table pool marks = (length table % 24 ≢ 0) ⊎ Bad-table owner pool marks (rows-of table)
+Bad-bytes owner table pool marks = (length table % WINDOW-SIZE ≢ 0) ⊎ Bad-table owner pool marks (rows-of table)
 
 -- where no part is left over the load is that of the windows, and else it is refused and changes nothing
 abbrev pub Whole-table-loads : Type 1
 Whole-table-loads =
-    (S : Type 0) (src : Source S) (text : List ℕ) (owner : ℕ) (table pool marks : List ℕ) → length table % 24 ≡ 0
+    (S : Type 0) (src : Source S) (text : List ℕ) (owner : ℕ) (table pool marks : List ℕ) → length table % WINDOW-SIZE ≡ 0
     → load-bytes src text owner table pool marks ≡ load-table src owner (rows-of table) text pool marks
 
 abbrev pub Torn-table-refused : Type 1
 Torn-table-refused =
-    (S : Type 0) (src : Source S) (text : List ℕ) (owner : ℕ) (table pool marks : List ℕ) → length table % 24 ≢ 0
+    (S : Type 0) (src : Source S) (text : List ℕ) (owner : ℕ) (table pool marks : List ℕ) → length table % WINDOW-SIZE ≢ 0
     → load-bytes src text owner table pool marks ≡ record { answer = refused bad-table 0; page = pool; marks = marks }
 
 -- `is_bad` returns true exactly where every load through the table is refused with 23, whichever owner it is for

@@ -16,15 +16,19 @@ use Rattle.steps.specs.Told.{told-loading}
 use Rattle.window.specs.declared.Row.{Row}
 use Rattle.window.specs.Table.{fits}
 use Rattle.window.specs.Tables.{load-table}
-use Rattle.entries.specs.Entry.{row-at, rows-of}
+use Rattle.entries.specs.Entry.{WINDOW-SIZE, row-at, rows-of}
+
+-- the bytes of 16 windows
+abbrev pub MOST-BYTES : ℕ
+MOST-BYTES = 384
 
 -- a part of a window is left over
 abbrev pub torn : List ℕ → Bool
-torn table = not (eqb (length table % 24) 0)
+torn table = not (eqb (length table % WINDOW-SIZE) 0)
 
 -- or there are more than 16 windows
 abbrev pub torn-or-long : List ℕ → Bool
-torn-or-long table = torn table || ltb 384 (length table)
+torn-or-long table = torn table || ltb MOST-BYTES (length table)
 
 -- a text loaded through a table in bytes
 unfoldable pub load-bytes : {S : Type 0} → Source S → (text : List ℕ) (owner : ℕ) (table pool marks : List ℕ) → Loaded
@@ -53,7 +57,11 @@ unfoldable pub number-of : (table : List ℕ) (k : ℕ) → ℕ
 unfolding field row-at
 number-of table k = field (row-at table (k / 4)) (k % 4)
 
+-- the numbers of 16 windows
+abbrev pub MOST-NUMBERS : ℕ
+MOST-NUMBERS = 64
+
 -- the contract of `numbers_of`
 pub record NumbersOf (table numbers : List ℕ) : Type 0 where
-  pub as-many : length numbers ≡ 64
-  pub each : (k : ℕ) → k < 64 → getD numbers k 0 ≡ number-of table k
+  pub as-many : length numbers ≡ MOST-NUMBERS
+  pub each : (k : ℕ) → k < MOST-NUMBERS → getD numbers k 0 ≡ number-of table k

@@ -10,16 +10,20 @@ ghost use Rattle.table.specs.Load.{torn-or-long, number-of, NumbersOf, I
 // The bytes of a window in a table.
 const WINDOW: usize = 24;
 
-// The numbers of a window: its owner, its first address, its length and its place.
-const NUMBERS: usize = 4;
-
-// The most bytes of a table, and the most numbers.
+// The most bytes of a table, and the most numbers: those of 16 windows.
 const MOST_BYTES: usize = 384;
 
 const MOST_NUMBERS: usize = 64;
 
+// Which of a window's numbers is its owner, its first address, and its length. The last one is its place.
+const OWNER: usize = 0;
+
+const FIRST: usize = 1;
+
+const LENGTH: usize = 2;
+
 // Whether bytes are not a table: a part of a window is left over, or there are too many windows.
-fn is_torn(table: &[u8]) -> bool
+fn is_torn_or_long(table: &[u8]) -> bool
     ensures { λ r. ⌜ r ≡ torn-or-long (now (table .entry)) ⌝ }
 {
     if table.len() % WINDOW != 0 {
@@ -32,22 +36,22 @@ fn is_torn(table: &[u8]) -> bool
 fn number_at(table: &[u8], k: usize) -> usize
     ensures { λ r. ⌜ r ≡ number-of (now (table .entry)) k ⌝ }
 {
-    let row = entries::row_at(table, k / NUMBERS);
-    let which = k % NUMBERS;
-    if which == 0 {
+    let row = entries::row_at(table, k / window::NUMBERS);
+    let which = k % window::NUMBERS;
+    if which == OWNER {
         return row.owner;
     }
-    if which == 1 {
+    if which == FIRST {
         return row.first;
     }
-    if which == 2 {
+    if which == LENGTH {
         return row.size;
     }
     row.place
 }
 
 // The numbers of a table, and zeros after them.
-fn numbers_of(table: &[u8]) -> [usize; 64]
+fn numbers_of(table: &[u8]) -> [usize; MOST_NUMBERS]
     ensures { λ r. ⌜ NumbersOf (now (table .entry)) r ⌝ }
 {
     let mut numbers = [0usize; MOST_NUMBERS];
@@ -63,11 +67,11 @@ fn numbers_of(table: &[u8]) -> [usize; 64]
 pub fn is_bad(table: &[u8], pool: usize, marks: usize) -> bool
     ensures { λ r. ⌜ IsBad (now (table .entry)) pool marks r ⌝ }
 {
-    if is_torn(table) {
+    if is_torn_or_long(table) {
         return true;
     }
     let numbers = numbers_of(table);
-    let n = NUMBERS * (table.len() / WINDOW);
+    let n = window::NUMBERS * (table.len() / WINDOW);
     window::is_bad_table(owners::FIRST, &numbers[..n], pool, marks)
 }
 
@@ -75,11 +79,11 @@ pub fn is_bad(table: &[u8], pool: usize, marks: usize) -> bool
 pub fn load(text: &[u8], owner: u32, table: &[u8], pool: &mut [u8], marks: &mut [u8]) -> Loading
     ensures { λ r. ⌜ LoadBytes intel (now (text .entry)) owner (now (table .entry)) (now (pool .entry)) (now (marks .entry)) r (now (pool .exit)) (now (marks .exit)) ⌝ }
 {
-    if is_torn(table) {
+    if is_torn_or_long(table) {
         return Loading::Refused(LoaderError::BadTable, 0);
     }
     let numbers = numbers_of(table);
-    let n = NUMBERS * (table.len() / WINDOW);
+    let n = window::NUMBERS * (table.len() / WINDOW);
     loader::load_table(text, owner as usize, &numbers[..n], pool, marks)
 }
 
@@ -93,10 +97,10 @@ pub fn load_srecords(
 ) -> Loading
     ensures { λ r. ⌜ LoadBytes s-records (now (text .entry)) owner (now (table .entry)) (now (pool .entry)) (now (marks .entry)) r (now (pool .exit)) (now (marks .exit)) ⌝ }
 {
-    if is_torn(table) {
+    if is_torn_or_long(table) {
         return Loading::Refused(LoaderError::BadTable, 0);
     }
     let numbers = numbers_of(table);
-    let n = NUMBERS * (table.len() / WINDOW);
+    let n = window::NUMBERS * (table.len() / WINDOW);
     srecload::load_srecords_table(text, owner as usize, &numbers[..n], pool, marks)
 }

@@ -1,16 +1,19 @@
 -- Why a load answers as it does: where it goes is bad, or the walk over its lines has found the line that decides, or none.
 -- Assumes nothing.
-use mathlib.Core.Path.{_≡_, refl, _∙_}
+use mathlib.Core.Path.{_≡_, refl, ap, _∙_}
 use Prim.Native.Nat.{ℕ}
 use native.Mathlib.Omega.{arith}
-use mathlib.Core.Bool.{Bool, true, false}
+use mathlib.Core.Bool.{Bool, true, false, _||_}
 use mathlib.Core.Option.{Option, none, some}
-use mathlib.Core.List.{List, []}
+use mathlib.Core.List.{List, [], _∷_}
+use lib.Dec.{eqb}
+use borrow.Author.Tests.{eq-eqb}
+use Rattle.digits.proofs.Tests.{or-true}
 use lib.ListN.{length}
 use Rattle.digits.specs.Common.{if_then_else_}
-use Rattle.record.specs.Refusals.{Refusal, bad-window, bad-table}
+use Rattle.record.specs.Refusals.{Refusal, number-of, bad-window, bad-table}
 use Rattle.reader.specs.Lines.{lines}
-use Rattle.steps.specs.Steps.{nothing-yet, Verdict, Decision, by, decision, verdict}
+use Rattle.steps.specs.Steps.{nothing-yet, Verdict, accepted, refused, Decision, by, decision, verdict}
 use Rattle.steps.specs.Source.{Source, steps-of}
 use Rattle.steps.specs.Sites.{stopping-by}
 use Rattle.steps.specs.Account.{Account}
@@ -20,7 +23,7 @@ use Rattle.window.specs.Claims.{Window}
 use Rattle.window.specs.Load.{stopping-by-window}
 use Rattle.window.specs.Table.{inside-of, fits, owned, Bad-table}
 use Rattle.window.specs.Tables.{load-table}
-use Rattle.window.specs.Reasons.{Why-in, bad-one, no-end, at-line, Why, Load-reasons, Load-one-reason, Table-reasons, Table-one-reason}
+use Rattle.window.specs.Reasons.{Why-in, bad-one, no-end, at-line, Load-reasons, Load-one-reason, Table-reasons, Table-one-reason, Among}
 use Rattle.window.proofs.Tests.{good-window, no-window}
 use Rattle.window.proofs.Loads.{load-answer}
 use Rattle.window.proofs.Table.{within-limits, breaks}
@@ -88,3 +91,18 @@ module _ {S : Type 0} (src : Source S) (account : (inside : ℕ → Bool) → Ac
   table-one-reason sound owner rows text pool marks v v′ =
       let Bad = Bad-table owner (length pool) (length marks) rows in
       one-of-them text (¬ Bad) Bad bad-table (inside-of owner rows) (sound (inside-of owner rows)) (λ w b. w b)
+
+-- ---- the numbers of refusals
+
+-- two numbers more
+more : (a b : ℕ) (numbers : List ℕ) (v : Verdict) → Among numbers v → Among (a ∷ b ∷ numbers) v
+more a b numbers (accepted t) h = tt
+more a b numbers (refused r n) h = rw h (ap (λ (x : Bool). eqb (number-of r) a || x) (or-true (eqb (number-of r) b)) ∙ or-true (eqb (number-of r) a))
+
+module _ {S : Type 0} (src : Source S) (account : (inside : ℕ → Bool) → Account) (numbers : List ℕ)
+    (lines-give : (inside : ℕ → Bool) (ahead : List (List ℕ)) (line : List ℕ) (n : ℕ) (v : Verdict) → account inside .stops ahead line n v → Among numbers v) where
+  -- beside those that a line gives, 13 and what is wrong with where the load goes
+  pub why-among : (text : List ℕ) (Good Bad : Type 0) (bad : Refusal) (inside : ℕ → Bool) {v : Verdict} → Why-in src account text Good Bad bad inside v → Among (13 ∷ number-of bad ∷ numbers) v
+  why-among text Good Bad bad inside (bad-one w) = rw (eq-eqb (number-of bad) (number-of bad) refl) (or-true (eqb (number-of bad) 13))
+  why-among text Good Bad bad inside (no-end w all) = refl
+  why-among text Good Bad bad inside (at-line n v w d) = more 13 (number-of bad) numbers v (lines-give inside (d .ahead) (d .line) n v (d .stops))

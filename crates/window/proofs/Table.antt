@@ -15,7 +15,7 @@ use Rattle.digits.proofs.Tests.{both, or-false, or-true, split}
 use Rattle.marks.specs.Marks.{row-length}
 use Rattle.window.specs.Window.{within, window, unfit, one-window}
 use Rattle.window.specs.declared.Row.{Row}
-use Rattle.window.specs.Table.{has, takes, site-of, inside-of, overlap, clash, clashes, any-clash, is-owner, good-row, good-rows, fits, owned, Is-owner, Two-of, Bad-table, too-many, call-of-nobody, window-of-nobody, pool-too-long, marks-differ, beyond-addresses, beyond-pool, address-shared, place-shared, Refused-exactly, Overlap-is-shared, Owners-apart, Shown-is-inside, Inside-is-shown, Shown-once, One-window-table, Examples}
+use Rattle.window.specs.Table.{has, takes, site-of, inside-of, overlap, clash, clashes, any-clash, is-owner, good-row, good-rows, fits, owned, Is-owner, Two-of, Bad-table, too-many, call-of-nobody, window-of-nobody, pool-too-long, marks-differ, beyond-addresses, beyond-pool, address-shared, place-shared, Refused-exactly, Overlap-is-shared, Shows-in, Shown-by-windows, Inside-by-windows, Lies-in, Owners-apart, Shown-is-inside, Inside-is-shown, Shown-once, One-window-table, Examples}
 use Rattle.window.proofs.Tests.{within-true, true-within}
 
 -- ---- stretches
@@ -201,17 +201,102 @@ shown-once owner (r ∷ rows) c a i j =
         absurd (not-taken owner i a r rows c₁ o w e)
     go false p false q c₁ h e f = h e f
 
+-- one is true
+either : {X : Type 0} (x y : Bool) → x || y ≡ true → (x ≡ true → X) → (y ≡ true → X) → X
+either true y e f g = f refl
+either false y e f g = g e
+
+-- ---- the same without computing
+
+-- a window that clashes with none of these clashes not with this one
+not-with : (r r′ : Row) (rows : List Row) → clashes r rows ≡ false → List·Memᴰ r′ rows → clash r r′ ≡ false
+not-with r r′ [] e m = absurd (List·Memᴰ·not-nil m)
+not-with r r′ (x ∷ rows) e m = let (c, cs) = or-false (clash r x) (clashes r rows) e in go c (λ k. not-with r r′ rows cs k) (List·Memᴰ·cases-cons m)
+  where
+    go : clash r x ≡ false → (List·Memᴰ r′ rows → clash r r′ ≡ false) → (r′ ≡ x) ⊎ List·Memᴰ r′ rows → clash r r′ ≡ false
+    go c later (inl q) = rw q c
+    go c later (inr k) = later k
+
+-- in one window more
+in-more : (owner i a : ℕ) (r : Row) (rows : List Row) → Shows-in owner rows i a → Shows-in owner (r ∷ rows) i a
+in-more owner i a r rows s =
+    record { window = s .window; in-table = List·Memᴰ·tail (s .in-table); owned-by = s .owned-by; distance = s .distance; inside = s .inside; at-place = s .at-place; at-address = s .at-address }
+
+shows-so : (owner : ℕ) (rows : List Row) (i a : ℕ) → site-of owner rows i ≡ some a → Shows-in owner rows i a
+unfolding site-of
+shows-so owner [] i a = λ e. let z : _≡_ {A = ℕ} 0 1 = cc in absurd (omega arith)
+shows-so owner (r ∷ rows) i a = go (has owner i r) refl (shows-so owner rows i a)
+  where
+    go : (b : Bool) → has owner i r ≡ b → (site-of owner rows i ≡ some a → Shows-in owner rows i a) → (if b then some (r .first + (i - r .place)) else site-of owner rows i) ≡ some a → Shows-in owner (r ∷ rows) i a
+    go true q later e =
+        let x : r .first + (i - r .place) ≡ a = cc in
+        let (o, w) = both (eqb (r .owner) owner) (within (r .place) (r .size) i) q in
+        let (l, u) = within-true (r .place) (r .size) i w in
+        record { window = r; in-table = List·Memᴰ·head refl; owned-by = eqb-true (r .owner) owner o; distance = i - r .place; inside = omega arith; at-place = omega arith; at-address = sym x }
+    go false q later e = in-more owner i a r rows (later e)
+
+so-shows : (owner : ℕ) (rows : List Row) → any-clash rows ≡ false → (i a : ℕ) → Shows-in owner rows i a → site-of owner rows i ≡ some a
+unfolding site-of
+so-shows owner [] c i a s = absurd (List·Memᴰ·not-nil (s .in-table))
+so-shows owner (r ∷ rows) c i a s =
+    let (c₁, c₂) = or-false (clashes r rows) (any-clash rows) c in
+    go (has owner i r) refl c₁ (λ k. so-shows owner rows c₂ i a k) (List·Memᴰ·cases-cons (s .in-table))
+  where
+    there : within (s .window .place) (s .window .size) i ≡ true
+    there = true-within (s .window .place) (s .window .size) i (omega (arith, s .at-place)) (omega (arith, s .at-place, s .inside))
+
+    first-one : s .window ≡ r → (has owner i r ≡ true) × (r .first + (i - r .place) ≡ a)
+    first-one q =
+        let w : within (r .place) (r .size) i ≡ true = rw q at there in
+        let o : r .owner ≡ owner = rw q at (s .owned-by) in
+        let p : i ≡ r .place + s .distance = rw q at (s .at-place) in
+        let x : a ≡ r .first + s .distance = rw q at (s .at-address) in
+        (rw (eq-eqb (r .owner) owner o, w), omega arith)
+
+    go : (b : Bool) → has owner i r ≡ b → clashes r rows ≡ false → (Shows-in owner rows i a → site-of owner rows i ≡ some a) → (s .window ≡ r) ⊎ List·Memᴰ (s .window) rows
+        → (if b then some (r .first + (i - r .place)) else site-of owner rows i) ≡ some a
+    go true e c₁ later (inl q) = ap (λ (x : ℕ). some x) (first-one q .1)
+    go false e c₁ later (inl q) = absurd (true≢false (sym (first-one q .0) ∙ e))
+    go true e c₁ later (inr m) =
+        absurd (no-place r (s .window) i (not-with r (s .window) rows c₁ m) (both (eqb (r .owner) owner) (within (r .place) (r .size) i) e .1) there)
+    go false e c₁ later (inr m) =
+        later (record { window = s .window; in-table = m; owned-by = s .owned-by; distance = s .distance; inside = s .inside; at-place = s .at-place; at-address = s .at-address })
+
+pub shown-by-windows : Shown-by-windows
+shown-by-windows owner rows c i a = (shows-so owner rows i a, so-shows owner rows c i a)
+
+pub inside-by-windows : Inside-by-windows
+unfolding inside-of
+inside-by-windows owner [] a = (λ e. let z : _≡_ {A = ℕ} 0 1 = cc in absurd (omega arith), λ (r, m, o, l). absurd (List·Memᴰ·not-nil m))
+inside-by-windows owner (r ∷ rows) a = let (more, less) = inside-by-windows owner rows a in (forth more, back less)
+  where
+    forth : (inside-of owner rows a ≡ true → (x : Row) × List·Memᴰ x rows × (x .owner ≡ owner) × Lies-in (x .first) (x .size) a)
+        → takes owner a r || inside-of owner rows a ≡ true → (x : Row) × List·Memᴰ x (r ∷ rows) × (x .owner ≡ owner) × Lies-in (x .first) (x .size) a
+    forth more e =
+        either (takes owner a r) (inside-of owner rows a) e
+        (λ h. let (o, w) = both (eqb (r .owner) owner) (within (r .first) (r .size) a) h in (r, List·Memᴰ·head refl, eqb-true (r .owner) owner o, within-true (r .first) (r .size) a w))
+        (λ h. let (x, m, o, l) = more h in (x, List·Memᴰ·tail m, o, l))
+
+    held : (x : Row) → x .owner ≡ owner → Lies-in (x .first) (x .size) a → x ≡ r → takes owner a r ≡ true
+    held x o l q =
+        let o′ : r .owner ≡ owner = rw q at o in
+        let l′ : Lies-in (r .first) (r .size) a = rw q at l in
+        rw (eq-eqb (r .owner) owner o′, true-within (r .first) (r .size) a (l′ .0) (l′ .1))
+
+    back : (((x : Row) × List·Memᴰ x rows × (x .owner ≡ owner) × Lies-in (x .first) (x .size) a) → inside-of owner rows a ≡ true)
+        → ((x : Row) × List·Memᴰ x (r ∷ rows) × (x .owner ≡ owner) × Lies-in (x .first) (x .size) a) → takes owner a r || inside-of owner rows a ≡ true
+    back less (x, m, o, l) = go (List·Memᴰ·cases-cons m)
+      where
+        go : (x ≡ r) ⊎ List·Memᴰ x rows → takes owner a r || inside-of owner rows a ≡ true
+        go (inl q) = rw (held x o l q)
+        go (inr k) = rw (less (x, k, o, l)) (or-true (takes owner a r))
+
 -- ---- when a table is refused
 
 -- of two tests one is false
 which : {X : Type 0} (x y : Bool) → x && y ≡ false → (x ≡ false → X) → (y ≡ false → X) → X
 which true y e f g = g e
 which false y e f g = f refl
-
--- one is true
-either : {X : Type 0} (x y : Bool) → x || y ≡ true → (x ≡ true → X) → (y ≡ true → X) → X
-either true y e f g = f refl
-either false y e f g = g e
 
 owner-is : (owner : ℕ) → is-owner owner ≡ true → Is-owner owner
 owner-is owner e = either (eqb owner 1) (eqb owner 2) e (λ h. inl (eqb-true owner 1 h)) (λ h. inr (eqb-true owner 2 h))
@@ -227,6 +312,10 @@ nobody owner e h = false-is-not-true (is-owner owner) e (is-owner-so owner h)
 falsely : (b : Bool) → (b ≡ true → ⊥) → b ≡ false
 falsely true h = absurd (h refl)
 falsely false h = refl
+
+truly : (b : Bool) → (b ≡ false → ⊥) → b ≡ true
+truly true h = refl
+truly false h = absurd (h refl)
 
 -- a window that breaks a limit by itself
 bad-row : {owner marks : ℕ} (pool : ℕ) (all rows : List Row) → ((r : Row) → List·Memᴰ r rows → List·Memᴰ r all) → good-rows pool rows ≡ false → Bad-table owner pool marks all
@@ -376,6 +465,22 @@ pub one-window-table : One-window-table
 unfolding owned one-window
 one-window-table owner first pool marks o u =
     λ k. record { fault = fault-same owner first pool marks o u k; inside = λ a. inside-same owner first pool marks a k; site = λ i. site-same owner first pool marks i k }
+
+-- a table with one window, which fills the pool, that is not refused: the owner is one of the two, and the window is not refused
+pub good-window-of : (owner first pool marks : ℕ) → ¬ Bad-table owner pool marks (record { owner = owner; first = first; size = pool; place = 0 } ∷ [])
+    → (is-owner owner ≡ true) × (unfit first pool marks ≡ false)
+unfolding unfit
+good-window-of owner first pool marks good = (o, u)
+  where
+    o : is-owner owner ≡ true
+    o = truly (is-owner owner) (λ e. good (call-of-nobody (nobody owner e)))
+
+    u : unfit first pool marks ≡ false
+    u = falsely (unfit first pool marks) (λ e. either (not (eqb (row-length pool) marks) || ltb 65536 pool) (ltb (2 ^ 32) (first + pool)) e
+        (λ a. either (not (eqb (row-length pool) marks)) (ltb 65536 pool) a
+        (λ b. good (marks-differ (λ q. true≢false (sym b ∙ ap not (eq-eqb (row-length pool) marks (sym q))))))
+        (λ b. good (pool-too-long (ltb-true 65536 pool b))))
+        (λ a. good (beyond-addresses _ (List·Memᴰ·head refl) (ltb-true (2 ^ 32) (first + pool) a))))
 
 pub examples : Examples
 unfolding fits site-of

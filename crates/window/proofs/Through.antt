@@ -73,7 +73,7 @@ module _ (size owner : ℕ) (ps : List Placement) where
   through-after [] page i h u = refl
   through-after (r ∷ rows) page i h u = through-after rows (step r page) i (omega (arith, step-length r page)) u ∙ step-after r page i h u
 
-  -- a place of one of the windows is no place of another
+  -- a place of one of the windows is not a place of another
   pub through-at : (rows : List Row) → any-clash rows ≡ false → (page : List ℕ) (i : ℕ) → i < length page → i < size
       → getD (through size owner rows ps page) i 0 ≡ byte-shown (site-of owner rows i) ps (getD page i 0)
   unfolding through site-of byte-shown

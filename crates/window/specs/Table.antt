@@ -147,6 +147,27 @@ Overlap-is-shared =
     (start size start′ size′ : ℕ)
     → (overlap start size start′ size′ ≡ true) ↔ ((x : ℕ) × (within start size x ≡ true) × (within start′ size′ x ≡ true))
 
+-- what a place shows, said without computing: a window of the owner's has it, at this distance from its first place, and shows the address at that distance
+-- from its first one
+pub record Shows-in (owner : ℕ) (rows : List Row) (i address : ℕ) : Type 0 where
+  pub window : Row
+  pub in-table : List·Memᴰ window rows
+  pub owned-by : window .owner ≡ owner
+  pub distance : ℕ
+  pub inside : distance < window .size
+  pub at-place : i ≡ window .place + distance
+  pub at-address : address ≡ window .first + distance
+
+-- so it is, where no windows share a place
+abbrev pub Shown-by-windows : Type 0
+Shown-by-windows = (owner : ℕ) (rows : List Row) → any-clash rows ≡ false → (i address : ℕ) → (site-of owner rows i ≡ some address) ↔ Shows-in owner rows i address
+
+-- an address is inside exactly if it lies in a window of the owner's
+abbrev pub Inside-by-windows : Type 0
+Inside-by-windows =
+    (owner : ℕ) (rows : List Row) (address : ℕ)
+    → (inside-of owner rows address ≡ true) ↔ ((r : Row) × List·Memᴰ r rows × (r .owner ≡ owner) × Lies-in (r .first) (r .size) address)
+
 -- two owners share no place
 abbrev pub Owners-apart : Type 0
 Owners-apart = (owner owner′ : ℕ) (rows : List Row) → owner ≢ owner′ → any-clash rows ≡ false → Apart (site-of owner rows) (site-of owner′ rows)
@@ -167,7 +188,7 @@ Shown-once =
     (owner : ℕ) (rows : List Row) → any-clash rows ≡ false
     → (address i j : ℕ) → site-of owner rows i ≡ some address → site-of owner rows j ≡ some address → i ≡ j
 
--- a table with one window, which fills the pool, is that window
+-- a table with one window, which is the owner's and fills the pool, is that window
 abbrev pub One-window-table : Type 0
 One-window-table =
     (owner first pool marks : ℕ) → is-owner owner ≡ true → unfit first pool marks ≡ false

@@ -8,7 +8,7 @@ ghost use lib.ListN.{length, getD, drop};
 ghost use Rattle.window.specs.Table.{rows-in, nobody, takes, inside-of, is-owner, good-row, good-rows, overlap, clash, clashes, any-clash};
 ghost use Rattle.window.specs.Contracts.{IsUnfit, call-fits, IsBadTable, RoomAt, FirstOutside, Parted, Copied, PutIn, PutRun, ClearMarks};
 
-// The most places that a window can have.
+// The most places that a page can have, or the pool of a table.
 const MOST_PLACES: usize = 65536;
 
 // How many addresses there are.
@@ -25,7 +25,7 @@ pub mod owners {
 }
 
 // How many numbers a table has for a window: its owner, its first address, how many places it has, and which place of the page its first address has.
-const NUMBERS: usize = 4;
+pub const NUMBERS: usize = 4;
 
 // One window of a table.
 pub struct Row {

@@ -11,7 +11,7 @@
 //! WHO is crate, port, face or floor. WHAT is record or text (reading), line or object (writing), or
 //! load. BYTES are a record's payload, RECORDS how many there are in a text, or calls a repetition.
 //! `chunks` reads the text in chunks of CHUNK bytes, to the number that `text` prints. `segment` and
-//! `linear` load it behind a type 02 and a type 04, `across` so many records across a segment's end,
+//! `linear` load it after a type 02 and a type 04, `across` so many records across a segment's end,
 //! each to the number that `load` prints. `page` writes all payloads as a page in which each multiple of
 //! EVERY is marked; the crate is given its records. `srecord` and `srecords` read a record and load the
 //! text as S-records of at most 252 bytes, each to the number that `record` and `load` print. `salvage` saves
@@ -33,13 +33,13 @@ pub struct Given {
     /// Payload bytes a record.
     n: usize,
     records: usize,
-    /// All payloads, one behind the other.
+    /// All payloads, one after the other.
     pool: Vec<u8>,
     /// The object's text, with an end record.
     text: String,
     /// Its first line.
     line: String,
-    /// The text behind a type 02, behind a type 04, and with every record across its segment's end.
+    /// The text after a type 02, after a type 04, and with every record across its segment's end.
     segment: String,
     linear: String,
     across: String,
@@ -96,11 +96,11 @@ fn filling(windows: usize, part: usize) -> Tabled {
     Tabled { of_face, bytes }
 }
 
-/// The inputs; `step` is a chunk's length, which places of a page are marked, the type of S-records, or how many windows a
-/// table has.
-fn given(n: usize, records: usize, step: usize) -> Given {
-    let byte = |i: usize| (i.wrapping_add(1).wrapping_mul(2_654_435_761) >> 13) as u8;
-    let pool: Vec<u8> = (0..n * records).map(byte).collect();
+/// An object's records, as the crate has them, as the face has them, and in bytes.
+type Object = (Vec<original::Record>, Vec<ihex::Record>, Vec<u8>);
+
+/// The object of so many payloads, n bytes each, with an end record.
+fn object(n: usize, records: usize, pool: &[u8]) -> Object {
     let (mut of_crate, mut of_face, mut list) = (vec![], vec![], vec![]);
     for i in 0..records {
         let value = pool[i * n..(i + 1) * n].to_vec();
@@ -115,6 +115,15 @@ fn given(n: usize, records: usize, step: usize) -> Given {
     of_face.push(ihex::Record::EndOfFile);
     of_crate.push(original::Record::EndOfFile);
     list.extend(ihex_sys::entry(1, 0, 0, 0, 0));
+    (of_crate, of_face, list)
+}
+
+/// The inputs; `step` is a chunk's length, which places of a page are marked, the type of S-records, or how many windows a
+/// table has.
+fn given(n: usize, records: usize, step: usize) -> Given {
+    let byte = |i: usize| (i.wrapping_add(1).wrapping_mul(2_654_435_761) >> 13) as u8;
+    let pool: Vec<u8> = (0..n * records).map(byte).collect();
+    let (of_crate, of_face, list) = object(n, records, &pool);
     let text = original::create_object_file_representation(&of_crate).expect("a good object");
     let line = text.lines().next().unwrap_or("").to_string();
     Given {
@@ -600,52 +609,84 @@ mod by_floor {
     }
 }
 
-fn work(who: &str, what: &str) -> Option<Work> {
-    Some(match (who, what) {
-        ("crate", "record") => by_crate::record,
-        ("crate", "text") => by_crate::text,
-        ("crate", "line") => by_crate::line,
-        ("crate", "object") => by_crate::object,
-        ("crate", "load") => crate_load,
-        ("crate", "page") => crate_page,
-        ("face", "record") => by_face::record,
-        ("face", "text") => by_face::text,
-        ("face", "line") => by_face::line,
-        ("face", "object") => by_face::object,
-        ("face", "load") => face_load,
-        ("face", "page") => face_page,
-        ("face", "srecord") => face_srecord,
-        ("face", "srecords") => face_srecords,
-        ("face", "salvage") => face_salvage,
-        ("face", "noisy") => face_noisy,
-        ("face", "table") => face_table,
-        ("face", "last") => face_last,
-        ("port", "record") => by_port::record,
-        ("port", "text") => by_port::text,
-        ("port", "chunks") => by_port::chunks,
-        ("port", "line") => by_port::line,
-        ("port", "object") => by_port::object,
-        ("port", "load") => by_port::load,
-        ("port", "segment") => by_port::segment,
-        ("port", "linear") => by_port::linear,
-        ("port", "across") => by_port::across,
-        ("port", "page") => by_port::page,
-        ("port", "srecord") => by_port::srecord,
-        ("port", "srecords") => by_port::srecords,
-        ("port", "salvage") => by_port::salvage,
-        ("port", "noisy") => by_port::noisy,
-        ("port", "table") => by_port::table,
-        ("port", "last") => by_port::last,
-        ("floor", "record") => by_floor::record,
-        ("floor", "text") => by_floor::text,
-        ("floor", "line") => by_floor::line,
-        ("floor", "object") => by_floor::object,
-        ("floor", "load") => by_floor::load,
-        ("floor", "page") => by_floor::page,
-        ("floor", "srecord") => by_floor::srecord,
-        ("floor", "srecords") => by_floor::srecords,
+/// The crate's work of a name, if it has it.
+fn crate_work(what: &str) -> Option<Work> {
+    Some(match what {
+        "record" => by_crate::record,
+        "text" => by_crate::text,
+        "line" => by_crate::line,
+        "object" => by_crate::object,
+        "load" => crate_load,
+        "page" => crate_page,
         _ => return None,
     })
+}
+
+/// The face's work of a name, if it has it.
+fn face_work(what: &str) -> Option<Work> {
+    Some(match what {
+        "record" => by_face::record,
+        "text" => by_face::text,
+        "line" => by_face::line,
+        "object" => by_face::object,
+        "load" => face_load,
+        "page" => face_page,
+        "srecord" => face_srecord,
+        "srecords" => face_srecords,
+        "salvage" => face_salvage,
+        "noisy" => face_noisy,
+        "table" => face_table,
+        "last" => face_last,
+        _ => return None,
+    })
+}
+
+/// The port's work of a name, if it has it.
+fn port_work(what: &str) -> Option<Work> {
+    Some(match what {
+        "record" => by_port::record,
+        "text" => by_port::text,
+        "chunks" => by_port::chunks,
+        "line" => by_port::line,
+        "object" => by_port::object,
+        "load" => by_port::load,
+        "segment" => by_port::segment,
+        "linear" => by_port::linear,
+        "across" => by_port::across,
+        "page" => by_port::page,
+        "srecord" => by_port::srecord,
+        "srecords" => by_port::srecords,
+        "salvage" => by_port::salvage,
+        "noisy" => by_port::noisy,
+        "table" => by_port::table,
+        "last" => by_port::last,
+        _ => return None,
+    })
+}
+
+/// The plain C loop's work of a name, if it has it.
+fn floor_work(what: &str) -> Option<Work> {
+    Some(match what {
+        "record" => by_floor::record,
+        "text" => by_floor::text,
+        "line" => by_floor::line,
+        "object" => by_floor::object,
+        "load" => by_floor::load,
+        "page" => by_floor::page,
+        "srecord" => by_floor::srecord,
+        "srecords" => by_floor::srecords,
+        _ => return None,
+    })
+}
+
+fn work(who: &str, what: &str) -> Option<Work> {
+    match who {
+        "crate" => crate_work(what),
+        "face" => face_work(what),
+        "port" => port_work(what),
+        "floor" => floor_work(what),
+        _ => None,
+    }
 }
 
 const USAGE: &str = "\

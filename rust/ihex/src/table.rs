@@ -159,8 +159,8 @@ fn limit_of_two(windows: &[Window], i: usize, j: usize) -> Option<BadTable> {
     same.then_some(BadTable::SharedAddress(i, j))
 }
 
-/// The first limit that up to [`MAX_WINDOWS`] windows break, if they break one. `ihex_check_table` decides; this puts a
-/// name to it.
+/// The first limit that up to [`MAX_WINDOWS`] windows break, if they break one, in the order of [`Table::new`].
+/// `ihex_check_table` decides; this puts a name to it.
 fn limit(windows: &[Window], pool_len: usize) -> Option<BadTable> {
     if pool_len > MAX_POOL {
         return Some(BadTable::PoolTooLong(pool_len));
@@ -208,7 +208,13 @@ type Load = fn(
 type Outcome = fn(u32, usize, u8, [u64; 3]) -> Result<Loaded, LoadError>;
 
 impl Table {
-    /// A table of these windows for a pool of so many bytes, or the first limit that it breaks.
+    /// A table of these windows for a pool of so many bytes, or the first limit that it breaks. The limits are looked at
+    /// in this order:
+    ///
+    /// 1. the number of windows;
+    /// 2. the length of the pool;
+    /// 3. each window alone, in the order of the list: its end in the addresses, then its end in the pool;
+    /// 4. each two windows, in the order (0, 1), (0, 2) and so on, then (1, 2): a shared place, then a shared address.
     pub fn new(windows: &[Window], pool_len: usize) -> Result<Self, BadTable> {
         if windows.len() > MAX_WINDOWS {
             return Err(BadTable::TooManyWindows(windows.len()));
@@ -245,13 +251,16 @@ impl Table {
 
     /// Loads a text of Intel HEX for one owner into the pool, with the answers of [`load`](crate::load).
     ///
-    /// On acceptance each place of the owner's windows whose address the text states holds its byte, and its mark
-    /// is 1; every other place of the owner's windows keeps its byte, and its mark is 0. No other byte of the pool
-    /// and no other bit of the marks changes. A refused load changes nothing. [`LoadError::OutsideWindow`] is for a
-    /// byte that lies outside all windows of the owner; a record may lie in more than one window.
+    /// On acceptance each place of the owner's windows whose address the text states holds the last byte that it
+    /// states there, and its mark is 1; every other place of the owner's windows keeps its byte, and its mark is 0. No
+    /// other byte of the pool and no other bit of the marks changes. A refused load changes nothing.
+    /// [`LoadError::OutsideWindow`] is for a byte that lies outside all windows of the owner; a record may lie in more
+    /// than one window.
     ///
     /// The owners are apart: whatever the other owner loads through the same table, before or after, changes no
     /// answer of this owner's loads, and no byte or mark of this owner's places.
+    ///
+    /// What [`load`](crate::load) promises about noise is said of it alone, and not of a load through a table.
     ///
     /// `pool` and `marks` have the lengths that the table was made for, else it is [`LoadError::BadTable`].
     pub fn load<T>(

@@ -354,7 +354,7 @@ const WRITER_ERRORS: [(WriterError, u32, &str); 4] = [
     ),
 ];
 
-/// Each refusal of a load that is no line's, with its number, its line and its text.
+/// Each refusal of a load that is not a line's, with its number, its line and its text.
 const LOAD_ERRORS: [(LoadError, u32, Option<usize>, &str); 5] = [
     (
         LoadError::MissingEndOfFileRecord,

@@ -103,13 +103,45 @@ fn windows_share_nothing() {
     both(first(0, 8, 0), first(4, 0, 4), None);
     both(first(0, 8, 0), first(4, 0, 12), None);
     both(first(u32::MAX, 1, 0), first(0, 1, 1), None);
-    // A place goes before an address, and a window's own end before both.
-    both(first(0, 4, 0), first(0, 4, 0), place);
-    let wide = first(0, 17, 0);
-    assert_eq!(
-        limit(&[first(0, 4, 0), wide], 16),
-        Some(BadTable::BeyondPool(1))
+}
+
+/// Tables that break more than one limit: the first is named, in the order that `Table::new` states.
+#[test]
+fn the_first_limit_is_named() {
+    let named = |windows: &[Window], pool_len, why| {
+        assert_eq!(
+            limit(windows, pool_len),
+            Some(why),
+            "{windows:?} {pool_len}"
+        );
+    };
+    let (one, far, wide) = (first(0, 4, 0), first(u32::MAX, 2, 0), first(0, 17, 0));
+    let long = MAX_POOL + 1;
+    // The number of windows, the pool, and then the windows.
+    named(&[far; 17], long, BadTable::TooManyWindows(17));
+    named(&[far; 17], 16, BadTable::TooManyWindows(17));
+    named(&[far; 2], long, BadTable::PoolTooLong(long));
+    named(&[one; 2], long, BadTable::PoolTooLong(long));
+    // Each window in order, and its end in the addresses before its end in the pool.
+    named(&[wide, far], 16, BadTable::BeyondPool(0));
+    named(&[far, wide], 16, BadTable::BeyondAddresses(0));
+    let both = first(u32::MAX, 17, 0);
+    named(&[one, both], 16, BadTable::BeyondAddresses(1));
+    // Every window alone before any two.
+    named(&[one, one, second(0, 1, 16)], 16, BadTable::BeyondPool(2));
+    // Each two in order: by the number of the earlier window, then by that of the later one.
+    let (place, address) = (first(8, 4, 3), first(3, 4, 8));
+    named(&[one, address, place], 16, BadTable::SharedAddress(0, 1));
+    named(&[one, place, address], 16, BadTable::SharedPlace(0, 1));
+    let other = second(0, 4, 12);
+    named(
+        &[one, other, other, address],
+        16,
+        BadTable::SharedAddress(0, 3),
     );
+    named(&[other, one, other, place], 16, BadTable::SharedPlace(0, 2));
+    // A shared place before a shared address.
+    named(&[one, one], 16, BadTable::SharedPlace(0, 1));
 }
 
 /// Each two of sixteen, neighbours or not.

@@ -9,7 +9,7 @@ pub const REFUSED: u32 = 256;
 pub const DONE: u32 = 512;
 /// The chunk has no further answer: the next may be handed over.
 pub const USED_UP: u32 = 513;
-/// What should be written is no record: its type is not one of the format's, or its number does not fit the type.
+/// What should be written is not a record: its type is not one of the format's, or its number does not fit the type.
 pub const BAD_RECORD: u32 = 1024;
 
 /// Flag of the text reader: after a refused line, only [`DONE`].
@@ -18,13 +18,13 @@ pub const STOP_AFTER_FIRST_ERROR: u8 = 1;
 pub const STOP_AFTER_EOF: u8 = 2;
 /// Flag of the text reader: only [`DONE`] from now on.
 pub const FINISHED: u8 = 4;
-/// Flag of the chunk reader: behind the used bytes of the carry comes a CR.
+/// Flag of the chunk reader: a CR comes after the used bytes of the carry.
 pub const CR_WAITS: u8 = 8;
 
 /// The least length of a carry.
 pub const CARRY: usize = 522;
 
-/// The answer is no record, and no line is shown.
+/// The answer is not a record, and no line is shown.
 pub const NOWHERE: u8 = 0;
 /// The line that gave the record lies in the chunk.
 pub const IN_CHUNK: u8 = 1;

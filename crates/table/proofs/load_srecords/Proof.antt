@@ -1,4 +1,4 @@
--- `table::load_srecords` meets its contract: bytes that are no table are refused, and else the load is that of the windows.
+-- `table::load_srecords` meets its contract: bytes that are not a table are refused, and else the load is that of the windows.
 -- Assumes nothing.
 use mathlib.Core.Path.{sym, _∙_}
 use native.Mathlib.Omega.{arith}
@@ -13,19 +13,19 @@ use Rattle.table.proofs.load_srecords.Tie as tie
 returns : tie.Need-returns
 returns c =
     let s = c .before .before .before .before .before .before .args in
-    load-torn s-records (now (s .text)) (s .owner) (now (s .table)) (now (s .pool)) (now (s .marks)) (sym (c .before .is-torn .ensures) ∙ c .if1 .taken)
+    load-torn s-records (now (s .text)) (s .owner) (now (s .table)) (now (s .pool)) (now (s .marks)) (sym (c .before .is-torn-or-long .ensures) ∙ c .if1 .taken)
 
 array-share-prefix-numbers : tie.Need-array-share-prefix-numbers
-array-share-prefix-numbers c = omega (arith, passes (now (c .before .before .before .before .before .before .before .args .table)) (sym (c .before .before .is-torn .ensures) ∙ c .before .if1 .left))
+array-share-prefix-numbers c = omega (arith, passes (now (c .before .before .before .before .before .before .before .args .table)) (sym (c .before .before .is-torn-or-long .ensures) ∙ c .before .if1 .left))
 
 slice-aggregate : tie.Need-slice-aggregate-load-srecords-table
 slice-aggregate c =
-    sym (length-take-le _ (c .before .numbers-of .result) (omega (arith, c .before .numbers-of .ensures .as-many, passes (now (c .before .before .before .before .before .before .before .before .args .table)) (sym (c .before .before .before .is-torn .ensures) ∙ c .before .before .if1 .left))))
+    sym (length-take-le _ (c .before .numbers-of .result) (omega (arith, c .before .numbers-of .ensures .as-many, passes (now (c .before .before .before .before .before .before .before .before .args .table)) (sym (c .before .before .before .is-torn-or-long .ensures) ∙ c .before .before .if1 .left))))
 
 returns-2 : tie.Need-returns-2
 returns-2 c =
     let s = c .before .before .before .before .before .before .before .before .before .before .before .before .before .before .before .args in
-    load-whole s-records (now (s .text)) (s .owner) (now (s .table)) (now (s .pool)) (now (s .marks)) (sym (c .before .before .before .before .before .before .before .before .before .before .is-torn .ensures) ∙ c .before .before .before .before .before .before .before .before .before .if1 .left) (c .before .before .before .before .before .before .before .before .numbers-of .result) (c .before .before .before .before .before .before .before .before .numbers-of .ensures) _ _ _ (c .before .before .before .before .load-srecords-table .ensures)
+    load-whole s-records (now (s .text)) (s .owner) (now (s .table)) (now (s .pool)) (now (s .marks)) (sym (c .before .before .before .before .before .before .before .before .before .before .is-torn-or-long .ensures) ∙ c .before .before .before .before .before .before .before .before .before .if1 .left) (c .before .before .before .before .before .before .before .before .numbers-of .result) (c .before .before .before .before .before .before .before .before .numbers-of .ensures) _ _ _ (c .before .before .before .before .load-srecords-table .ensures)
 
 pub load-srecords-spec : {M : Type 1} → statement M
 load-srecords-spec =
