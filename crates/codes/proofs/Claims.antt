@@ -8,7 +8,7 @@ use Rattle.steps.specs.Steps.{cs-with-ip, linear-address}
 use Rattle.codes.specs.declared.Coded.{Coded}
 use Rattle.codes.specs.declared.Spot.{Spot}
 use Rattle.codes.specs.Codes.{Message, Coded-as}
-use Rattle.codes.specs.Claims.{Code-answer-unique, Code-sanswer-unique, Code-reply-unique, Code-chunk-reply-unique, Code-attempt-unique, Code-sattempt-unique, Code-loading-unique, Code-paged-unique, Code-salvaged-unique, Line-at-unique, Start-kind-unique, Code-table-unique, Start-returns, State-from-unique, Flags-from-unique, Chunks-from-unique, Chunk-flags-from-unique, Spot-of-unique, Place-from-unique}
+use Rattle.codes.specs.Claims.{Code-answer-unique, Code-sanswer-unique, Code-reply-unique, Code-chunk-reply-unique, Code-attempt-unique, Code-sattempt-unique, Code-loading-unique, Code-paged-unique, Code-salvaged-unique, Code-asked-unique, Asked-line-unique, Line-at-unique, Start-kind-unique, Code-table-unique, Start-returns, State-from-unique, Flags-from-unique, Chunks-from-unique, Chunk-flags-from-unique, Spot-of-unique, Place-from-unique}
 
 one-coding : {m : Message} {r r′ : Coded} → Coded-as m r → Coded-as m r′ → r ≡ r′
 one-coding {r = r} {r′ = r′} x y =
@@ -48,6 +48,12 @@ code-paged-unique answer r r′ x y = one-coding x y
 
 pub code-salvaged-unique : Code-salvaged-unique
 code-salvaged-unique answer r r′ x y = one-coding x y
+
+pub code-asked-unique : Code-asked-unique
+code-asked-unique answer r r′ x y = one-coding x y
+
+pub asked-line-unique : Asked-line-unique
+asked-line-unique answer r r′ x y = x .answer ∙ sym (y .answer)
 
 pub line-at-unique : Line-at-unique
 line-at-unique answer r r′ x y = x .answer ∙ sym (y .answer)

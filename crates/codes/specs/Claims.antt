@@ -25,9 +25,11 @@ use Rattle.page.specs.declared.Paged.{Paged}
 use Rattle.page.specs.Told.{told-page}
 use Rattle.salvage.specs.declared.Salvaged.{Salvaged}
 use Rattle.salvage.specs.Told.{told-salvage}
+use Rattle.query.specs.declared.Asked.{Asked}
+use Rattle.query.specs.Ask.{told-asked}
 use Rattle.codes.specs.declared.Coded.{Coded}
 use Rattle.codes.specs.declared.Spot.{Spot}
-use Rattle.codes.specs.Codes.{Message, Coded-as, reading, reading-chunk, writing, loading, salvaging, LineAt, start-values, kind-of-start, StartKind, CodeTable}
+use Rattle.codes.specs.Codes.{Message, Coded-as, reading, reading-chunk, writing, loading, salvaging, asking, LineAt, AskedLine, start-values, kind-of-start, StartKind, CodeTable}
 use Rattle.codes.specs.States.{state-of, flags-of, chunks-of, chunk-flags-of, lies-of, from-of, len-of, place-of, StateFrom, FlagsFrom, ChunksFrom, ChunkFlagsFrom, Spot-as, PlaceFrom}
 
 -- ---- no second answer meets a contract
@@ -62,6 +64,12 @@ Code-paged-unique = One-coding Paged (λ x. writing (some (told-page x)))
 
 abbrev pub Code-salvaged-unique : Type 0
 Code-salvaged-unique = One-coding Salvaged (λ x. salvaging (told-salvage x))
+
+abbrev pub Code-asked-unique : Type 0
+Code-asked-unique = One-coding Asked (λ x. asking (told-asked x))
+
+abbrev pub Asked-line-unique : Type 0
+Asked-line-unique = (x : Asked) (r r′ : ℕ) → AskedLine (told-asked x) r → AskedLine (told-asked x) r′ → r ≡ r′
 
 abbrev pub Line-at-unique : Type 0
 Line-at-unique = (x : Loading) (r r′ : ℕ) → LineAt (told-loading x) r → LineAt (told-loading x) r′ → r ≡ r′

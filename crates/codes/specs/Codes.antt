@@ -12,6 +12,7 @@ use Rattle.reader.specs.Told.{Told, gives, refuses, done}
 use Rattle.writer.specs.Told.{Told-written, wrote, refuses as refuses-to-write}
 use Rattle.chunks.specs.Next.{Word, tells, used-up}
 use Rattle.steps.specs.Steps.{Start, cs-with-ip, linear-address, Verdict, accepted, refused}
+use Rattle.steps.specs.Ask.{Asked, states, not-stated, refuses as refuses-to-say}
 use Rattle.salvage.specs.Told.{Told-salvage, saves, refuses as refuses-to-salvage}
 use Rattle.codes.specs.declared.Coded.{Coded}
 
@@ -35,6 +36,9 @@ DONE = 512
 
 abbrev pub USED-UP : ℕ
 USED-UP = 513
+
+abbrev pub NOT-STATED : ℕ
+NOT-STATED = 514
 
 abbrev pub BAD-RECORD : ℕ
 BAD-RECORD = 1024
@@ -95,6 +99,12 @@ abbrev pub salvaging : Told-salvage → Message
 salvaging (saves length entries) = message OK (length ∷ entries ∷ [])
 salvaging (refuses-to-salvage r) = refused-with r
 
+-- OK and the byte, or NOT-STATED
+abbrev pub asking : Asked → Message
+asking (states byte) = message OK (byte ∷ [])
+asking not-stated = message NOT-STATED []
+asking (refuses-to-say r line) = refused-with r
+
 -- the number of the line that a refusal names, and 0 where it names none
 abbrev pub line-at : Verdict → ℕ
 line-at (accepted tally) = 0
@@ -102,6 +112,15 @@ line-at (refused r line) = line
 
 pub record LineAt (v : Verdict) (r : ℕ) : Type 0 where
   pub answer : r ≡ line-at v
+
+-- the same of a byte that was asked
+abbrev pub asked-line : Asked → ℕ
+asked-line (states byte) = 0
+asked-line not-stated = 0
+asked-line (refuses-to-say r line) = line
+
+pub record AskedLine (a : Asked) (r : ℕ) : Type 0 where
+  pub answer : r ≡ asked-line a
 
 -- the kinds of starts: IHEX_NO_START, IHEX_START_SEGMENT_ADDRESS and IHEX_START_LINEAR_ADDRESS
 abbrev pub kind-of-start : Option Start → ℕ
@@ -130,6 +149,16 @@ abbrev pub load-numbers : Verdict → Load-numbers
 load-numbers v =
     let m = loading v in
     record { code = m .code; line = line-at v; start = start-kind v; a = value m 0; b = value m 1; c = value m 2 }
+
+-- what is returned of a byte that was asked: the code, the line that a refusal names, and two values
+pub record Ask-numbers : Type 0 where
+  pub code : ℕ
+  pub line : ℕ
+  pub a : ℕ
+  pub b : ℕ
+
+abbrev pub ask-numbers : Asked → Ask-numbers
+ask-numbers x = let m = asking x in record { code = m .code; line = asked-line x; a = value m 0; b = value m 1 }
 
 -- an answer in four numbers
 pub record Numbers (m : Message) (r a b c : ℕ) : Type 0 where

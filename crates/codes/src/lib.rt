@@ -6,6 +6,7 @@ use entries::Attempt;
 use entries::SAttempt;
 use page::PageError;
 use page::Paged;
+use query::Asked;
 use reader::Answer;
 use reader::ReaderError;
 use reader::ReaderOptions;
@@ -41,7 +42,8 @@ ghost use Rattle.steps.specs.Told.{told-loading, loader-refusal, tallied};
 ghost use Rattle.steps.specs.Steps.{accepted};
 ghost use Rattle.page.specs.Told.{told-page, page-refusal};
 ghost use Rattle.salvage.specs.Told.{told-salvage, salvage-refusal};
-ghost use Rattle.codes.specs.Codes.{Coded-as, refused-with, reading, reading-chunk, writing, loading, salvaging, LineAt, StartKind, CodeTable};
+ghost use Rattle.query.specs.Ask.{told-asked};
+ghost use Rattle.codes.specs.Codes.{Coded-as, refused-with, reading, reading-chunk, writing, loading, salvaging, asking, LineAt, AskedLine, StartKind, CodeTable};
 ghost use Rattle.codes.specs.States.{Flag, StateFrom, FlagsFrom, ChunksFrom, ChunkFlagsFrom, Spot-as, PlaceFrom};
 
 // The codes that are not the type of a record. A refusal's number is added to REFUSED.
@@ -52,6 +54,8 @@ const REFUSED: u32 = 256;
 const DONE: u32 = 512;
 
 const USED_UP: u32 = 513;
+
+const NOT_STATED: u32 = 514;
 
 const BAD_RECORD: u32 = 1024;
 
@@ -335,6 +339,28 @@ pub fn code_salvaged(answer: Salvaged) -> Coded
     match answer {
         Salvaged::Saved { length, entries } => four(OK, length as u64, entries as u64, 0),
         Salvaged::Refused(e) => code_salvage_error(e),
+    }
+}
+
+// A byte that was asked, or that none is stated.
+pub fn code_asked(answer: Asked) -> Coded
+    ensures { λ r. ⌜ Coded-as (asking (told-asked answer)) r ⌝ }
+{
+    match answer {
+        Asked::States(byte) => four(OK, byte as u64, 0, 0),
+        Asked::NotStated => four(NOT_STATED, 0, 0, 0),
+        Asked::Refused(e, _) => code_loader_error(e),
+    }
+}
+
+// The number of the line at which a text that was asked is refused.
+pub fn asked_line(answer: Asked) -> usize
+    ensures { λ r. ⌜ AskedLine (told-asked answer) r ⌝ }
+{
+    match answer {
+        Asked::States(_) => 0,
+        Asked::NotStated => 0,
+        Asked::Refused(_, line) => line,
     }
 }
 

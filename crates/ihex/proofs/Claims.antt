@@ -8,7 +8,7 @@ use Rattle.checksum.proofs.Claims.{checksum-unique}
 use Rattle.reader.specs.Told.{Told}
 use Rattle.writer.specs.Text.{Text}
 use Rattle.steps.specs.Source.{Source}
-use Rattle.loader.specs.Placing.{intel}
+use Rattle.intel.specs.Placing.{intel}
 use Rattle.srecload.specs.Placing.{s-records}
 use Rattle.chunks.specs.Next.{Outcome, next-outcome, finish-outcome}
 use Rattle.codes.specs.Codes.{Message, Numbers}

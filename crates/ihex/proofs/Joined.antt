@@ -15,9 +15,10 @@ use Rattle.steps.specs.Sites.{Loaded}
 use Rattle.steps.specs.Join.{together, Agreeing, Conflict, after-verdict, Answered-after, as-B, starts-differ}
 use Rattle.window.specs.Load.{room-of}
 use Rattle.window.specs.Reasons.{bad-one, no-end, at-line}
-use Rattle.loader.specs.Placing.{intel}
-use Rattle.loader.specs.Load.{steps-of, load}
-use Rattle.loader.specs.Claims.{start-on, Why}
+use Rattle.intel.specs.Placing.{intel, steps-of}
+use Rattle.loader.specs.Load.{load}
+use Rattle.intel.specs.Lines.{start-on}
+use Rattle.loader.specs.Claims.{Why}
 use Rattle.loader.specs.Joined.{joined, Meets-another, lines-before-B, end-record}
 use Rattle.loader.proofs.Claims.{reasons}
 use Rattle.loader.proofs.Joined.{answer-by-lengths, joined-accepted, joined-answered, joined-with-one-start, one-upon-another, what-a-panel-sees, either-grouping, nothing-stated, end-alone}

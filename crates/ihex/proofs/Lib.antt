@@ -14,3 +14,4 @@ pub mod Noise
 pub mod Joined
 pub mod Salvage
 pub mod Tables
+pub mod Asks

@@ -22,11 +22,11 @@ use Rattle.window.specs.Claims.{Window}
 use Rattle.window.specs.Reasons.{Why-in, bad-one, no-end, at-line, Load-reasons, Load-one-reason}
 use Rattle.window.proofs.Loads.{non-interference, same-placements, what-is-stored, refusal-changes-nothing}
 use Rattle.window.proofs.AsBytes.{packed-as-bytes}
-use Rattle.loader.specs.Placing.{intel}
-use Rattle.loader.specs.Claims.{Stops, the-end, no-record, first-outside, start-differs, account}
+use Rattle.intel.specs.Placing.{intel}
+use Rattle.intel.specs.Lines.{Stops, the-end, no-record, first-outside, start-differs, account}
 use Rattle.loader.proofs.Claims.{reasons}
 use Rattle.loader.proofs.OneReason.{one-reason}
-use Rattle.loader.proofs.Stored.{none-ends}
+use Rattle.intel.proofs.Puts.{none-ends}
 use Rattle.srecload.specs.Placing.{s-records}
 use Rattle.srecload.specs.Claims as s-claims
 use Rattle.srecload.specs.Claims.{account as s-account}

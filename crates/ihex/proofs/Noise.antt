@@ -13,7 +13,7 @@ use Rattle.record.proofs.Noise.{one-wrong-character, answer-by}
 use Rattle.record.proofs.Standing.{Stands, stands, fault-few}
 use Rattle.reader.specs.Answer.{answered, poured}
 use Rattle.steps.specs.Steps.{Verdict}
-use Rattle.loader.specs.Placing.{intel}
+use Rattle.intel.specs.Placing.{intel}
 use Rattle.loader.specs.Load.{load}
 use Rattle.loader.specs.Noise.{Refused-or-same, is-refused, is-the-same}
 use Rattle.loader.proofs.Noise.{load-noticed}

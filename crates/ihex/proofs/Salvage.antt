@@ -14,7 +14,8 @@ use Rattle.record.specs.Meaning.{Meaning}
 use Rattle.record.specs.Written.{line-of}
 use Rattle.reader.specs.Lines.{lines}
 use Rattle.steps.specs.Steps.{Tally, Verdict, accepted, refused as not-loaded}
-use Rattle.loader.specs.Load.{placements, load}
+use Rattle.intel.specs.Placing.{placements}
+use Rattle.loader.specs.Load.{load}
 use Rattle.salvage.specs.Salvage.{Entry, saved, clean, removed, refusal-for}
 use Rattle.salvage.specs.Claims.{Accounted, is-kept, is-listed}
 use Rattle.salvage.specs.Standing.{Among}

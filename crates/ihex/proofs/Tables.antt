@@ -15,17 +15,18 @@ use Rattle.record.specs.Refusals.{Refusal, refusal, bad-table}
 use Rattle.steps.specs.Steps.{Step, Tally, Verdict, accepted, refused}
 use Rattle.steps.specs.Source.{Source, steps-of}
 use Rattle.steps.specs.Sites.{Loaded}
-use Rattle.steps.specs.Account.{Account}
+use Rattle.steps.specs.Account.{Account, one-of, Among}
 use Rattle.steps.specs.Owners.{Event, load-by, loads-of}
 use Rattle.window.specs.declared.Row.{Row}
 use Rattle.window.specs.Table.{Is-owner, row, fits, inside-of, Bad-table}
 use Rattle.window.specs.Tables.{load-rows, load-table, Same-for, Cabinet, cabinet-after, answers-for}
-use Rattle.window.specs.Reasons.{Why-in, bad-one, no-end, at-line, Table-reasons, Table-one-reason, one-of, Among}
+use Rattle.window.specs.Reasons.{Why-in, bad-one, no-end, at-line, Table-reasons, Table-one-reason}
 use Rattle.window.proofs.Table.{refused-exactly, good-window-of}
 use Rattle.window.proofs.Tables.{load-bad-table, table-what-is-stored, table-unused-stay, table-refusal-changes-nothing, table-as-window, table-isolation}
-use Rattle.loader.specs.Placing.{Base, intel}
-use Rattle.loader.specs.Claims.{account, line-refusals}
-use Rattle.loader.proofs.Claims.{reasons-by-table, lines-give, total-by-table}
+use Rattle.intel.specs.Placing.{Base, intel}
+use Rattle.intel.specs.Lines.{account, line-refusals}
+use Rattle.loader.proofs.Claims.{reasons-by-table, total-by-table}
+use Rattle.intel.proofs.Claims.{lines-give}
 use Rattle.loader.proofs.OneReason.{one-reason-by-table}
 use Rattle.srecload.specs.Placing.{s-records}
 use Rattle.srecload.specs.Claims.{account as s-account, line-refusals as s-line-refusals}
@@ -46,17 +47,17 @@ use Rattle.ihex.specs.Tables.{Ihex-check-table-exactly, Table-torn, Ihex
 module _ {S : Type 0} (src : Source S) where
   module _ (text : List ℕ) (owner : ℕ) (table pool marks : List ℕ) (r : Load-numbers) (p m : List ℕ) (x : IhexLoadTableBy src text owner table pool marks r p m) where
     -- of whole windows, the load of the windows
-    as-windows : length table % 24 ≡ 0 → load-bytes src text owner table pool marks ≡ load-table src owner (rows-of table) text pool marks
+    pub as-windows : length table % 24 ≡ 0 → load-bytes src text owner table pool marks ≡ load-table src owner (rows-of table) text pool marks
     as-windows w = whole-table-loads S src text owner table pool marks w
 
-    accepts : r .code ≡ OK → (tally : Tally) × (load-bytes src text owner table pool marks .answer ≡ accepted tally)
+    pub accepts : r .code ≡ OK → (tally : Tally) × (load-bytes src text owner table pool marks .answer ≡ accepted tally)
     accepts ok = was-accepted (load-bytes src text owner table pool marks .answer) (ap (λ (n : Load-numbers). n .code) (sym (x .numbers)) ∙ ok)
 
     refuses : r .code ≢ OK → (w : Refusal) × (line : ℕ) × (load-bytes src text owner table pool marks .answer ≡ refused w line)
     refuses h = was-refused (load-bytes src text owner table pool marks .answer) (λ e. h (ap (λ (n : Load-numbers). n .code) (x .numbers) ∙ e))
 
     -- what is torn is refused, so what is accepted is whole
-    whole : (tally : Tally) → load-bytes src text owner table pool marks .answer ≡ accepted tally → length table % 24 ≡ 0
+    pub whole : (tally : Tally) → load-bytes src text owner table pool marks .answer ≡ accepted tally → length table % 24 ≡ 0
     whole tally e = go (eqb (length table % 24) 0) refl
       where
         go : (b : Bool) → eqb (length table % 24) 0 ≡ b → length table % 24 ≡ 0

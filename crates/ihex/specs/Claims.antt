@@ -21,7 +21,7 @@ use Rattle.srec.specs.Line as s-line
 use Rattle.srec.specs.Answer as s-answer
 use Rattle.steps.specs.Steps.{accepted}
 use Rattle.steps.specs.Source.{Source}
-use Rattle.loader.specs.Placing.{intel}
+use Rattle.intel.specs.Placing.{intel}
 use Rattle.srecload.specs.Placing.{s-records}
 use Rattle.entries.specs.Attempts.{record-text, srecord-text, list-text}
 use Rattle.page.specs.Pieces.{pieces}

@@ -28,13 +28,14 @@ use Rattle.window.specs.Table.{fits}
 use Rattle.table.specs.Load.{torn, load-bytes}
 use Rattle.entries.specs.Entry.{rows-of}
 use Rattle.window.specs.Load.{load-window}
-use Rattle.loader.specs.Placing.{intel}
+use Rattle.intel.specs.Placing.{intel}
 use Rattle.srecload.specs.Placing.{s-records}
 use Rattle.page.specs.File.{page-text}
 use Rattle.salvage.specs.Salvage.{refusal-for}
 use Rattle.salvage.specs.Told.{places-in, answered-by, output-by, list-by}
 use Rattle.entries.specs.Attempts.{told-of, output-with, record-text, srecord-text, list-text}
-use Rattle.codes.specs.Codes.{OK, BAD-TABLE, value, Numbers, Load-numbers, reading, reading-chunk, writing, load-numbers, salvaging}
+use Rattle.query.specs.Ask.{ask}
+use Rattle.codes.specs.Codes.{OK, BAD-TABLE, value, Numbers, Load-numbers, Ask-numbers, reading, reading-chunk, writing, load-numbers, ask-numbers, salvaging}
 use Rattle.codes.specs.States.{flags-of, chunk-flags-of, Spotted, place-of}
 
 -- what is returned for one line, in numbers, and the pool after it
@@ -175,3 +176,11 @@ pub record IhexPageFileLength (first : ℕ) (page marks : List ℕ) (r v : ℕ) 
 
 abbrev pub IhexWritePage : (first : ℕ) (page marks out : List ℕ) (r v : ℕ) (out′ : List ℕ) → Type 0
 IhexWritePage first page marks out r v out′ = Wrote-text (some (page-text first page marks)) out r v out′
+
+-- what is returned of a byte that was asked, in four numbers: the code, and what line, a and b hold
+abbrev pub asked-in : (r line a b : ℕ) → Ask-numbers
+asked-in r line a b = record { code = r; line = line; a = a; b = b }
+
+-- a byte was asked
+pub record IhexAsk (text : List ℕ) (address : ℕ) (r : Ask-numbers) : Type 0 where
+  pub numbers : r ≡ ask-numbers (ask text address)

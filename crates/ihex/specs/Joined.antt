@@ -13,8 +13,8 @@ use Rattle.marks.specs.Marks.{mark-at}
 use Rattle.steps.specs.Steps.{Start, nothing-yet}
 use Rattle.steps.specs.Join.{after-lines, Conflict}
 use Rattle.window.specs.Load.{room-of}
-use Rattle.loader.specs.Load.{steps-of, placements}
-use Rattle.loader.specs.Claims.{start-on}
+use Rattle.intel.specs.Placing.{steps-of, placements}
+use Rattle.intel.specs.Lines.{start-on}
 use Rattle.loader.specs.Joined.{joined, lines-before-B, Seen, end-record}
 use Rattle.codes.specs.Codes.{OK, Load-numbers, refused-with}
 use Rattle.ihex.specs.Entries.{six, IhexLoad}

@@ -20,9 +20,8 @@ use Rattle.steps.specs.Account.{Account}
 use Rattle.window.specs.Load.{stopping-by-window}
 use Rattle.window.specs.Reasons.{Why}
 use Rattle.window.specs.Loads.{byte-load}
-use Rattle.loader.specs.Placing.{intel}
-use Rattle.loader.specs.Load.{placements}
-use Rattle.loader.specs.Claims.{record-on, start-on, account}
+use Rattle.intel.specs.Placing.{intel, placements}
+use Rattle.intel.specs.Lines.{record-on, start-on, account}
 use Rattle.srecload.specs.Placing.{s-end, s-records}
 use Rattle.srecload.specs.Load as srecload
 use Rattle.srecload.specs.Claims.{record-on as srecord-on, account as s-account}

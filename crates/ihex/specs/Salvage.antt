@@ -9,7 +9,7 @@ use Rattle.record.specs.Meaning.{Meaning}
 use Rattle.record.specs.Written.{line-of}
 use Rattle.reader.specs.Lines.{lines}
 use Rattle.steps.specs.Steps.{Placement}
-use Rattle.loader.specs.Load.{placements}
+use Rattle.intel.specs.Placing.{placements}
 use Rattle.salvage.specs.Salvage.{Reason, Entry, entry, clean, removed}
 use Rattle.salvage.specs.Fates.{Says, Reached}
 use Rattle.salvage.specs.Bytes.{Nothing-behind}

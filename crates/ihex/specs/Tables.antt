@@ -15,12 +15,12 @@ use Rattle.reader.specs.Lines.{through}
 use Rattle.steps.specs.Steps.{Verdict, by, stated}
 use Rattle.steps.specs.Source.{Source, steps-of}
 use Rattle.steps.specs.Sites.{Shown, Owed}
-use Rattle.steps.specs.Account.{Account}
+use Rattle.steps.specs.Account.{Account, one-of}
 use Rattle.window.specs.Table.{Is-owner, row, site-of}
 use Rattle.window.specs.Tables.{stopping-by-table, Cabinet, Same-for}
-use Rattle.window.specs.Reasons.{Why-table, one-of}
-use Rattle.loader.specs.Placing.{intel}
-use Rattle.loader.specs.Claims.{account, line-refusals}
+use Rattle.window.specs.Reasons.{Why-table}
+use Rattle.intel.specs.Placing.{intel}
+use Rattle.intel.specs.Lines.{account, line-refusals}
 use Rattle.srecload.specs.Placing.{s-records}
 use Rattle.srecload.specs.Claims.{account as s-account, line-refusals as s-line-refusals}
 use Rattle.entries.specs.Entry.{WINDOW-SIZE, rows-of}

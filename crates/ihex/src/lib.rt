@@ -5,7 +5,7 @@ use steps::Loading;
 ghost use mathlib.Core.Path.{_≡_};
 ghost use Rattle.checksum.specs.Checksum.{Checksum};
 ghost use Rattle.codes.specs.States.{state-of, chunks-of, place-of};
-ghost use Rattle.ihex.specs.Entries.{start-of, six, TellStep, IhexReadRecord, IhexReadSrecord, IhexNext, IhexNextChunk, IhexFinish, IhexShown, IhexToRecordString, IhexToSrecordString, IhexCreateObjectFileRepresentation, TellLoad, IhexLoad, IhexLoadSrecords, IhexLoadTable, IhexLoadSrecordsTable, IhexCheckTable, IhexPageFileLength, IhexWritePage, IhexSalvage};
+ghost use Rattle.ihex.specs.Entries.{start-of, six, TellStep, IhexReadRecord, IhexReadSrecord, IhexNext, IhexNextChunk, IhexFinish, IhexShown, IhexToRecordString, IhexToSrecordString, IhexCreateObjectFileRepresentation, TellLoad, IhexLoad, IhexLoadSrecords, IhexLoadTable, IhexLoadSrecordsTable, IhexCheckTable, IhexPageFileLength, IhexWritePage, IhexSalvage, asked-in, IhexAsk};
 
 // The checksum of the bytes.
 #[no_mangle]
@@ -435,6 +435,25 @@ pub extern "C" fn ihex_salvage(
     ensures { λ r. ⌜ IhexSalvage (now (text .entry)) (now (out .entry)) (now (list .entry)) r (now (a .exit)) (now (b .exit)) (now (out .exit)) (now (list .exit)) ⌝ }
 {
     let told = codes::code_salvaged(salvage::salvage(text, out, list));
+    *a = told.a;
+    *b = told.b;
+    told.code
+}
+
+// The byte that a text states last at an address, if it states one.
+#[no_mangle]
+pub extern "C" fn ihex_ask(
+    text: &[u8],
+    address: u32,
+    line: &mut usize,
+    a: &mut u64,
+    b: &mut u64,
+) -> u32
+    ensures { λ r. ⌜ IhexAsk (now (text .entry)) address (asked-in r (now (line .exit)) (now (a .exit)) (now (b .exit))) ⌝ }
+{
+    let answer = query::ask(text, address);
+    let told = codes::code_asked(answer);
+    *line = codes::asked_line(answer);
     *a = told.a;
     *b = told.b;
     told.code

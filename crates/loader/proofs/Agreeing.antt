@@ -14,7 +14,7 @@ use Rattle.record.specs.Line.{Said, says, wrong, judge}
 use Rattle.record.specs.Noise.{Says-a-record}
 use Rattle.steps.specs.Steps.{Placement, Action, places, starts, counts, finishes, fails, Step, step, Tally, one-more, started, accepted, refused, by, outside, differ, on, stop, at-data, turn, onward, decision, stated}
 use Rattle.steps.specs.Source.{steps}
-use Rattle.loader.specs.Placing.{Base, act, base-after, intel, intel-by}
+use Rattle.intel.specs.Placing.{Base, act, base-after, intel, intel-by}
 
 -- ---- two lists of steps that are both accepted
 

@@ -25,14 +25,14 @@ use Rattle.steps.specs.Sites.{Loaded, store, stopping-by, stopping-in, load-ste
 use Rattle.steps.proofs.Sites.{stored-answer}
 use Rattle.window.specs.Window.{within, window, unfit, one-window}
 use Rattle.window.proofs.Tests.{within-true, good-window}
-use Rattle.loader.specs.Placing.{Base, from-segment, from-linear, from-start, byte-address, placed, base-behind, does, act, base-after, intel-by, along}
+use Rattle.intel.specs.Placing.{Base, from-segment, from-linear, from-start, byte-address, placed, base-behind, does, act, base-after, intel-by, along}
 use Rattle.marks.specs.Marks.{flags}
 use Rattle.steps.specs.Packed.{repacked, load-packed}
 use Rattle.window.specs.Load.{room-of, load-window}
 use Rattle.loader.specs.Load.{load}
 use Rattle.loader.specs.Segments.{flat, flat-load, In-segment, In-segments, Outside, Never-both, Same-or-outside}
-use Rattle.loader.specs.Helpers.{left, does-on}
-use Rattle.loader.proofs.Rows.{by-row}
+use Rattle.intel.specs.Records.{left, does-on}
+use Rattle.intel.proofs.Rows.{by-row}
 use Rattle.window.proofs.Loads.{accepted-window, accepted-decision}
 use Rattle.steps.proofs.Firsts.{Seen, seen}
 use Rattle.steps.proofs.Puts.{length-spread, first-inside}

@@ -5,7 +5,7 @@ use Rattle.steps.proofs.Sites.{owed-unique}
 use Rattle.window.proofs.Loads as loads
 use Rattle.window.proofs.Tables as tables
 use Rattle.window.proofs.AsBytes as bytes
-use Rattle.loader.specs.Placing.{intel}
+use Rattle.intel.specs.Placing.{intel}
 use Rattle.loader.specs.Claims.{Non-interference, What-is-stored, Owed-at-unique, Refusal-changes-nothing, Sizes-kept, Load-unique, Load-table-unique}
 use Rattle.loader.specs.Packed.{Packed-as-bytes}
 

@@ -33,10 +33,10 @@ use Rattle.window.specs.Window.{within, unfit, one-window}
 use Rattle.window.specs.Claims.{Window}
 use Rattle.window.proofs.Tests.{no-window}
 use Rattle.window.proofs.Storing.{shows}
-use Rattle.loader.specs.Placing.{Base, base-behind, placed, does, act, intel, intel-by}
+use Rattle.intel.specs.Placing.{Base, base-behind, placed, does, act, intel, intel-by, steps-of, placements}
 use Rattle.window.specs.Load.{room-of, stopping-by-window, load-window}
-use Rattle.loader.specs.Load.{steps-of, placements, stopping, load}
-use Rattle.loader.specs.Claims.{said-record, starts as line-starts, start-on}
+use Rattle.loader.specs.Load.{load}
+use Rattle.intel.specs.Lines.{said-record, starts as line-starts, start-on}
 use Rattle.loader.specs.Joined.{before-end, reset, joined, May-be-joined, End-record, Before-end-made-so, Before-end-only-so, Accepted-has-end, Answer-by-lengths, Joined-accepted, Joined-answered, Joined-one-answer, Joined-with-one-start, Joined-states, Upon, One-upon-another, Seen, from-B, from-A, as-before, What-a-panel-sees, Either-grouping, Nothing-stated, end-record, End-alone, Examples}
 use Rattle.window.proofs.Loads.{load-answer, fit-stopping, plain, as-plain, plain-sizes, row, mark-of, fit-window}
 use Rattle.loader.proofs.Demand3.{what-is-stored, sizes-kept}

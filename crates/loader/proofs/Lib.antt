@@ -1,10 +1,7 @@
-pub mod Rows
 pub mod Demand3
-pub mod Reasons
 pub mod Claims
 pub mod OneReason
 pub mod Runs
-pub mod Calls
 pub mod Meeting
 pub mod Passes
 pub mod Loads

@@ -8,6 +8,7 @@ use mathlib.Core.Option.{Option}
 use mathlib.Core.List.{List}
 use lib.ListN.{length}
 use Rattle.reader.specs.Along.{unread}
+use Rattle.intel.specs.Records.{Under-way}
 use Rattle.steps.specs.Steps.{nothing-yet, decision, verdict}
 use Rattle.window.specs.Contracts.{Painted}
 use Rattle.steps.specs.declared.Loading.{Loading}
@@ -19,16 +20,17 @@ use Rattle.loader.specs.declared.Further.{Further}
 use Rattle.loader.specs.declared.Further.the-variants as further
 use Rattle.loader.specs.declared.Walk.{Walk}
 use Rattle.window.specs.Load.{Same-painting}
-use Rattle.loader.specs.Load.{placements, steps-of}
+use Rattle.intel.specs.Placing.{placements, steps-of}
 use Rattle.steps.specs.Told.{tallied, told-loading}
-use Rattle.loader.specs.Helpers.{ahead-of, Under-way, Few, Onward, Judged, Written-on, Wrote}
+use Rattle.loader.specs.Helpers.{ahead-of, Few, Onward, Judged, Written-on, Wrote}
 use Rattle.window.proofs.Loads.{painting-start, painting-on, painting-end}
-use Rattle.loader.proofs.Passes.{start, start-under-way, start-few, start-ahead}
+use Rattle.loader.proofs.Passes.{start, start-few, start-ahead}
+use Rattle.intel.proofs.Calls.{start-under-way}
 
 -- ---- the first pass
 
 pub record Judging (inside : ℕ → Bool) (text pool : List ℕ) (w : Walk) (tally : CodeTally) : Type 0 where
-  pub under-way : Under-way text w
+  pub under-way : Under-way text (w .state)
   pub few : Few text w tally
   pub room : length pool ≡ 255
   pub same : decision inside (tallied tally) (ahead-of w text) ≡ decision inside nothing-yet (steps-of text)
@@ -56,7 +58,7 @@ module _ (inside : ℕ → Bool) (text pool : List ℕ) where
 -- ---- the second pass
 
 pub record Writing (site : ℕ → Option ℕ) (text page₀ marks₀ page marks pool : List ℕ) (w : Walk) : Type 0 where
-  pub under-way : Under-way text w
+  pub under-way : Under-way text (w .state)
   pub room : length pool ≡ 255
   pub sizes : length marks ≡ length marks₀
   pub same : Same-painting site (steps-of text) page₀ marks₀ (ahead-of w text) page marks

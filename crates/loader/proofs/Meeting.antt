@@ -6,11 +6,11 @@ use Prim.Native.Nat.{ℕ, suc, _+_, _-_, _≤_}
 use native.Mathlib.Numerals.{add-one}
 use native.Mathlib.Omega.{arith}
 use mathlib.Core.Bool.{Bool, true, false}
-use mathlib.Core.Option.{Option, none, some, Option·map}
+use mathlib.Core.Option.{Option, some, Option·map}
 use mathlib.Core.List.{List, [], _∷_, _++_}
 use lib.ListN.{length, take, drop, length-drop}
 use lib.Seq.{length-take-le}
-use Rattle.digits.specs.Common.{if_then_else_, or-else}
+use Rattle.digits.specs.Common.{if_then_else_}
 use Rattle.record.specs.Refusals.{outside-window, start-conflict}
 use Rattle.record.specs.Record.{meant}
 use Rattle.record.specs.declared.Record.{Record}
@@ -18,7 +18,7 @@ use Rattle.record.specs.declared.Record.the-variants.{Data, EndOfFile, Extended
 use Rattle.digits.proofs.Parts.{part-is}
 use Rattle.reader.specs.Row.{is-end}
 use Rattle.steps.specs.Steps.{Start, starts, Step, Tally, started, accepted, refused, outside, differ, on, stop, turn, decision, verdict}
-use Rattle.steps.proofs.Starts.{agreed}
+use Rattle.steps.proofs.Starts.{kept-so}
 use Rattle.window.specs.declared.Reach.{Reach}
 use Rattle.window.specs.declared.Reach.the-variants.{Inside, Outside}
 use Rattle.window.specs.Contracts.{first-byte, Surveyed, Painted}
@@ -32,9 +32,10 @@ use Rattle.steps.specs.declared.Tally.{Tally as CodeTally}
 use Rattle.loader.specs.declared.Turn.{Turn}
 use Rattle.loader.specs.declared.Turn.the-variants.{On, Stop}
 use Rattle.loader.specs.declared.Walk.{Walk}
-use Rattle.loader.specs.Placing.{Base, base-behind, byte-address, placed, does}
+use Rattle.intel.specs.Placing.{Base, base-behind, byte-address, placed, does}
 use Rattle.steps.specs.Told.{told-start, tallied}
-use Rattle.loader.specs.Helpers.{based, stated-by, Short, Lies-in, Behind, does-on, Passed, Met, MeetsStart}
+use Rattle.loader.specs.Helpers.{based, stated-by, Behind, Passed, Met, MeetsStart}
+use Rattle.intel.specs.Records.{Lies-in, does-on}
 
 -- ---- the base behind a record
 
@@ -67,15 +68,6 @@ module _ (base : CodeBase) (x : Record) where
 
 pub part-small : (at len : ℕ) (pool : List ℕ) → length (take len (drop at pool)) ≤ 255 → length (take (at + len - at) (drop at pool)) ≤ 255
 part-small at len pool h = rw (part-is pool at len) h
-
--- a record whose payload lies in a pool is as short as that
-pub short-record : (x : Record) (pool : List ℕ) → Lies-in x pool → Short x
-short-record (Data offset at len) pool (i, s) = omega (arith, i, s, length-take-le len (drop at pool) (omega (arith, i, length-drop at pool)))
-short-record EndOfFile pool l = tt
-short-record (ExtendedSegmentAddress n) pool l = tt
-short-record (StartSegmentAddress cs ip) pool l = tt
-short-record (ExtendedLinearAddress n) pool l = tt
-short-record (StartLinearAddress n) pool l = tt
 
 -- ---- the first pass
 
@@ -129,11 +121,6 @@ module _ (inside : ℕ → Bool) (w : Walk) (tally : CodeTally) (x : Record) (po
   met-end e rest = rw e
 
 -- ---- a start
-
--- a start that does not differ from the first is the one that is kept
-kept-so : (o : Option Start) (s : Start) → differ o (some s) ≡ false → some s ≡ or-else o (some s)
-kept-so none s d = refl
-kept-so (some x) s d = ap some (agreed x s d)
 
 module _ (there : Walk) (tally : CodeTally) (stated : CodeStart) where
   pub start-refused : differ (told-start (tally .start)) (told-start stated) ≡ true → MeetsStart there tally stated (Stop (Refused StartConflict (there .state .line)))

@@ -22,10 +22,10 @@ use Rattle.steps.specs.Source as source
 use Rattle.steps.specs.Sites.{painted, marked}
 use Rattle.steps.proofs.Sites.{accepted-by}
 use Rattle.window.specs.Window.{window}
-use Rattle.loader.specs.Placing.{from-start, intel-by, intel}
+use Rattle.intel.specs.Placing.{from-start, intel-by, intel, steps-of, placements}
 use Rattle.marks.specs.Marks.{flags, packed}
 use Rattle.window.specs.Load.{room-of, stopping-by-window, load-window}
-use Rattle.loader.specs.Load.{steps-of, placements, stopping, load}
+use Rattle.loader.specs.Load.{stopping, load}
 use Rattle.loader.specs.Noise.{No-LF, Slips, the-rest, last-line, one-more, Damaged, one-slip, one-in-each-line, cut-off, Refused-or-same, is-refused, is-the-same, Damage-is-noticed, Examples}
 use Rattle.window.proofs.Loads.{load-answer, accepted-load}
 use Rattle.loader.proofs.Demand3.{refusal-changes-nothing}

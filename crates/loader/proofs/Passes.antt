@@ -2,16 +2,15 @@
 -- marks as they are, stays all of it painted on them as they were.
 -- Assumes nothing.
 use mathlib.Core.Path.{_≡_, refl, sym, ap, ap₂, _∙_}
-use Prim.Native.Nat.{ℕ, _+_, _^_, _≤_, _<_}
+use Prim.Native.Nat.{ℕ, _+_, _^_, _<_}
 use native.Mathlib.Omega.{arith}
-use mathlib.Core.Bool.{Bool, true, false, _&&_}
+use mathlib.Core.Bool.{Bool, true, false}
 use mathlib.Core.Option.{Option}
 use mathlib.Core.List.{List, [], _∷_, _++_}
 use lib.ListN.{length}
-use Rattle.digits.specs.Common.{if_then_else_}
 use Rattle.record.specs.Refusals.{missing-end-of-file-record}
 use Rattle.record.specs.Line.{wrong}
-use Rattle.record.specs.Meaning.{Meaning, data-at, end-of-file, extended-segment, start-segment, extended-linear, start-linear, meaning}
+use Rattle.record.specs.Meaning.{Meaning, data-at, end-of-file, extended-segment, start-segment, extended-linear, start-linear}
 use Rattle.record.specs.Record.{meant}
 use Rattle.record.specs.declared.Record.{Record}
 use Rattle.reader.specs.declared.ReaderError.{ReaderError}
@@ -33,21 +32,18 @@ use Rattle.steps.specs.declared.Tally.{Tally as CodeTally}
 use Rattle.loader.specs.declared.Turn.{Turn}
 use Rattle.loader.specs.declared.Turn.the-variants.{On, Stop}
 use Rattle.loader.specs.declared.Walk.{Walk}
-use Rattle.loader.specs.Placing.{Base, base-behind, does, act, base-after, along}
-use Rattle.loader.specs.Load.{steps-of}
+use Rattle.intel.specs.Placing.{Base, base-behind, does, act, base-after, along, steps-of}
 use Rattle.steps.specs.Told.{tallied}
 use Rattle.window.specs.Load.{Same-painting}
-use Rattle.loader.specs.Helpers.{based, stated-by, Behind, left, ahead-of, does-on, Under-way, Few, Met, Judged, Written-on}
-use Rattle.loader.proofs.Rows.{steps-along}
-use Rattle.loader.proofs.Calls.{One}
+use Rattle.loader.specs.Helpers.{based, stated-by, Behind, ahead-of, Few, Met, Judged, Written-on}
+use Rattle.intel.specs.Records.{left, does-on, Under-way}
+use Rattle.intel.proofs.Rows.{steps-along}
+use Rattle.intel.proofs.Calls.{One, more-unread, fewer-unread}
 
 -- ---- the beginning
 
 abbrev pub start : Walk
 start = record { state = new-state default-options; base = Segment 0 }
-
-pub start-under-way : (text : List ℕ) → length text < 2 ^ 64 → Under-way text start
-start-under-way text h = record { options = refl; countable = omega (arith, lines-few text .0) }
 
 pub start-few : (text : List ℕ) → Few text start (record { records = 0; start = Unstated })
 unfolding unread
@@ -56,12 +52,6 @@ start-few text = omega (arith, lines-few text .0, sayings-few 1 (lines text))
 pub start-ahead : (text : List ℕ) → ahead-of start text ≡ steps-of text
 unfolding unread
 start-ahead text = sym (steps-along text)
-
--- ---- one call
-
-cut-shorter : (b : Bool) (more : List Numbered) → length (if b then [] else more) ≤ length more
-cut-shorter true more = omega arith
-cut-shorter false more = omega arith
 
 -- ---- an accepted record's step
 
@@ -76,7 +66,7 @@ stated-step n base (start-segment cs ip) row row′ h g = rw (h refl)
 stated-step n base (extended-linear x) row row′ h g = rw (h refl)
 stated-step n base (start-linear x) row row′ h g = rw (h refl)
 
-module _ (text : List ℕ) (w : Walk) (pool : List ℕ) (r : Replied) (pool′ : List ℕ) (under : Under-way text w) (room : length pool ≡ 255) (next : Next (w .state) text pool 0 r pool′) where
+module _ (text : List ℕ) (w : Walk) (pool : List ℕ) (r : Replied) (pool′ : List ℕ) (under : Under-way text (w .state)) (room : length pool ≡ 255) (next : Next (w .state) text pool 0 r pool′) where
   abbrev Here : Record → Type 0
   Here x = One (w .state) text pool r pool′ (under .options) (under .countable) room next x
 
@@ -88,15 +78,13 @@ module _ (text : List ℕ) (w : Walk) (pool : List ℕ) (r : Replied) (pool′ :
 
   -- unless it is the end, these are still unread
   unread-more : (x : Record) (one : Here x) → is-end (meant x pool′) ≡ false → one .more ≡ unread (r .state) text
-  unread-more x one e = sym (one .left ∙ rw (ap is-end (sym (one .means)) ∙ e))
+  unread-more x one e = more-unread (w .state) text pool r pool′ (under .options) (under .countable) room next x one e
 
   unread-none : (x : Record) (one : Here x) → is-end (meant x pool′) ≡ true → unread (r .state) text ≡ []
   unread-none x one e = one .left ∙ rw (ap is-end (sym (one .means)) ∙ e)
 
   shorter : (x : Record) → Here x → length (unread (r .state) text) < length (unread (w .state) text)
-  shorter x one =
-      let m = meaning (one .kind) (one .address) (one .payload) in
-      rw (one .first, one .left) (omega (arith, cut-shorter (is-end m && true) (one .more)))
+  shorter x one = fewer-unread (w .state) text pool r pool′ (under .options) (under .countable) room next x one
 
   -- ---- the first pass
 

@@ -6,7 +6,7 @@ use native.Mathlib.Omega.{arith}
 use Rattle.window.proofs.Spread.{Runs}
 use Rattle.loader.specs.declared.Base.{Base as CodeBase}
 use Rattle.loader.specs.declared.Base.the-variants.{Segment, Linear}
-use Rattle.loader.specs.Placing.{byte-address}
+use Rattle.intel.specs.Placing.{byte-address}
 use Rattle.loader.specs.Helpers.{based}
 
 two-runs : (base : CodeBase) (offset len : ℕ) → offset < 65536 → len ≤ 255 → Runs (byte-address (based base) offset) (min len (65536 - offset)) len

@@ -4,17 +4,14 @@ use Prim.Native.Nat.{ℕ, suc, _+_, _≤_, _<_}
 use mathlib.Core.Path.{_≡_}
 use mathlib.Core.Bool.{Bool, false}
 use mathlib.Core.Option.{Option, some}
-use mathlib.Core.List.{List, [], _++_, map}
+use mathlib.Core.List.{List, [], _++_}
 use lib.ListN.{length}
 use Rattle.record.specs.Meaning.{Meaning}
-use Rattle.record.specs.Record.{meant, Inside}
-use Rattle.record.specs.Written.{payload-of}
+use Rattle.record.specs.Record.{meant}
 use Rattle.record.specs.declared.Record.{Record}
-use Rattle.record.specs.declared.Record.the-variants.{Data, EndOfFile, ExtendedSegmentAddress, StartSegmentAddress, ExtendedLinearAddress, StartLinearAddress}
-use Rattle.reader.specs.Row.{Numbered, is-end}
-use Rattle.reader.specs.Text.{default-options}
-use Rattle.reader.specs.Along.{unread, Countable}
-use Rattle.steps.specs.Steps.{Start, Step, step, Turn as Came, on, stop, at-start, decision, verdict, stated}
+use Rattle.reader.specs.Row.{is-end}
+use Rattle.reader.specs.Along.{unread}
+use Rattle.steps.specs.Steps.{Start, Step, Turn as Came, on, stop, at-start, decision, verdict, stated}
 use Rattle.loader.specs.declared.Base.{Base as CodeBase}
 use Rattle.loader.specs.declared.Base.the-variants.{Segment, Linear}
 use Rattle.steps.specs.declared.Start.{Start as CodeStart}
@@ -24,8 +21,9 @@ use Rattle.loader.specs.declared.Turn.{Turn}
 use Rattle.loader.specs.declared.Turn.the-variants.{On, Stop}
 use Rattle.loader.specs.declared.Further.{Further}
 use Rattle.loader.specs.declared.Further.the-variants as further
-use Rattle.loader.specs.Placing.{Base, segment, linear, base-behind, does, along}
-unfoldable pub use Rattle.loader.specs.Placing.{stated-by}
+use Rattle.intel.specs.Placing.{Base, segment, linear, base-behind}
+unfoldable pub use Rattle.intel.specs.Placing.{stated-by}
+use Rattle.intel.specs.Records.{Lies-in, left, does-on, Under-way}
 use Rattle.steps.specs.Told.{told-start, tallied, told-loading}
 use Rattle.window.specs.Load.{Same-painting}
 
@@ -35,37 +33,15 @@ abbrev pub based : CodeBase → Base
 based (Segment number) = segment number
 based (Linear number) = linear number
 
--- a record's payload is no longer than a line can say
-abbrev pub Short : Record → Type 0
-Short (Data offset at len) = len ≤ 255
-Short EndOfFile = Unit
-Short (ExtendedSegmentAddress number) = Unit
-Short (StartSegmentAddress cs ip) = Unit
-Short (ExtendedLinearAddress number) = Unit
-Short (StartLinearAddress number) = Unit
-
--- and it lies in the pool
-abbrev pub Lies-in : Record → (pool : List ℕ) → Type 0
-Lies-in x pool = Inside x (length pool) × (length (payload-of (meant x pool)) ≤ 255)
-
 -- the base after a record, wherever its payload lies
 pub record Behind (base : CodeBase) (x : Record) (r : CodeBase) : Type 0 where
   pub base-is : (pool : List ℕ) → based r ≡ base-behind (based base) (meant x pool)
 
 -- ---- the first pass
 
--- the steps of sayings, from a base on
-abbrev pub left : Base → List Numbered → List Step
-left base row = along (λ b. b) base row
-
 -- the steps that a walk has still before it
 abbrev pub ahead-of : Walk → (text : List ℕ) → List Step
 ahead-of w text = left (based (w .base)) (unread (w .state) text)
-
--- a walk along a text that was begun at its beginning
-pub record Under-way (text : List ℕ) (w : Walk) : Type 0 where
-  pub options : w .state .options ≡ default-options
-  pub countable : Countable (w .state) text
 
 -- so many data records were met, and there are still few enough to be counted
 abbrev pub Few : (text : List ℕ) → Walk → CodeTally → Type 0
@@ -75,10 +51,6 @@ Few text w tally = tally .records + length (unread (w .state) text) ≤ length t
 abbrev pub told-turn : Turn → Came
 told-turn (On tally w) = on (tallied tally)
 told-turn (Stop l) = stop (told-loading l)
-
--- what a record does on line n
-abbrev pub does-on : (line : ℕ) → Base → Meaning → List Step
-does-on n base m = map (step n) (does base m)
 
 -- a record that was read, whatever steps follow it: it passes, or it decides
 pub record Passed (inside : ℕ → Bool) (w : Walk) (tally : CodeTally) (m : Meaning) (w′ : Walk) (tally′ : CodeTally) : Type 0 where
@@ -103,7 +75,7 @@ pub record MeetsStart (there : Walk) (tally : CodeTally) (stated : CodeStart) (t
 
 -- a line was judged: the decision on what is left is the decision on what was left, or it is returned
 pub record Onward (inside : ℕ → Bool) (text : List ℕ) (w : Walk) (tally : CodeTally) (w′ : Walk) (tally′ : CodeTally) : Type 0 where
-  pub under-way : Under-way text w′
+  pub under-way : Under-way text (w′ .state)
   pub few : Few text w′ tally′
   pub same : decision inside (tallied tally′) (ahead-of w′ text) ≡ decision inside (tallied tally) (ahead-of w text)
   pub less : length (unread (w′ .state) text) < length (unread (w .state) text)
@@ -116,7 +88,7 @@ Judged inside text w tally (Stop l) = told-loading l ≡ verdict (decision insid
 
 -- a line was written: the walk goes on, or nothing more is stated
 pub record Written-on (site : ℕ → Option ℕ) (text : List ℕ) (w : Walk) (page₀ marks₀ : List ℕ) (w′ : Walk) (page′ marks′ : List ℕ) : Type 0 where
-  pub under-way : Under-way text w′
+  pub under-way : Under-way text (w′ .state)
   pub less : length (unread (w′ .state) text) < length (unread (w .state) text)
   pub same : Same-painting site (ahead-of w text) page₀ marks₀ (ahead-of w′ text) page′ marks′
 

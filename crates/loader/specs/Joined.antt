@@ -18,9 +18,10 @@ use Rattle.steps.specs.Join as join
 use Rattle.steps.specs.Join.{Whole-lines, Joinable, together, Agreeing, after-verdict, Answered-after}
 use Rattle.window.specs.Claims.{Window}
 use Rattle.window.specs.Load.{room-of}
-use Rattle.loader.specs.Placing.{intel}
-use Rattle.loader.specs.Load.{placements, load}
-use Rattle.loader.specs.Claims.{record-on, start-on, beyond}
+use Rattle.intel.specs.Placing.{intel, placements}
+use Rattle.loader.specs.Load.{load}
+use Rattle.intel.specs.Lines.{record-on, start-on}
+use Rattle.loader.specs.Claims.{beyond}
 
 -- ---- the joined text
 

@@ -1,4 +1,3 @@
-pub mod Placing
 pub mod Load
 pub mod Claims
 pub mod Helpers

@@ -1,22 +1,13 @@
--- A text of Intel HEX loaded through one window: its records as a source, of which `Placing` says where bytes lie, in a load as `window` has it.
+-- A text of Intel HEX loaded through one window: its records as a source, which `Placing` of `intel` has, in a load as `window` has it.
 -- Assumes nothing.
 use Prim.Native.Nat.{ℕ}
 use mathlib.Core.Option.{Option}
 use mathlib.Core.List.{List}
 use Rattle.steps.specs.declared.Loading.{Loading}
-use Rattle.steps.specs.Steps.{Placement, Step, Decision, stated}
-use Rattle.steps.specs.Source as source
+use Rattle.steps.specs.Steps.{Decision}
 use Rattle.steps.specs.Sites.{Loaded}
 use Rattle.window.specs.Load.{stopping-by-window, load-window, LoadWindow}
-use Rattle.loader.specs.Placing.{intel}
-
--- a text's steps
-abbrev pub steps-of : List ℕ → List Step
-steps-of text = source.steps-of intel text
-
--- what an accepted text states: (address, byte), in order, before its end record
-abbrev pub placements : List ℕ → List Placement
-placements text = stated (source.steps-of intel text)
+use Rattle.intel.specs.Placing.{intel}
 
 -- where and how a text stops a load: before the first line if the window is refused, else at the first line that decides, if one does
 abbrev pub stopping : List ℕ → (first : ℕ) (page marks : List ℕ) → Option Decision

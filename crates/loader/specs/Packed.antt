@@ -9,7 +9,7 @@ use Rattle.marks.specs.Marks.{row-length}
 use Rattle.steps.specs.Sites.{Loaded}
 use Rattle.window.specs.Loads as loads
 use Rattle.window.specs.Loads.{Unpacks-to}
-use Rattle.loader.specs.Placing.{intel}
+use Rattle.intel.specs.Placing.{intel}
 use Rattle.loader.specs.Load.{load}
 
 -- a load whose marks are 0 or 1, a byte for each place

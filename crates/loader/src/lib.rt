@@ -20,9 +20,10 @@ ghost use Rattle.steps.specs.Told.{told-loading};
 ghost use Rattle.window.specs.Table.{rows-in, site-of, inside-of, Sound};
 ghost use Rattle.window.specs.Tables.{LoadTable};
 ghost use Rattle.window.specs.Contracts.{Surveyed, Painted};
-ghost use Rattle.loader.specs.Placing.{intel, byte-address, placed};
-ghost use Rattle.loader.specs.Load.{placements, steps-of, Load};
-ghost use Rattle.loader.specs.Helpers.{based, stated-by, Short, Lies-in, Behind, Under-way, Few, MeetsStart, Meets, Judged, Wrote};
+ghost use Rattle.intel.specs.Placing.{intel, byte-address, placed, placements, steps-of};
+ghost use Rattle.loader.specs.Load.{Load};
+ghost use Rattle.loader.specs.Helpers.{based, stated-by, Behind, Few, MeetsStart, Meets, Judged, Wrote};
+ghost use Rattle.intel.specs.Records.{Short, Lies-in, Under-way};
 
 // How many bytes a segment has.
 const SEGMENT: usize = 65536;
@@ -216,7 +217,7 @@ fn judge_next(
     w: Walk,
     tally: Tally,
 ) -> Turn
-    requires { ⌜ Under-way (now text) w × Few (now text) w tally × (length (now pool) ≡ 255) ⌝ }
+    requires { ⌜ Under-way (now text) (w .state) × Few (now text) w tally × (length (now pool) ≡ 255) ⌝ }
     ensures { λ r. ⌜ Judged (inside-of owner (rows-in (now (rows .entry)))) (now (text .entry)) w tally r ⌝ }
 {
     let state = w.state;
@@ -304,7 +305,7 @@ fn write_next(
     page: &mut [u8],
     marks: &mut [u8],
 ) -> Further
-    requires { ⌜ Under-way (now text) w × (length (now pool) ≡ 255) × Sound (length (now page)) (rows-in (now rows)) ⌝ }
+    requires { ⌜ Under-way (now text) (w .state) × (length (now pool) ≡ 255) × Sound (length (now page)) (rows-in (now rows)) ⌝ }
     ensures { λ r. ⌜ Wrote (site-of owner (rows-in (now (rows .entry)))) (now (text .entry)) w (now (page .entry)) (now (marks .entry)) r (now (page .exit)) (now (marks .exit)) ⌝ }
 {
     let state = w.state;

@@ -27,14 +27,14 @@ use Rattle.record.proofs.Choices.{or-else-none}
 use Rattle.record.proofs.Writing.{reads-back}
 use Rattle.reader.specs.Row.{Numbered, on}
 use Rattle.steps.specs.Steps.{Placement, Tally, nothing-yet, accepted, by, outside, turn, decision, verdict, stated}
-use Rattle.loader.specs.Placing.{Base, linear, from-start, byte-address, placed, base-behind, does, act, base-after, intel, along}
-use Rattle.loader.specs.Helpers.{left, does-on}
+use Rattle.intel.specs.Placing.{Base, linear, from-start, byte-address, placed, base-behind, does, act, base-after, intel, along, steps-of, placements}
+use Rattle.intel.specs.Records.{left, does-on}
 use Rattle.window.specs.Window.{within, window, unfit}
 use Rattle.steps.specs.Sites.{last-at, mark, byte-shown, mark-shown, painted, marked, stopping-by, Loaded}
-use Rattle.loader.specs.Load.{steps-of, placements, stopping, load}
+use Rattle.loader.specs.Load.{stopping, load}
 use Rattle.window.specs.Claims.{Window}
 use Rattle.steps.proofs.Places.{painted-at, marked-at, length-painted, length-marked}
-use Rattle.loader.proofs.Rows.{cut-text}
+use Rattle.intel.proofs.Rows.{cut-text}
 use Rattle.window.proofs.Loads.{fit-stopping, accepted-load}
 use Rattle.steps.specs.Runs.{spread}
 use Rattle.window.specs.Load.{stopping-by-window}

@@ -9,6 +9,7 @@
 //   M FIRST PAGE MARKS BYTES       the text of these bytes, loaded into a page of PAGE bytes from the address FIRST on, with MARKS bytes of marks
 //   N OWNER POOL MARKS BYTES WINDOW WINDOW ..
 //                                  the text of these bytes, loaded for OWNER through a table into a pool of POOL bytes, with MARKS bytes of marks
+//   Q ADDRESS BYTES                the text of these bytes, asked for the byte at ADDRESS
 //
 // A record is its type, two numbers, and the position and the length of its payload. The first number
 // is the offset of data and the number of types 02 to 05 (of 03: CS, and the second is IP). Bit 0 of
@@ -29,16 +30,19 @@
 //   done                        the text has no more answers
 //   W LENGTH                    so many bytes were written
 //   A RECORDS START             loaded, with so many data records; the start is told as its record, X3 or X5, or not at all
+//   B BYTE                      the text states this byte at the address
+//   none                        it states none there
 //   ! NUMBER VALUES             a refusal
 //
 // The answers of T stand in one line with `; ` between them, up to "done" or refusal 10, and at most
 // 40 of them. Behind ` @` stands the number of lines behind which the reader stands then. One more
 // call, with a pool of 4,096 bytes, is told at the end without its pool. A first answer alone has no
-// ` @`. After a refusal of M or N stand ` @` and the number of its line.
+// ` @`. After a refusal of M, N or Q stand ` @` and the number of its line.
 //
 // The number of a refusal is in decimal, and every other number in hexadecimal with capitals. A
 // case that is none of these is answered by `?`. Each case ends in LF, and what a case has beyond
 // 4,096 bytes is dropped.
+use query::Asked;
 use reader::Answer;
 use reader::ReaderError;
 use reader::ReaderOptions;
@@ -492,26 +496,29 @@ fn say_tally(tally: Tally) {
     }
 }
 
+// A refusal of a text, and the number of its line.
+fn say_stop(e: LoaderError, line: usize) {
+    match e {
+        LoaderError::Line(why) => say_refusal(why),
+        LoaderError::MissingEndOfFileRecord => {
+            say_refused(refusals::MISSING_END_OF_FILE_RECORD, 0, 0)
+        }
+        LoaderError::BadWindow => say_refused(refusals::BAD_WINDOW, 0, 0),
+        LoaderError::OutsideWindow(a) => say_refused(refusals::OUTSIDE_WINDOW, a as u64, 8),
+        LoaderError::CountMismatch(stated, seen) => {
+            say_refused(refusals::COUNT_MISMATCH, stated as u64, 1);
+            say_field(b' ', seen as u64, 1);
+        }
+        LoaderError::StartConflict => say_refused(refusals::START_CONFLICT, 0, 0),
+        LoaderError::BadTable => say_refused(refusals::BAD_TABLE, 0, 0),
+    }
+    say_line(line);
+}
+
 fn say_loading(l: Loading) {
     match l {
         Loading::Accepted(tally) => say_tally(tally),
-        Loading::Refused(e, line) => {
-            match e {
-                LoaderError::Line(why) => say_refusal(why),
-                LoaderError::MissingEndOfFileRecord => {
-                    say_refused(refusals::MISSING_END_OF_FILE_RECORD, 0, 0)
-                }
-                LoaderError::BadWindow => say_refused(refusals::BAD_WINDOW, 0, 0),
-                LoaderError::OutsideWindow(a) => say_refused(refusals::OUTSIDE_WINDOW, a as u64, 8),
-                LoaderError::CountMismatch(stated, seen) => {
-                    say_refused(refusals::COUNT_MISMATCH, stated as u64, 1);
-                    say_field(b' ', seen as u64, 1);
-                }
-                LoaderError::StartConflict => say_refused(refusals::START_CONFLICT, 0, 0),
-                LoaderError::BadTable => say_refused(refusals::BAD_TABLE, 0, 0),
-            }
-            say_line(line);
-        }
+        Loading::Refused(e, line) => say_stop(e, line),
     }
 }
 
@@ -579,6 +586,27 @@ fn lend_marks(kind: u8, text: &[u8], bytes: &[u8], page: &mut [u8], x: usize) {
         page,
         &mut marks[0..n],
     );
+}
+
+fn say_asked(a: Asked) {
+    match a {
+        Asked::States(byte) => {
+            say_char(b'B');
+            say_field(b' ', byte as u64, 2);
+        }
+        Asked::NotStated => {
+            io::write_all(1, b"none");
+        }
+        Asked::Refused(e, line) => say_stop(e, line),
+    }
+}
+
+// Asks the text whose bytes stand at `from` for the byte at an address.
+fn ask_case(text: &[u8], address: u32, from: usize) {
+    let mut bytes = io::buffer();
+    let k = unspell(text, from, &mut bytes);
+    let a = query::ask(front(&bytes, k), address);
+    say_asked(a);
 }
 
 // Runs a case on the buffer that it lends, of which M and N alone may have more than 4,096 bytes. `x` is the position of L, the flags of T, and
@@ -653,6 +681,7 @@ fn answer(text: &[u8]) {
         b'O' => lending_case(b'O', OUTPUT_BYTE, text, a.next, x, b.next),
         b'M' => load_case(b'M', text, y, b.next),
         b'N' => load_case(b'N', text, y, b.next),
+        b'Q' => ask_case(text, (a.value % ADDRESSES) as u32, a.next),
         _ => say_char(b'?'),
     }
 }

@@ -8,7 +8,7 @@ use mathlib.Core.List.{List, [], _∷_, Memᴰ·append-right, List·Memᴰ, List
 use Rattle.reader.specs.Lines.{lines}
 use Rattle.reader.specs.Row.{row}
 use Rattle.steps.specs.Source.{steps-of}
-use Rattle.loader.specs.Placing.{from-start, intel-by}
+use Rattle.intel.specs.Placing.{from-start, intel-by}
 use Rattle.loader.proofs.Demand3.{what-is-stored}
 use Rattle.salvage.specs.Salvage.{fates, saved, clean}
 use Rattle.salvage.specs.Standing.{Stands, broken-off, same, damaged, Stretch-stands, Differs-in-refused, no-lines, equal, instead, Among, none, this, over}

@@ -26,12 +26,11 @@ use Rattle.reader.specs.Row.{Numbered, on, sayings, is-end, stops, through-stop
 use Rattle.reader.specs.Text.{default-options}
 use Rattle.reader.proofs.Cutting.{lines-closed, closed}
 use Rattle.steps.specs.Steps.{Placement, step, stated}
-use Rattle.loader.specs.Placing.{Base, from-start, placed, stated-by, base-behind, does, act, base-after, along}
-use Rattle.loader.specs.Claims.{said-record}
-use Rattle.loader.proofs.Rows.{cut-text}
+use Rattle.intel.specs.Placing.{Base, from-start, placed, stated-by, base-behind, does, act, base-after, along}
+use Rattle.intel.specs.Lines.{said-record}
+use Rattle.intel.proofs.Rows.{cut-text}
 use Rattle.writer.specs.Line.{line-refusal, line}
-use Rattle.writer.specs.Object.{ends, ends-in-end, joined-lines}
-use Rattle.writer.specs.Object.{is-end as is-end-record}
+use Rattle.writer.specs.Object.{ends, ends-in-end, joined-lines, is-end as is-end-record}
 use Rattle.writer.proofs.Objects.{whole-object}
 use Rattle.page.specs.Spoken.{said-of}
 use Rattle.page.proofs.Spoken.{lines-of}

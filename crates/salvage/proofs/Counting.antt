@@ -22,7 +22,7 @@ use Rattle.reader.specs.Text.{new-state}
 use Rattle.record.proofs.Writing.{written-length}
 use Rattle.reader.proofs.Texts.{lines-few}
 use Rattle.writer.proofs.Measuring.{line-length}
-use Rattle.loader.specs.Helpers.{Lies-in}
+use Rattle.intel.specs.Records.{Lies-in}
 use Rattle.salvage.specs.declared.Entry.{Entry as CodeEntry}
 use Rattle.salvage.specs.declared.Walk.{Walk}
 use Rattle.salvage.specs.declared.Turn.{Turn}

@@ -7,7 +7,7 @@ use Rattle.record.specs.Line.{judge}
 use Rattle.record.specs.Meaning.{meaning}
 use Rattle.steps.specs.Steps.{stated}
 use Rattle.steps.specs.Source.{steps-of}
-use Rattle.loader.specs.Placing.{intel-by}
+use Rattle.intel.specs.Placing.{intel-by}
 use Rattle.salvage.specs.Salvage.{clean, removed}
 use Rattle.salvage.specs.Claims.{Limits, Examples}
 

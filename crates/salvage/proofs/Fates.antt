@@ -15,7 +15,7 @@ use Rattle.record.specs.Meaning.{Meaning, data-at, end-of-file, extended-segmen
 use Rattle.reader.specs.Lines.{lines}
 use Rattle.reader.specs.Row.{Numbered, on, sayings, is-end, stops, through-stop, row}
 use Rattle.digits.proofs.Tests.{and-true}
-use Rattle.loader.specs.Claims.{said-record}
+use Rattle.intel.specs.Lines.{said-record}
 use Rattle.salvage.specs.Salvage.{base-unknown, Fate, kept, dropped, fate-of, fate, still-known, known-behind, of, sorted, past-refusals, fates}
 use Rattle.salvage.specs.Fates.{Says, Refused, Sets-base, Unknown, Becomes, not-a-record, data-lost, data-kept, other-kept, Goes-on, Fated}
 use Rattle.salvage.specs.Claims.{Fates-of-lines, One-fate}

@@ -20,9 +20,10 @@ use Rattle.steps.proofs.Firsts.{every-at}
 use Rattle.window.specs.Window.{within}
 use Rattle.window.specs.Reasons.{bad-one, no-end, at-line}
 use Rattle.loader.specs.Load.{load}
-use Rattle.loader.specs.Claims.{said-record, record-on, Stops, the-end, no-record, first-outside, start-differs, Why}
+use Rattle.intel.specs.Lines.{said-record, record-on, Stops, the-end, no-record, first-outside, start-differs}
+use Rattle.loader.specs.Claims.{Why}
 use Rattle.loader.proofs.Claims.{reasons}
-use Rattle.loader.proofs.Stored.{none-ends}
+use Rattle.intel.proofs.Puts.{none-ends}
 use Rattle.salvage.specs.Salvage.{saved, clean}
 use Rattle.salvage.specs.Claims.{One-end, the-last, ahead-of-it, Clean-loads}
 use Rattle.salvage.proofs.Clean.{saved-ends, saved-sayable, clean-lines}

@@ -23,7 +23,7 @@ use Rattle.writer.specs.declared.Written.{Written}
 use Rattle.writer.specs.declared.Written.the-variants.{Wrote, Refused}
 use Rattle.writer.specs.Told.{wrote, told-written}
 use Rattle.writer.specs.Line.{line-refusal, WriteStep}
-use Rattle.loader.specs.Helpers.{Lies-in}
+use Rattle.intel.specs.Records.{Lies-in}
 use Rattle.salvage.specs.declared.Entry.{Entry as CodeEntry}
 use Rattle.salvage.specs.declared.Walk.{Walk}
 use Rattle.salvage.specs.declared.Turn.{Turn}

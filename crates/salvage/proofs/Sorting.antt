@@ -1,6 +1,6 @@
 -- What a line comes to: the call of the reader says what stands on it, and what is left after it is what was left without it.
 -- Assumes nothing.
-use Prim.Native.Nat.{ℕ, suc, _<_}
+use Prim.Native.Nat.{ℕ, _<_}
 use mathlib.Core.Path.{_≡_, refl, sym, ap, ap₂, _∙_}
 use native.Mathlib.Omega.{arith}
 use mathlib.Core.Bool.{Bool, true, false, _&&_}
@@ -8,7 +8,7 @@ use mathlib.Core.List.{List, [], _∷_}
 use lib.ListN.{length}
 use Rattle.digits.specs.Common.{if_then_else_}
 use Rattle.record.specs.Refusals.{number-of}
-use Rattle.record.specs.Meaning.{end-of-file, meaning}
+use Rattle.record.specs.Meaning.{end-of-file}
 use Rattle.record.specs.Record.{meant}
 use Rattle.record.specs.declared.Record.{Record}
 use Rattle.reader.specs.declared.ReaderError.{ReaderError}
@@ -16,17 +16,17 @@ use Rattle.reader.specs.declared.ReaderError.the-variants.{MissingStartCode, Re
 use Rattle.reader.specs.declared.Values.{Values}
 use Rattle.reader.specs.declared.Figures.{Figures}
 use Rattle.reader.specs.declared.Replied.{Replied}
-use Rattle.reader.specs.declared.Reply.the-variants.{Read, Refused, Done}
+use Rattle.reader.specs.declared.Reply.the-variants.{Refused, Done}
 use Rattle.reader.specs.Told.{refusal-of, values-in, first-of, second-of, FiguresOf}
-use Rattle.reader.specs.Row.{Numbered, on, is-end, stops, through-stop}
+use Rattle.reader.specs.Row.{Numbered, is-end, stops, through-stop}
 use Rattle.reader.specs.Text.{Next}
 use Rattle.reader.specs.Along.{unread}
-use Rattle.loader.proofs.Calls.{One, after-refused, came-done}
+use Rattle.intel.proofs.Calls.{One, after-refused, came-done, fewer-unread}
 use Rattle.salvage.specs.declared.Entry.{Entry as CodeEntry}
 use Rattle.salvage.specs.declared.Walk.{Walk}
 use Rattle.salvage.specs.declared.Turn.{Turn}
 use Rattle.salvage.specs.declared.Turn.the-variants.{Keeps, Drops, Ends, Missing}
-use Rattle.salvage.specs.Salvage.{refused, base-unknown, Fate, kept, dropped, fate-of, fate, still-known, known-behind, Sorted, of, sorted, past-refusals, records, Entry, end-added, entries}
+use Rattle.salvage.specs.Salvage.{refused, base-unknown, Fate, kept, dropped, fate-of, fate, still-known, known-behind, Sorted, of, sorted, past-refusals, records, end-added, entries}
 use Rattle.salvage.specs.Helpers.{Tells, Sorts, left, Under-way, Onward, Dropped-on, SortsNext}
 
 -- ---- the numbers of a refusal
@@ -76,12 +76,7 @@ module _ (text : List ℕ) (w : Walk) (pool : List ℕ) (r : Replied) (pool′ :
   under-way-after x one known = record { options = one .options; countable = one .countable }
 
   shorter : (x : Record) (one : Here x) → length (unread (r .state) text) < length (unread (w .state) text)
-  shorter x one =
-      rw (one .first, one .left) (omega (arith, cut (is-end (meaning (one .kind) (one .address) (one .payload)) && true) (one .more)))
-    where
-      cut : (b : Bool) (more : List Numbered) → length (if b then [] else more) < suc (length more)
-      cut true more = omega arith
-      cut false more = omega arith
+  shorter x one = fewer-unread (w .state) text pool r pool′ (under .options) (under .countable) room next x one
 
   onward : (x : Record) → Here x → (known : Bool) → Onward text w (record { state = r .state; known = known })
   onward x one known = record { under-way = under-way-after x one known; less = shorter x one }

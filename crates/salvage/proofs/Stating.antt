@@ -14,10 +14,10 @@ use Rattle.record.specs.Line.{Said, says, wrong, judge}
 use Rattle.record.specs.Meaning.{Meaning, data-at, end-of-file, extended-segment, start-segment, extended-linear, start-linear, meaning}
 use Rattle.reader.specs.Row.{on, sayings, is-end, stops, through-stop}
 use Rattle.reader.specs.Text.{default-options}
-use Rattle.loader.specs.Claims.{said-record}
+use Rattle.intel.specs.Lines.{said-record}
 use Rattle.steps.specs.Steps.{Placement, step, stated}
 use Rattle.steps.specs.Source.{steps}
-use Rattle.loader.specs.Placing.{Base, segment, linear, placed, stated-by, base-behind, does, act, base-after, intel-by, intel}
+use Rattle.intel.specs.Placing.{Base, segment, linear, placed, stated-by, base-behind, does, act, base-after, intel-by, intel}
 use Rattle.salvage.specs.Salvage.{fate-of, fate, still-known, known-behind, of, sorted, past-refusals, records}
 use Rattle.salvage.specs.Fates.{Says, Refused, Goes-on}
 use Rattle.salvage.specs.Standing.{Stands, broken-off, same, respelt, damaged, ended, gained, lost, Among, none, this, over}

@@ -7,7 +7,7 @@ use lib.ListN.{length}
 use Rattle.digits.specs.Common.{Every}
 use Rattle.record.specs.Meaning.{end-of-file}
 use Rattle.reader.specs.Lines.{lines}
-use Rattle.loader.specs.Load.{placements}
+use Rattle.intel.specs.Placing.{placements}
 use Rattle.salvage.specs.Salvage.{clean}
 use Rattle.salvage.specs.Fates.{Says}
 use Rattle.salvage.specs.Standing.{Undamaged, Among}

@@ -19,8 +19,8 @@ use Rattle.writer.specs.Object.{object}
 use Rattle.page.specs.Spoken.{said-of}
 use Rattle.marks.specs.Marks.{mark-at}
 use Rattle.steps.specs.Steps.{Placement, Tally, accepted, refused as not-loaded}
-use Rattle.loader.specs.Placing.{Base, from-start, stated-by, base-behind}
-use Rattle.loader.specs.Load.{placements, load}
+use Rattle.intel.specs.Placing.{Base, from-start, stated-by, base-behind, placements}
+use Rattle.loader.specs.Load.{load}
 use Rattle.salvage.specs.Salvage.{refused, base-unknown, Reason, Fate, kept, dropped, Sorted, of, fates, Entry, entry, end-added, saved, clean, removed}
 use Rattle.salvage.specs.Fates.{Says, Goes-on, Reached, Fated}
 use Rattle.salvage.specs.Standing.{Stands, Differs-in-refused, Undamaged, Among}

@@ -10,7 +10,7 @@ use Rattle.digits.specs.Common.{Every}
 use Rattle.record.specs.Refusals.{Refusal}
 use Rattle.record.specs.Line.{wrong, judge}
 use Rattle.record.specs.Meaning.{Meaning, data-at, end-of-file, extended-segment, extended-linear}
-use Rattle.loader.specs.Claims.{record-on}
+use Rattle.intel.specs.Lines.{record-on}
 use Rattle.salvage.specs.Salvage.{refused, base-unknown, Fate, kept, dropped}
 
 -- the line says the record

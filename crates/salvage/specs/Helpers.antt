@@ -15,7 +15,7 @@ use Rattle.reader.specs.declared.State.{State}
 use Rattle.reader.specs.Row.{is-end, through-stop}
 use Rattle.reader.specs.Lines.{LF}
 use Rattle.reader.specs.Along.{unread, Countable}
-use Rattle.loader.specs.Helpers.{Lies-in}
+use Rattle.intel.specs.Records.{Lies-in}
 use Rattle.salvage.specs.declared.Entry.{Entry as CodeEntry}
 use Rattle.salvage.specs.declared.Walk.{Walk}
 use Rattle.salvage.specs.declared.Turn.{Turn}

@@ -17,7 +17,7 @@ ghost use Rattle.digits.specs.Common.{pasted};
 ghost use Rattle.record.specs.Refusals.{missing-end-of-file-record};
 ghost use Rattle.reader.specs.Told.{refusal-of};
 ghost use Rattle.reader.specs.Text.{new-state};
-ghost use Rattle.loader.specs.Helpers.{Short};
+ghost use Rattle.intel.specs.Records.{Short};
 ghost use Rattle.salvage.specs.Salvage.{past-refusals, refused};
 ghost use Rattle.salvage.specs.Told.{low-first, Salvages};
 ghost use Rattle.salvage.specs.Helpers.{Tells, SortsRecord, Under-way, SortsNext, WithLine, WithEntry, LineLength, Surveyed, PutLine, PutEntry, Fits, Wrote-all};

@@ -19,8 +19,8 @@ use Rattle.srec.proofs.Standing.{Stands, stands}
 use Rattle.srec.proofs.Claims.{admits, names-the-offender}
 use Rattle.steps.specs.Steps.{Placement, nothing-yet, Verdict, refused, stated}
 use Rattle.steps.specs.Source as source
-use Rattle.steps.specs.Account.{Decided}
-use Rattle.window.specs.Reasons.{bad-one, no-end, at-line, Among}
+use Rattle.steps.specs.Account.{Decided, Among}
+use Rattle.window.specs.Reasons.{bad-one, no-end, at-line}
 use Rattle.window.specs.Load.{stopping-by-window, load-window}
 use Rattle.window.specs.Window.{within}
 use Rattle.window.specs.Claims.{Window}

@@ -21,12 +21,12 @@ use Rattle.marks.specs.Marks.{row-length, mark-at}
 use Rattle.steps.specs.declared.Loading.{Loading}
 use Rattle.steps.specs.Steps.{Placement, linear-address, Tally, Verdict, accepted, refused, by}
 use Rattle.steps.specs.Sites.{Loaded, Owed-at}
-use Rattle.steps.specs.Account.{Account}
+use Rattle.steps.specs.Account.{Account, Among}
 use Rattle.window.specs.declared.Row.{Row}
 use Rattle.window.specs.Tables.{load-table, LoadTable}
 use Rattle.window.specs.Loads.{Alike, Unpacks-to}
 use Rattle.window.specs.Loads as loads
-use Rattle.window.specs.Reasons.{Load-reasons, Load-one-reason, Table-reasons, Table-one-reason, Among}
+use Rattle.window.specs.Reasons.{Load-reasons, Load-one-reason, Table-reasons, Table-one-reason}
 use Rattle.window.specs.Reasons as reasons
 use Rattle.srecload.specs.Placing.{S-meaning, s-header, s-data, s-count, s-end, s-meaning, s-placed, s-states, s-records}
 use Rattle.srecload.specs.Load.{stopping, placements, load, LoadSRecords}

@@ -11,3 +11,4 @@ pub mod Joined
 pub mod Firsts
 pub mod Puts
 pub mod Owners
+pub mod Ask

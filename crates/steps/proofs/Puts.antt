@@ -50,7 +50,7 @@ module _ (at : ℕ → ℕ) where
 
   module _ (a : ℕ) where
     -- what the bytes from byte i on have at the address: none of them, or this one as the last
-    abbrev In-record : (i : ℕ) → List ℕ → Option ℕ → Type 0
+    abbrev pub In-record : (i : ℕ) → List ℕ → Option ℕ → Type 0
     In-record i bytes none = (j : ℕ) → j < length bytes → at (i + j) ≢ a
     In-record i bytes (some b) =
         (j : ℕ) × (j < length bytes) × (at (i + j) ≡ a) × (getD bytes j 0 ≡ b) × ((k : ℕ) → k < length bytes → at (i + k) ≡ a → k ≤ j)
@@ -76,7 +76,7 @@ module _ (at : ℕ → ℕ) where
         nowhere zero l p = eqb-false (at i) a e (rw (← (add-zero i)) p)
         nowhere (suc k) l p = let s : i + suc k ≡ suc i + k = omega arith in f k (omega arith) (rw (← s) p)
 
-    in-record : (i : ℕ) (bytes : List ℕ) → In-record i bytes (last-at a (spread at i bytes))
+    pub in-record : (i : ℕ) (bytes : List ℕ) → In-record i bytes (last-at a (spread at i bytes))
     unfolding last-at spread
     in-record i [] = λ j h. absurd (omega arith)
     in-record i (b ∷ bytes) = one-byte i b bytes (last-at a (spread at (suc i) bytes)) (eqb (at i) a) refl (in-record (suc i) bytes)
@@ -280,6 +280,18 @@ module _ (h : Holding) where
 
 -- ---- nothing else meets it
 
+-- two last bytes are one
+pub one-last : (P : (n i b : ℕ) → Type 0) → ((n i b b′ : ℕ) → P n i b → P n i b′ → b ≡ b′) → (b b′ : ℕ) → Last-put P b → Last-put P b′ → b ≡ b′
+one-last P only b b′ p q =
+    let (l, d) = same (p .none-later (q .line) (q .i) b′ (q .puts)) (q .none-later (p .line) (p .i) b (p .puts)) in
+    only (q .line) (q .i) b b′ (rw (l, d) at (p .puts)) (q .puts)
+  where
+    same : (q .line < p .line) ⊎ ((q .line ≡ p .line) × (q .i ≤ p .i)) → (p .line < q .line) ⊎ ((p .line ≡ q .line) × (p .i ≤ q .i)) → (p .line ≡ q .line) × (p .i ≡ q .i)
+    same (inl h) (inl k) = absurd (omega arith)
+    same (inl h) (inr (e, k)) = absurd (omega arith)
+    same (inr (e, h)) (inl k) = absurd (omega arith)
+    same (inr (e, h)) (inr (f, k)) = (f, omega arith)
+
 pub owed-put-unique : (P : (n i b : ℕ) → Type 0) → ((n i b b′ : ℕ) → P n i b → P n i b′ → b ≡ b′)
     → (old m m′ b b′ : ℕ) → Owed-put P old m b → Owed-put P old m′ b′ → (m ≡ m′) × (b ≡ b′)
 owed-put-unique P only old m m′ b b′ x y = go (x .one-or-zero) (y .one-or-zero)
@@ -288,20 +300,8 @@ owed-put-unique P only old m m′ b b′ x y = go (x .one-or-zero) (y .one-or-ze
     differ : (c d n n′ : ℕ) → Owed-put P old n c → Owed-put P old n′ d → n ≡ 1 → n′ ≡ 0 → ⊥
     differ c d n n′ p q e f = let k = q .marked-iff-put .1 (p .marked-iff-put .0 e) in omega arith
 
-    -- two last bytes are one
-    one : Last-put P b → Last-put P b′ → b ≡ b′
-    one p q =
-        let (l, d) = same (p .none-later (q .line) (q .i) b′ (q .puts)) (q .none-later (p .line) (p .i) b (p .puts)) in
-        only (q .line) (q .i) b b′ (rw (l, d) at (p .puts)) (q .puts)
-      where
-        same : (q .line < p .line) ⊎ ((q .line ≡ p .line) × (q .i ≤ p .i)) → (p .line < q .line) ⊎ ((p .line ≡ q .line) × (p .i ≤ q .i)) → (p .line ≡ q .line) × (p .i ≡ q .i)
-        same (inl h) (inl k) = absurd (omega arith)
-        same (inl h) (inr (e, k)) = absurd (omega arith)
-        same (inr (e, h)) (inl k) = absurd (omega arith)
-        same (inr (e, h)) (inr (f, k)) = (f, omega arith)
-
     go : (m ≡ 1) ⊎ (m ≡ 0) → (m′ ≡ 1) ⊎ (m′ ≡ 0) → (m ≡ m′) × (b ≡ b′)
-    go (inl e) (inl f) = (e ∙ sym f, one (x .marked-holds e) (y .marked-holds f))
+    go (inl e) (inl f) = (e ∙ sym f, one-last P only b b′ (x .marked-holds e) (y .marked-holds f))
     go (inl e) (inr f) = absurd (differ b b′ m m′ x y e f)
     go (inr e) (inl f) = absurd (differ b′ b m′ m y x f e)
     go (inr e) (inr f) = (e ∙ sym f, x .unmarked-keeps e ∙ sym (y .unmarked-keeps f))

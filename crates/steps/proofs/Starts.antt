@@ -4,7 +4,7 @@ use mathlib.Core.Path.{_≡_, refl, sym, ap, ap₂, _∙_, subst}
 use mathlib.Core.Logic.{_≢_}
 use Prim.Native.Nat.{ℕ}
 use native.Mathlib.Omega.{arith}
-use mathlib.Core.Bool.{Bool, true, false, not}
+use mathlib.Core.Bool.{Bool, true, false}
 use mathlib.Core.Option.{Option, none, some}
 use mathlib.Core.List.{List, [], _∷_, _++_}
 use lib.Dec.{eqb}
@@ -30,6 +30,11 @@ same-self (linear-address a) = eq-eqb a a refl
 -- what does not differ from the first is the first
 pub agreed : (x s : Start) → differ (some x) (some s) ≡ false → s ≡ x
 agreed x s e = sym (same-true x s (not-false (same-start x s) e))
+
+-- a start that does not differ from the first is the one that is kept
+pub kept-so : (o : Option Start) (s : Start) → differ o (some s) ≡ false → some s ≡ or-else o (some s)
+kept-so none s d = refl
+kept-so (some x) s d = ap some (agreed x s d)
 
 pub differing : (x s : Start) → differ (some x) (some s) ≡ true → s ≢ x
 differing x s e q =

@@ -3,9 +3,12 @@
 -- Assumes nothing.
 use mathlib.Core.Path.{_≡_}
 use Prim.Native.Nat.{ℕ, suc}
+use mathlib.Core.Bool.{Bool, true, false, _||_}
 use mathlib.Core.List.{List, [], _∷_, _++_}
+use lib.Dec.{eqb}
 use lib.ListN.{length}
-use Rattle.steps.specs.Steps.{Placement, Tally, Verdict, accepted}
+use Rattle.record.specs.Refusals.{number-of}
+use Rattle.steps.specs.Steps.{Placement, Tally, Verdict, accepted, refused}
 
 -- what a format says of a line after others: it does not stop a load; as line n it stops a load with a verdict; these are the placements that it
 -- states
@@ -34,3 +37,12 @@ pub record Decided (a : Account) (ls : List (List ℕ)) (placements : List Place
   pub pass : All-pass a [] ahead
   pub stops : a .stops ahead line n v
   pub stated : (tally : Tally) → v ≡ accepted tally → placements ≡ all-states (a .states) [] ahead
+
+-- a refusal has one of these numbers
+abbrev pub one-of : List ℕ → ℕ → Bool
+one-of [] n = false
+one-of (x ∷ xs) n = eqb n x || one-of xs n
+
+abbrev pub Among : (numbers : List ℕ) → Verdict → Type 0
+Among numbers (accepted tally) = Unit
+Among numbers (refused r line) = one-of numbers (number-of r) ≡ true

@@ -9,3 +9,4 @@ pub mod Join
 pub mod Puts
 pub mod Account
 pub mod Owners
+pub mod Ask

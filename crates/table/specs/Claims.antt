@@ -14,7 +14,7 @@ use Rattle.steps.specs.Steps.{Verdict, refused, by}
 use Rattle.steps.specs.Source.{Source}
 use Rattle.window.specs.Table.{Is-owner, Bad-table}
 use Rattle.window.specs.Tables.{stopping-by-table, load-table, Alike-for}
-use Rattle.loader.specs.Placing.{intel}
+use Rattle.intel.specs.Placing.{intel}
 use Rattle.srecload.specs.Placing.{s-records}
 use Rattle.entries.specs.Entry.{WINDOW-SIZE, rows-of}
 use Rattle.table.specs.Load.{load-bytes, LoadBytes, IsBad}

@@ -3,7 +3,7 @@ use steps::LoaderError;
 use steps::Loading;
 use window::owners;
 ghost use mathlib.Core.Path.{_≡_};
-ghost use Rattle.loader.specs.Placing.{intel};
+ghost use Rattle.intel.specs.Placing.{intel};
 ghost use Rattle.srecload.specs.Placing.{s-records};
 ghost use Rattle.table.specs.Load.{torn-or-long, number-of, NumbersOf, IsBad, LoadBytes};
 

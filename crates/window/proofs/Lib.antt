@@ -13,3 +13,4 @@ pub mod TableTests
 pub mod Finding
 pub mod Through
 pub mod Alone
+pub mod Asks

@@ -16,14 +16,14 @@ use Rattle.reader.specs.Lines.{lines}
 use Rattle.steps.specs.Steps.{nothing-yet, Verdict, accepted, refused, Decision, by, decision, verdict}
 use Rattle.steps.specs.Source.{Source, steps-of}
 use Rattle.steps.specs.Sites.{stopping-by}
-use Rattle.steps.specs.Account.{Account}
+use Rattle.steps.specs.Account.{Account, Among}
 use Rattle.steps.proofs.Firsts.{Sound, Walked, none-decided, one-decided, as-decided}
 use Rattle.window.specs.Window.{within, unfit, one-window}
 use Rattle.window.specs.Claims.{Window}
 use Rattle.window.specs.Load.{stopping-by-window}
 use Rattle.window.specs.Table.{inside-of, fits, owned, Bad-table}
 use Rattle.window.specs.Tables.{load-table}
-use Rattle.window.specs.Reasons.{Why-in, bad-one, no-end, at-line, Load-reasons, Load-one-reason, Table-reasons, Table-one-reason, Among}
+use Rattle.window.specs.Reasons.{Why-in, bad-one, no-end, at-line, Load-reasons, Load-one-reason, Table-reasons, Table-one-reason}
 use Rattle.window.proofs.Tests.{good-window, no-window}
 use Rattle.window.proofs.Loads.{load-answer}
 use Rattle.window.proofs.Table.{within-limits, breaks}

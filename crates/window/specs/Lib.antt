@@ -6,3 +6,4 @@ pub mod Loads
 pub mod Table
 pub mod Tables
 pub mod Reasons
+pub mod Asks

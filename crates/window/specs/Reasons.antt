@@ -3,13 +3,12 @@
 -- Assumes nothing.
 use mathlib.Core.Path.{_≡_}
 use Prim.Native.Nat.{ℕ}
-use mathlib.Core.Bool.{Bool, true, false, _||_}
-use mathlib.Core.List.{List, [], _∷_}
-use lib.Dec.{eqb}
+use mathlib.Core.Bool.{Bool}
+use mathlib.Core.List.{List, []}
 use lib.ListN.{length}
-use Rattle.record.specs.Refusals.{Refusal, number-of, missing-end-of-file-record, bad-window, bad-table}
+use Rattle.record.specs.Refusals.{Refusal, missing-end-of-file-record, bad-window, bad-table}
 use Rattle.reader.specs.Lines.{lines}
-use Rattle.steps.specs.Steps.{Verdict, accepted, refused, stated}
+use Rattle.steps.specs.Steps.{Verdict, refused, stated}
 use Rattle.steps.specs.Source.{Source, steps-of}
 use Rattle.steps.specs.Account.{Account, All-pass, Decided}
 use Rattle.window.specs.Window.{within}
@@ -52,12 +51,3 @@ abbrev pub Table-one-reason : {S : Type 0} → Source S → (account : (inside :
 Table-one-reason src account =
     (owner : ℕ) (rows : List Row) (text pool marks : List ℕ) (v v′ : Verdict)
     → Why-table src account owner rows text pool marks v → Why-table src account owner rows text pool marks v′ → v ≡ v′
-
--- a refusal has one of these numbers
-abbrev pub one-of : List ℕ → ℕ → Bool
-one-of [] n = false
-one-of (x ∷ xs) n = eqb n x || one-of xs n
-
-abbrev pub Among : (numbers : List ℕ) → Verdict → Type 0
-Among numbers (accepted tally) = Unit
-Among numbers (refused r line) = one-of numbers (number-of r) ≡ true

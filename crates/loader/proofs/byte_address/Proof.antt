@@ -1,6 +1,6 @@
 -- `loader::byte_address` meets its contract: offset and index are added first; their sum wraps in a segment, the whole sum under a linear base.
 -- Assumes nothing.
-use Rattle.loader.specs.Placing.{byte-address}
+use Rattle.intel.specs.Placing.{byte-address}
 use native.Mathlib.Omega.{arith}
 use borrow.Author.Needs.{needs}
 use Rattle.loader.proofs.byte_address.Statement.{statement}

@@ -4,8 +4,7 @@ use mathlib.Core.Path.{_≡_, _∙_}
 use native.Mathlib.Omega.{arith}
 use denote.Ref.{now}
 use lib.ListN.{length}
-use Rattle.loader.proofs.Calls.{One, came-read, came-refused, came-done}
-use Rattle.loader.proofs.Meeting.{short-record}
+use Rattle.intel.proofs.Calls.{One, came-read, came-refused, came-done, short-record}
 use Rattle.loader.proofs.Passes.{countable-records, judged-record, judged-refused, judged-done}
 use Rattle.window.specs.Table.{rows-in, inside-of}
 use borrow.Author.Needs.{needs}

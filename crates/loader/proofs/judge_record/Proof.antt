@@ -8,8 +8,9 @@ use Rattle.window.specs.declared.Reach.{Reach}
 use Rattle.window.specs.Contracts.{first-byte, Surveyed}
 use Rattle.steps.specs.Steps.{cs-with-ip, linear-address}
 use Rattle.steps.specs.declared.Start.the-variants.{Segment, Linear}
-use Rattle.loader.specs.Placing.{byte-address, does}
-use Rattle.loader.specs.Helpers.{based, Short}
+use Rattle.intel.specs.Placing.{byte-address, does}
+use Rattle.loader.specs.Helpers.{based}
+use Rattle.intel.specs.Records.{Short}
 use Rattle.loader.proofs.Meeting.{met-inside, met-outside, met-end, met-quiet, met-start}
 use Rattle.window.specs.Table.{rows-in, inside-of}
 use borrow.Author.Needs.{needs}

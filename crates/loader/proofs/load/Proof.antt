@@ -8,8 +8,7 @@ use lib.ListN.{length}
 use Rattle.window.specs.Window.{unfit}
 use Rattle.window.proofs.Loads.{load-unfit, load-refused, load-accepted}
 use Rattle.window.proofs.Alone.{alone-judged, alone-painted, alone-sound}
-use Rattle.loader.specs.Placing.{intel}
-use Rattle.loader.specs.Load.{placements, steps-of}
+use Rattle.intel.specs.Placing.{intel, placements, steps-of}
 use borrow.Author.Needs.{needs}
 use Rattle.loader.proofs.load.Statement.{statement}
 use Rattle.loader.proofs.load.Tie as tie

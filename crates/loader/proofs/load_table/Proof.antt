@@ -7,7 +7,7 @@ use denote.Ref.{now}
 use lib.ListN.{length}
 use Rattle.window.specs.Table.{rows-in, fits}
 use Rattle.window.proofs.Tables.{load-bad-table, load-table-refused, load-table-accepted, fits-sound}
-use Rattle.loader.specs.Placing.{intel}
+use Rattle.intel.specs.Placing.{intel}
 use borrow.Author.Needs.{needs}
 use borrow.Author.Tests.{not-true, not-false}
 use Rattle.loader.proofs.load_table.Statement.{statement}

@@ -9,7 +9,7 @@ use lib.ListN.{length}
 use Rattle.window.specs.Table.{rows-in, site-of}
 use Rattle.window.proofs.Spread.{stored-once, stored-twice}
 use Rattle.window.proofs.Through.{put-through-site}
-use Rattle.loader.specs.Placing.{byte-address}
+use Rattle.intel.specs.Placing.{byte-address}
 use Rattle.loader.specs.Helpers.{based}
 use Rattle.loader.proofs.Runs.{few, runs}
 use Rattle.loader.proofs.put.Statement.{statement}

@@ -7,7 +7,7 @@ use Rattle.window.specs.Contracts.{first-byte}
 use Rattle.window.specs.Table.{rows-in, inside-of}
 use borrow.Author.Needs.{needs}
 use Rattle.window.proofs.Spread.{code-whole, code-low, code-high, code-inside}
-use Rattle.loader.specs.Placing.{byte-address}
+use Rattle.intel.specs.Placing.{byte-address}
 use Rattle.loader.specs.Helpers.{based}
 use Rattle.loader.proofs.Runs.{few, runs}
 use Rattle.loader.proofs.survey.Statement.{statement}

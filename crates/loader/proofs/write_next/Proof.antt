@@ -2,7 +2,7 @@
 -- Assumes nothing.
 use mathlib.Core.Path.{refl, _∙_}
 use denote.Ref.{now}
-use Rattle.loader.proofs.Calls.{One, came-read, came-refused, came-done}
+use Rattle.intel.proofs.Calls.{One, came-read, came-refused, came-done}
 use Rattle.loader.proofs.Passes.{wrote, refused-states, done-states}
 use Rattle.window.specs.Table.{rows-in, site-of}
 use borrow.Author.Needs.{needs}

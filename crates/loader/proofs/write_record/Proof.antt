@@ -5,7 +5,8 @@ use native.Mathlib.Omega.{arith}
 use denote.Ref.{now}
 use Rattle.record.specs.declared.Record.{Record}
 use Rattle.record.specs.declared.Record.the-variants.{Data}
-use Rattle.loader.specs.Helpers.{based, stated-by, Lies-in}
+use Rattle.loader.specs.Helpers.{based, stated-by}
+use Rattle.intel.specs.Records.{Lies-in}
 use Rattle.loader.proofs.Meeting.{part-small, idle, painted-data}
 use Rattle.window.specs.Table.{rows-in, site-of}
 use borrow.Author.Needs.{needs}

@@ -1,7 +1,7 @@
 -- `salvage::line_length` meets its contract: the payload of each type has its length.
 -- Assumes nothing.
 use mathlib.Core.Path.{subst}
-use Rattle.loader.specs.Helpers.{Short}
+use Rattle.intel.specs.Records.{Short}
 use Rattle.salvage.proofs.Counting.{length-of-data, length-of}
 use borrow.Author.Needs.{needs}
 use Rattle.salvage.proofs.line_length.Statement.{statement}

@@ -2,7 +2,7 @@
 -- Assumes nothing.
 use mathlib.Core.Path.{_∙_}
 use denote.Ref.{now}
-use Rattle.loader.proofs.Calls.{came-read}
+use Rattle.intel.proofs.Calls.{came-read}
 use Rattle.salvage.proofs.Sorting.{sorted-record, sorted-refused, sorted-done}
 use borrow.Author.Needs.{needs}
 use Rattle.salvage.proofs.sort_next.Statement.{statement}

@@ -5,7 +5,7 @@ use native.Mathlib.Omega.{arith}
 use denote.Ref.{now}
 use lib.ListN.{length}
 use Rattle.reader.specs.Along.{unread}
-use Rattle.loader.proofs.Meeting.{short-record}
+use Rattle.intel.proofs.Calls.{short-record}
 use Rattle.salvage.proofs.Counting.{Counting, counting-start, counting-keeps, counting-drops, moves-keeps, moves-drops, keeps-lies, counting-ends, counting-missing}
 use borrow.Author.Needs.{needs}
 use Rattle.salvage.proofs.survey.Statement.{statement}

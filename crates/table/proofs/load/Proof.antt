@@ -5,7 +5,7 @@ use native.Mathlib.Omega.{arith}
 use denote.Ref.{now}
 use lib.Seq.{length-take-le}
 use borrow.Author.Needs.{needs}
-use Rattle.loader.specs.Placing.{intel}
+use Rattle.intel.specs.Placing.{intel}
 use Rattle.table.proofs.Passing.{passes, load-torn, load-whole}
 use Rattle.table.proofs.load.Statement.{statement}
 use Rattle.table.proofs.load.Tie as tie

@@ -15,9 +15,8 @@ use Rattle.record.specs.Refusals.{Refusal, start-conflict}
 use Rattle.steps.specs.Steps.{Placement, Start, cs-with-ip, linear-address, starts, Step, step, Tally, nothing-yet, one-more, started, Verdict, refused, outside, differ, Turn, on as on-with, stop, at-data, turn, onward, decision, verdict, stated}
 use Rattle.steps.specs.Source as source
 use Rattle.steps.specs.Sites.{Room, store, stopping-by, load-steps, load}
-use Rattle.loader.specs.Placing.{Base, from-start, base-behind, placed, does, act, base-after, intel-by, along}
-use Rattle.loader.specs.Load.{steps-of}
-use Rattle.loader.specs.Helpers.{does-on}
+use Rattle.intel.specs.Placing.{Base, from-start, base-behind, placed, does, act, base-after, intel-by, along, steps-of}
+use Rattle.intel.specs.Records.{does-on}
 
 -- steps that are decided alike stop a load alike
 stop-alike : (fault : Option Refusal) (inside : ℕ → Bool) (s₁ s₂ : List Step) → decision inside nothing-yet s₁ ≡ decision inside nothing-yet s₂

@@ -6,8 +6,9 @@ use mathlib.Core.List.{List, [], _∷_, _++_, map}
 use Rattle.record.specs.Line.{Said, says, wrong, judge}
 use Rattle.record.specs.Meaning.{Meaning, data-at, end-of-file, extended-segment, start-segment, extended-linear, start-linear, meaning}
 use Rattle.reader.specs.Row.{Numbered, on}
-use Rattle.steps.specs.Steps.{Placement, cs-with-ip, linear-address, Action, places, starts, finishes, fails, Step, step}
+use Rattle.steps.specs.Steps.{Placement, cs-with-ip, linear-address, Action, places, starts, finishes, fails, Step, step, stated}
 use Rattle.steps.specs.Source.{Source}
+use Rattle.steps.specs.Source as source
 use Rattle.steps.specs.Runs.{spread}
 
 -- ---- bases
@@ -88,6 +89,14 @@ intel-by f = record { beginning = from-start; act = λ base line. act (f base) (
 -- Intel's records: by the base itself
 abbrev pub intel : Source Base
 intel = intel-by (λ base. base)
+
+-- a text's steps
+abbrev pub steps-of : List ℕ → List Step
+steps-of text = source.steps-of intel text
+
+-- what an accepted text states: (address, byte), in order, before its end record
+abbrev pub placements : List ℕ → List Placement
+placements text = stated (source.steps-of intel text)
 
 -- the steps of a row of sayings, from a base on
 unfoldable pub along : (Base → Base) → Base → List Numbered → List Step

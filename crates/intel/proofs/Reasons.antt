@@ -17,9 +17,9 @@ use Rattle.steps.specs.Source.{steps}
 use Rattle.steps.specs.Starts.{Starts-at, nowhere}
 use Rattle.steps.proofs.Starts.{agreed, differ-says, starts-snoc, one-start}
 use Rattle.steps.proofs.Firsts.{Seen, seen, Walked, past, here}
-use Rattle.loader.specs.Placing.{Base, segment, linear, stated-by, base-behind, placed, does, act, base-after, intel, intel-by}
-use Rattle.loader.specs.Helpers.{does-on}
-use Rattle.loader.specs.Claims.{said-record, record-on, sets, latest, in-force, states, counts, data-records, starts, start-on, Counted, account, is-empty, goes-on, the-end, no-record, first-outside, start-differs}
+use Rattle.intel.specs.Placing.{Base, segment, linear, stated-by, base-behind, placed, does, act, base-after, intel, intel-by}
+use Rattle.intel.specs.Records.{does-on}
+use Rattle.intel.specs.Lines.{said-record, record-on, sets, latest, in-force, states, counts, data-records, starts, start-on, Counted, account, is-empty, goes-on, the-end, no-record, first-outside, start-differs}
 
 -- ---- one line more behind lines
 

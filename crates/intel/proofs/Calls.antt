@@ -2,12 +2,12 @@
 -- said, and that the record which comes back means it.
 -- Assumes nothing.
 use mathlib.Core.Path.{_≡_, refl, sym, ap, _∙_, subst}
-use Prim.Native.Nat.{ℕ, _+_, _-_, _≤_}
+use Prim.Native.Nat.{ℕ, _+_, _-_, _^_, _≤_, _<_}
 use native.Mathlib.Omega.{arith}
 use mathlib.Core.Bool.{Bool, true, false, _&&_}
 use mathlib.Core.List.{List, [], _∷_}
-use lib.ListN.{length, drop, length-take}
-use lib.Seq.{take-at}
+use lib.ListN.{length, drop, length-take, length-drop}
+use lib.Seq.{take-at, length-take-le}
 use borrow.Author.Tests.{le-leb}
 use Rattle.digits.specs.Common.{if_then_else_}
 use Rattle.record.specs.Line.{Said, says, wrong, judge}
@@ -27,12 +27,13 @@ use Rattle.reader.specs.Told.{Told, gives, refuses, done, refusal-of, told}
 use Rattle.reader.specs.Answer.{given, kept, answered, poured}
 use Rattle.reader.specs.Lines.{Found, a-line, no-line, next-line}
 use Rattle.reader.specs.Row.{Numbered, on, is-end, stops}
-use Rattle.reader.specs.Text.{told-reply, is-full, ends-row, behind, next-number, Outcome, of-found, outcome, Next}
+use Rattle.reader.specs.Text.{default-options, new-state, told-reply, is-full, ends-row, behind, next-number, Outcome, of-found, outcome, Next}
 use Rattle.reader.proofs.Claims.{told-apart}
+use Rattle.reader.proofs.Texts.{lines-few}
 use Rattle.reader.proofs.Room.{never-full, ends-stops}
 use Rattle.reader.specs.Along.{unread, Countable}
 use Rattle.reader.proofs.Along.{heard, ended, unread-judged}
-use Rattle.loader.specs.Helpers.{Lies-in}
+use Rattle.intel.specs.Records.{Short, Lies-in, Under-way}
 
 -- ---- a record, in a pool with room for every one
 
@@ -75,7 +76,20 @@ rec-lies pool room (start-segment cs ip) s = (tt, omega arith)
 rec-lies pool room (extended-linear n) s = (tt, omega arith)
 rec-lies pool room (start-linear n) s = (tt, omega arith)
 
+-- a record whose payload lies in a pool is as short as that
+pub short-record : (x : Record) (pool : List ℕ) → Lies-in x pool → Short x
+short-record (Data offset at len) pool (i, s) = omega (arith, i, s, length-take-le len (drop at pool) (omega (arith, i, length-drop at pool)))
+short-record EndOfFile pool l = tt
+short-record (ExtendedSegmentAddress n) pool l = tt
+short-record (StartSegmentAddress cs ip) pool l = tt
+short-record (ExtendedLinearAddress n) pool l = tt
+short-record (StartLinearAddress n) pool l = tt
+
 -- ---- a call
+
+cut-shorter : (b : Bool) (more : List Numbered) → length (if b then [] else more) ≤ length more
+cut-shorter true more = omega arith
+cut-shorter false more = omega arith
 
 -- a call that uses a line up ends the reading exactly where its answer ends it
 finishes-so : (s : State) (text pool : List ℕ) → is-full ((outcome s text pool 0) .told) ≡ false
@@ -223,3 +237,17 @@ module _ {opts : ReaderOptions} (s : State) (text pool : List ℕ) (r : Replied)
               → ends-row (s .options) (given (meaning kind address payload) (length pool) 0) ≡ is-end (meaning kind address payload) && opts .«stop_after_eof»
           ends kind address payload nf =
               ends-stops (s .options) (says kind address payload) (length pool) 0 nf ∙ ap (λ (y : ReaderOptions). stops y (says kind address payload)) o
+
+  -- unless it is the end, what follows is still unread
+  pub more-unread : (x : Record) (one : One x) → is-end (meant x pool′) ≡ false → one .more ≡ unread (r .state) text
+  more-unread x one e = sym (one .left ∙ rw (ap is-end (sym (one .means)) ∙ e))
+
+  -- a record less is left
+  pub fewer-unread : (x : Record) → One x → length (unread (r .state) text) < length (unread s text)
+  fewer-unread x one =
+      rw (one .first, one .left) (omega (arith, cut-shorter (is-end (meaning (one .kind) (one .address) (one .payload)) && opts .«stop_after_eof») (one .more)))
+
+-- ---- the beginning
+
+pub start-under-way : (text : List ℕ) → length text < 2 ^ 64 → Under-way text (new-state default-options)
+start-under-way text h = record { options = refl; countable = omega (arith, lines-few text .0) }

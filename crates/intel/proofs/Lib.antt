@@ -1,0 +1,7 @@
+pub mod Rows
+pub mod Calls
+pub mod Reasons
+pub mod OneReason
+pub mod Sums
+pub mod Puts
+pub mod Claims

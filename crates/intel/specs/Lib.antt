@@ -1,0 +1,4 @@
+pub mod Placing
+pub mod Lines
+pub mod Sums
+pub mod Records

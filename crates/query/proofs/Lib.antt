@@ -1,0 +1,5 @@
+pub mod Index
+pub mod Along
+pub mod Meeting
+pub mod Reading
+pub mod Claims

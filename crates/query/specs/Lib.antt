@@ -1,0 +1,4 @@
+pub mod Along
+pub mod Ask
+pub mod Claims
+pub mod Helpers
