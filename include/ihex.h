@@ -41,10 +41,11 @@ extern "C" {
 #define IHEX_S9 9 /* the end: 2 address bytes; b and c are 0 */
 
 /* The other codes that are returned. */
-#define IHEX_OK 0             /* a writer wrote all, a length is returned, a load was accepted, or a capture was saved */
+#define IHEX_OK 0             /* a writer wrote all, a length is returned, a load was accepted, a capture was saved, or a byte is stated */
 #define IHEX_REFUSED 256      /* and the number of a refusal, below */
 #define IHEX_DONE 512         /* the text has no more answers */
 #define IHEX_USED_UP 513      /* the chunk has no more answers: the next one is wanted, or ihex_finish; no values */
+#define IHEX_NOT_STATED 514   /* ihex_ask: the text is accepted, and states no byte at the address; no values */
 #define IHEX_BAD_RECORD 1024  /* what is to be written is not a record; no values */
 
 /* The refusals: their numbers, and their values (0 where there is none). 1 to 10 and 12 are said here of Intel HEX. What they mean for
@@ -326,6 +327,20 @@ uint32_t ihex_load_table(const uint8_t *text, size_t text_len, uint32_t owner,
                          uint8_t *pool, size_t pool_len,
                          uint8_t *marks, size_t marks_len,
                          size_t *line, uint8_t *start, uint64_t *a, uint64_t *b, uint64_t *c);
+
+/* Asks for one byte of a text of Intel HEX, without a page. Any 32-bit address may be asked. Returns IHEX_OK and the byte in a, if the text is
+ * accepted and a data record before the end record states a byte at the address. If more than one does, it is the last one's. Returns
+ * IHEX_NOT_STATED if the text is accepted and none does. Else it returns IHEX_REFUSED and one of 1 to 9, 13 and 21, as ihex_load does, with its
+ * values in a and b and the number of its line in line: 0 with 13. A byte that was found before a refused line is not returned. There is no 16 and
+ * no 17, since there is no window. The lines :0100000011EE and :00000001FE, asked at address 5, are refused with 6 at line 2; ihex_load with a
+ * window of one place at 5 refuses them with 17 at line 1. What is not named is 0.
+ * It reads the text once, from front to back, and takes some 1,100 bytes of the stack, however long the text is. (This is tested, not proved.)
+ * If ihex_load accepts the text in some window, then for the address of each place of that window ihex_ask returns IHEX_OK and the place's byte
+ * if the place is marked, and else IHEX_NOT_STATED. So it is with ihex_load_table and the owner's windows. If ihex_load refuses the text, but not
+ * with 16 or 17, ihex_ask returns the same refusal with the same line and values, at every address.
+ * What follows the line at which the reading stops changes nothing. */
+uint32_t ihex_ask(const uint8_t *text, size_t text_len, uint32_t address,
+                  size_t *line, uint64_t *a, uint64_t *b);
 
 /* How long the file is that ihex_write_page writes: returns 0 and its length as the value, or IHEX_REFUSED and the first of 16, 19 that
  * holds, with the value of 19; the value of 16 is 0. Of the page only the length counts. The unused bits of the marks must be 0: for 3

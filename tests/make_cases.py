@@ -4,14 +4,14 @@
     tests/make_cases.py            writes the two files
     tests/make_cases.py --check    says whether the stored files are what it would write
 
-The answers come from a model of documents 01 and 02 that shares nothing with the port: its record reader is
-model.py, the rest stands here. The examples of documents 01 and 02 and the limits stand here with their
+The answers come from a model of documents 01 and 02 that shares nothing with the port: its record reader and its asks are
+in model.py, the rest stands here. The examples of documents 01 and 02 and the limits stand here with their
 answers as well, and the model is held to them. src/main.rt of `replay` says what a case looks like.
 """
 import pathlib
 import sys
 
-from model import checksum, lines_of, packed, read, record, told_other
+from model import asked, checksum, lines_of, packed, read, record, told_other
 
 FOLDER = pathlib.Path(__file__).resolve().parent.parent / "crates" / "replay"
 TOP = 2**64 - 1
@@ -328,6 +328,28 @@ def table_case(text, rows, answer=None, owner=1, pool=8, marks=None, places=None
             sys.exit(f"the model stores {after.hex()} and marks {marked.hex()} for the load of {text!r} through {rows}")
     cases.append(" ".join([f"N {owner:X} {pool:X} {marks:X} {text.hex().upper()}", *map(spelt, rows)]))
     answers.append(f"{told} |{told_long(after)} |{told_long(marked)}")
+
+
+def ask_case(text, address, answer=None):
+    """A text asked for the byte at an address. The model of the loads, with a place for each address, must give the same."""
+    if isinstance(text, str):
+        text = text.encode("latin-1")
+    told = asked(text, address)
+    if answer is not None and told != answer:
+        sys.exit(f"the model answers {told}, not {answer}, to {text!r} asked at {address:X}")
+    loaded, places = stated(text, lambda place: place)
+    if places is not None:
+        loaded = f"B {places[address]:02X}" if address in places else "none"
+    if loaded != told:
+        sys.exit(f"the model of asks answers {told}, and that of loads {loaded}, to {text!r} asked at {address:X}")
+    cases.append(f"Q {address:X} {text.hex().upper()}".rstrip())
+    answers.append(told)
+
+
+def ask_cases(text, told):
+    """A text asked at each of these addresses, modulo 2^32, with the byte there, or None where none is stated."""
+    for address, byte in told.items():
+        ask_case(text, address % 2**32, "none" if byte is None else f"B {byte:02X}")
 
 
 def some_bytes(n, start=0):
@@ -1274,6 +1296,122 @@ def of_tables_by_chance():
         table_case(ended(*lines, END), rows, owner=1 + numbers.below(2), pool=15 + numbers.below(4))
 
 
+def of_asks():
+    heading("asks: document 01's example, before it and after it")
+    ask_cases(PLACED, {0x12005: 0x77, 0x12004: None, 0x12006: None, 5: None, 0x2005: None, 0: None, 2**32 - 1: None})
+    heading("asks: both ends of a segment, and the addresses beside them")
+    for number in (None, 0, 0x1200, 0xF000, 0xFFFF):
+        base = 16 * (number or 0)
+        over = ended(*([] if number is None else [record(2, 0, number.to_bytes(2, "big"))]), OVER, END)
+        ask_cases(over, {base + 0xFFFF: 0xAA, base: 0xBB, base + 0xFFFE: None, base + 1: None, base + 0x10000: None, base - 1: None})
+    heading("asks: across FFFF after a type 04, and from FFFFFFFF to 0")
+    for number in (0, 1, 0xF, 0xFFFF):
+        base = 65536 * number
+        over = ended(record(4, 0, number.to_bytes(2, "big")), OVER, END)
+        ask_cases(over, {base + 0xFFFF: 0xAA, base + 0x10000: 0xBB, base + 0xFFFE: None, base + 0x10001: None, base: None})
+    heading("asks: the latest of types 02 and 04 holds, and a start changes no base")
+    ask_cases(ended(LINEAR, SEGMENT, ONE, END), {0x12342: 0x77, 0x10002: None, 2: None})
+    ask_cases(ended(SEGMENT, LINEAR, ONE, END), {0x10002: 0x77, 0x12342: None, 2: None})
+    ask_cases(ended(SEGMENT, OTHER_SEGMENT, OVER, END), {0x21FFF: 0xAA, 0x12000: 0xBB, 0x12340: None, 0x22000: None})
+    ask_cases(ended(LINEAR, OTHER_LINEAR, STARTS[1], OVER, END), {0x2FFFF: 0xAA, 0x30000: 0xBB, 0x20000: None, 0x1FFFF: None})
+    ask_cases(ended(LINEAR, record(2, 0, b"\0\0"), STARTS[0], OVER, END), {0xFFFF: 0xAA, 0: 0xBB, 0x10000: None, 0x1FFFF: None})
+    ask_cases(ended(ONE, SEGMENT, LINEAR, END), {2: 0x77, 0x10002: None, 0x12342: None})
+    heading("asks: records of 0, 1, 16 and 255 bytes, their first and last byte, and the addresses beside them")
+    for n in (0, 1, 16, 255):
+        held = {0x100 + i: byte for i, byte in enumerate(some_bytes(n, n))}
+        near = (0xFF, 0x100, 0x100 + n - 1, 0x100 + n)
+        ask_cases(ended(record(0, 0x100, some_bytes(n, n)), END), {address: held.get(address) for address in near})
+    for offset in (0xFF01, 0xFF02, 0xFFFF):
+        held = {(offset + i) % 65536: byte for i, byte in enumerate(some_bytes(255, 1))}
+        near = (offset - 1, offset, 0xFFFF, 0, 1, 0xFD, 0xFE, 0x10000)
+        ask_cases(ended(record(0, offset, some_bytes(255, 1)), END), {address: held.get(address) for address in near})
+
+
+def of_asks_in_order():
+    heading("asks: an address that is stated twice, the last record holds, from another base too")
+    eleven, other = record(0, 0, b"\x11"), record(0, 0, b"\x22")
+    low, high = record(2, 0, b"\x10\x00"), record(2, 0, b"\x10\x01")
+    ask_case(ended(eleven, other, END), 0, "B 22")
+    ask_case(ended(other, eleven, END), 0, "B 11")
+    ask_case(ended(eleven, other, record(0, 0, b"\0"), END), 0, "B 00")
+    ask_case(ended(eleven, record(0, 0, b""), END), 0, "B 11")
+    ask_cases(ended(record(0, 0, b"\1\2\3\4"), record(0, 1, b"\5\6"), END), {0: 1, 1: 5, 2: 6, 3: 4, 4: None})
+    ask_cases(ended(low, eleven, LINEAR, other, END), {0x10000: 0x22, 0: None})
+    ask_cases(ended(LINEAR, other, low, eleven, END), {0x10000: 0x11, 0: None})
+    ask_case(ended(low, record(0, 0x10, b"\x11"), high, other, END), 0x10010, "B 22")
+    ask_case(ended(high, other, low, record(0, 0x10, b"\x11"), END), 0x10010, "B 11")
+    ask_case(ended(OVER, eleven, END), 0, "B 11")
+    ask_case(ended(eleven, OVER, END), 0, "B BB")
+    ask_case(ended(eleven, record(4, 0, b"\xff\xff"), OVER, END), 0, "B BB")
+    heading("asks: in the first record, in the last one, and between")
+    rows = ended(*(record(0, 3 * i, bytes([i + 1])) for i in range(20)), END)
+    ask_cases(rows, {0: 1, 3 * 10: 11, 3 * 19: 20, 1: None, 3 * 19 + 1: None, 3 * 20: None})
+    heading("asks: the same start twice, and starts that differ")
+    for start in ALL_STARTS:
+        ask_case(ended(start, ONE, start.lower(), END), 2, "B 77")
+    for first, second in ((FAR, NEAR), (NEAR, FAR), (FAR, FLAT), (FAR, DIGITS), (ZERO, FLAT_ZERO), (LETTERS, OTHER_LETTERS)):
+        ask_case(ended(ONE, first, "", second, END), 2, "! 21 @4")
+        ask_case(ended(first, ONE, second, END), 5, "! 21 @3")
+    ask_case(ended(ONE, FAR, END, NEAR), 2, "B 77")
+    ask_case(ended(FAR, NEAR), 2, "! 21 @2")
+    ask_case(ended(FAR, FAR, FAR, NEAR, BAD[0], END), 2, "! 21 @4")
+    ask_case(ended(FAR, BAD[0], NEAR, END), 2, "! 1 @2")
+
+
+def of_refused_asks():
+    heading("asks: without an end record, whatever was found")
+    for text in ("", "\n\r\n", ONE, ended(ONE), ended(ONE, SEGMENT, LINEAR), ended(FAR, FAR)):
+        for address in (2, 5):
+            ask_case(text, address, "! 13 @0")
+    heading("asks: each refusal from 1 to 9 with its line, at a stated address and at another")
+    for line, said in zip(BAD, BAD_SAID):
+        ask_case(ended(line, ONE, END), 2, f"{said} @1")
+        for address in (2, 5):
+            ask_case(ended("", ONE, "", line, END, end="\r\n"), address, f"{said} @4")
+        ask_case(ended(ONE, LINEAR) + line, 2, f"{said} @3")
+    heading("asks: a byte that was found, and then a refused line")
+    for address in (0, 5):
+        ask_case(":0100000011EE\n:00000001FE\n", address, "! 6 FF FE @2")
+        ask_case(ended(":0100000011EE", ":G", ":00000001FE", END), address, "! 2 0001 @2")
+    ask_case(ended(ONE) + END + "\r", 2, "! 2 000B @2")
+    ask_case(ended(ONE, spoilt(600, 555), END), 2, "! 2 022B @2")
+    ask_case(ended(ONE, spoilt(520, 520), END), 2, "! 2 0208 @2")
+
+
+def of_asks_and_lines():
+    heading("asks: line ends, empty lines, small letters, and a last line without LF")
+    for text in (ended(ONE, END), ended(ONE, END, end="\r\n"), ended(ONE) + END, ended("", "", ONE, "", END), "\r\n" + ended(ONE) + "\r\n" + END, ended(ONE, END).lower(), ended(ONE, record(1, 0x1234, b""))):
+        ask_cases(text, {2: 0x77, 5: None})
+    ask_case(ended("", ONE, "", BAD[5], END), 2, "! 6 FF FE @4")
+    ask_case("\n" * 300 + ended(ONE, BAD[0]), 2, "! 1 @12E")
+    ask_case(ended(ONE) + "\r", 2, "! 1 @2")
+    ask_case(ended(ONE) + "\r\r\n" + END, 2, "! 1 @2")
+    heading("asks: what follows the end record changes nothing")
+    old = ended(record(0, 2, b"\x99"), record(0, 5, b"\x98"), END)
+    for tail in (old, old[1:], "\n\n" + old, "\x00" * 20, "\xff" * 20, "garbage", ":", "\r", END, *BAD, ended(FAR, NEAR), ended(LINEAR, ONE)):
+        ask_case(ended(ONE, END) + tail, 2, "B 77")
+    ask_cases(ended(FAR, END) + old, {2: None, 5: None})
+    for tail in ("0", ":", "\r", " ", END):
+        ask_case(ended(ONE) + END + tail, 2, "! 5 @2" if tail == "0" else "! 2 000B @2")
+
+
+def of_asks_by_chance():
+    heading("asks by chance")
+    numbers = Numbers(14)
+    for _ in range(38):
+        lines, addresses = [], [numbers.below(2**32)]
+        for _ in range(numbers.below(6)):
+            kind, number = (2, 4)[numbers.below(2)], (0, 1, 0xF, 0x1000, 0xFFFF)[numbers.below(5)]
+            offset, n = (numbers.below(8) - numbers.below(8)) % 65536, numbers.below(12)
+            if numbers.below(2):
+                lines.append(record(kind, 0, number.to_bytes(2, "big")))
+            if numbers.below(12) == 0:
+                lines.append((*STARTS, *BAD)[numbers.below(11)])
+            lines.append(record(0, offset, bytes(numbers.below(256) for _ in range(n))))
+            addresses.append(address_of((f"X{kind}", number), offset, numbers.below(12)))
+        ask_case(ended(*lines, *([END] if numbers.below(16) else [])), addresses[numbers.below(len(addresses))])
+
+
 def of_chance_again():
     numbers = Numbers(2026)
     texts = []
@@ -1347,6 +1485,11 @@ def make_all():
     of_tables()
     of_walks_through_tables()
     of_tables_by_chance()
+    of_asks()
+    of_asks_in_order()
+    of_refused_asks()
+    of_asks_and_lines()
+    of_asks_by_chance()
 
 
 def hold_to_every_answer():
@@ -1358,7 +1501,7 @@ def hold_to_every_answer():
     kinds = ["D", "E", "X2", "X3", "X4", "X5"]
     for form, wanted in (("L", [*kinds, *range(1, 11)]), ("T", [*kinds, "done", *range(1, 11)]), ("W", ["W", 11, 12, 15]),
                          ("O", ["W", *range(11, 16)]), ("M", ["A", *range(1, 10), 13, 16, 17, 21]),
-                         ("N", ["A", *range(1, 10), 13, 17, 21, 23])):
+                         ("N", ["A", *range(1, 10), 13, 17, 21, 23]), ("Q", ["B", "none", *range(1, 10), 13, 21])):
         for w in (f"! {w}" if isinstance(w, int) else w for w in wanted):
             assert any(t == w or t.startswith(w + " ") for t in told[form]), f"no case {form} is answered {w}"
 
@@ -1381,7 +1524,7 @@ def main():
         size += len(text)
         store(name, text)
     number = sum(not c.startswith("#") for c in cases)
-    forms = ", ".join(f"{sum(c.startswith(form) for c in cases)} {form}" for form in "CLTWOMN")
+    forms = ", ".join(f"{sum(c.startswith(form) for c in cases)} {form}" for form in "CLTWOMNQ")
     print(f"{number} cases ({forms}), {size} bytes in the two files")
 
 

@@ -1,4 +1,4 @@
-"""A model of the record reader of documents 01 and 02, and of packed marks, which shares nothing with the port."""
+"""A model of the record reader of documents 01 and 02, of packed marks, of a salvage and of an ask, which shares nothing with the port."""
 import re
 
 
@@ -108,3 +108,27 @@ def salvaged(text):
         kept.append(record(1, 0, b""))
         dropped.append((0, "! 13"))
     return "".join(line + "\n" for line in kept).encode(), dropped
+
+
+def asked(text, address):
+    """What a text states at an address: `B` and the byte, which is that of the last record with the address, `none`, or a refusal with its line."""
+    linear, base, start, found = False, 0, None, "none"
+    for number, line in enumerate(lines_of(text), 1):
+        if not line:
+            continue
+        refusal, given = read(line)
+        if refusal is not None:
+            return f"{refusal} @{number:X}"
+        kind, offset, payload = given
+        if kind == 1:
+            return found
+        if kind in (2, 4):
+            linear, base = kind == 4, int.from_bytes(payload, "big") * {2: 16, 4: 65536}[kind]
+        if kind in (3, 5):
+            if start not in (None, (kind, payload)):
+                return f"! 21 @{number:X}"
+            start = kind, payload
+        for i, byte in enumerate(payload if kind == 0 else b""):
+            if address == ((base + offset + i) % 2**32 if linear else base + (offset + i) % 65536):
+                found = f"B {byte:02X}"
+    return "! 13 @0"

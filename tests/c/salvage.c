@@ -3,6 +3,7 @@
 #include "lent.h"
 #include "lines.h"
 #include "low.h"
+#include "refused.h"
 
 LENT(list_, MOST);
 
@@ -187,33 +188,12 @@ static void bases(void)
 static void refusals(void)
 {
     static char capture[70100], line_of_digits[70001];
-    static const struct {
-        const char *line;
-        uint32_t why;
-        uint16_t a, b;
-    } rows[] = {
-        {"x", IHEX_MISSING_START_CODE, 0, 0},
-        {"\r\r", IHEX_MISSING_START_CODE, 0, 0},
-        {"\xFF", IHEX_MISSING_START_CODE, 0, 0},
-        {":G", IHEX_CONTAINS_INVALID_CHARACTERS, 1, 0},
-        {":00000001FF ", IHEX_CONTAINS_INVALID_CHARACTERS, 11, 0},
-        {":", IHEX_RECORD_TOO_SHORT, 0, 0},
-        {":0100000", IHEX_RECORD_TOO_SHORT, 0, 0},
-        {":00000001FF0", IHEX_RECORD_NOT_EVEN_LENGTH, 0, 0},
-        {":00000001FE", IHEX_CHECKSUM_MISMATCH, 0xFF, 0xFE},
-        {":000000010A", IHEX_CHECKSUM_MISMATCH, 0xFF, 0x0A},
-        {":01000000FF", IHEX_PAYLOAD_LENGTH_MISMATCH, 0, 0},
-        {":01000006F9", IHEX_PAYLOAD_LENGTH_MISMATCH, 0, 0},
-        {":00000006FA", IHEX_UNSUPPORTED_RECORD_TYPE, 6, 0},
-        {":000000FF01", IHEX_UNSUPPORTED_RECORD_TYPE, 255, 0},
-        {":0100000100FE", IHEX_INVALID_LENGTH_FOR_TYPE, 0, 0},
-    };
     static const size_t places[] = {255, 256, 257, 521, 522, 65534, 65535, 65536, 69999};
     size_t i;
-    for (i = 0; i < COUNT(rows); i++) {
-        sprintf(capture, "%s\n%s\n%s%s%s%s", DATA, rows[i].line, DATA, LINEAR, DATA, END);
+    for (i = 0; i < COUNT(bad_lines); i++) {
+        sprintf(capture, "%s\n%s\n%s%s%s%s", DATA, bad_lines[i].line, DATA, LINEAR, DATA, END);
         should(DATA LINEAR DATA END);
-        lists(rows[i].why, rows[i].a, rows[i].b, 3);
+        lists(bad_lines[i].why, bad_lines[i].a, bad_lines[i].b, 3);
         lists(IHEX_BASE_UNKNOWN, 0, 0, 4);
         comes_to(capture);
     }

@@ -1,0 +1,25 @@
+/* Included by the programs that read whole texts: lines that are refused, each with its refusal and the values of it. */
+static const struct {
+    const char *line;
+    uint32_t why;
+    uint16_t a, b;
+} bad_lines[] = {
+    {"x", IHEX_MISSING_START_CODE, 0, 0},
+    {"\r\r", IHEX_MISSING_START_CODE, 0, 0},
+    {"\xFF", IHEX_MISSING_START_CODE, 0, 0},
+    {" :00000001FF", IHEX_MISSING_START_CODE, 0, 0},
+    {":G", IHEX_CONTAINS_INVALID_CHARACTERS, 1, 0},
+    {":00000001FF ", IHEX_CONTAINS_INVALID_CHARACTERS, 11, 0},
+    {":", IHEX_RECORD_TOO_SHORT, 0, 0},
+    {":0100000", IHEX_RECORD_TOO_SHORT, 0, 0},
+    {":00000001FF0", IHEX_RECORD_NOT_EVEN_LENGTH, 0, 0},
+    {":00000001FE", IHEX_CHECKSUM_MISMATCH, 0xFF, 0xFE},
+    {":000000010A", IHEX_CHECKSUM_MISMATCH, 0xFF, 0x0A},
+    {":0100000011EF", IHEX_CHECKSUM_MISMATCH, 0xEE, 0xEF},
+    {":01000000FF", IHEX_PAYLOAD_LENGTH_MISMATCH, 0, 0},
+    {":01000006F9", IHEX_PAYLOAD_LENGTH_MISMATCH, 0, 0},
+    {":00000006FA", IHEX_UNSUPPORTED_RECORD_TYPE, 6, 0},
+    {":000000FF01", IHEX_UNSUPPORTED_RECORD_TYPE, 255, 0},
+    {":0100000100FE", IHEX_INVALID_LENGTH_FOR_TYPE, 0, 0},
+    {":020000050000F9", IHEX_INVALID_LENGTH_FOR_TYPE, 0, 0},
+};
