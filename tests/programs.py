@@ -61,6 +61,21 @@ def in_shell(redirections, words):
     return ['sh', '-c', 'exec "$@" ' + redirections, 'sh'] + words
 
 
+# The words of each refusal of a line, from its number and its values.
+WORDS = {1: "missing start code ':'", 2: 'invalid characters encountered in record', 3: 'too short', 4: 'too long', 5: 'record does not contain a whole number of bytes',
+         6: "invalid checksum '%s', expecting '%s'", 7: 'payload length does not match record header', 8: "unsupported IHEX record type '%s'",
+         9: 'payload length invalid for record type'}
+
+
+def in_words(number, refusal):
+    """What a program says of a refused line, from its number and from the refusal as the model tells it."""
+    why, *values = refusal[2:].split()
+    if why == '2':
+        place = int(values[0], 16)
+        return 'line %d, column %d%s: %s' % (number, place + 1, ' or beyond' if place == 65535 else '', WORDS[2])
+    return 'line %d: %s' % (number, WORDS[int(why)] % tuple(values) if values else WORDS[int(why)])
+
+
 def with_stub(check=''):
     return dict(os.environ, PATH=STUB.name + ':' + os.environ['PATH'], CHECK=check)
 
@@ -155,6 +170,28 @@ def refuses(script, first):
     started('a pipe that nobody reads', [script], 2, b'', b'', input=good, stdout=writes)
     os.close(writes)
     started('not proved', [script], 2, b'', b'rt: FAILED: record\n', 'echo "rt: FAILED: record"; exit 1', input=good)
+
+
+def over_rust(words, good):
+    """What a script over tools/rust says where its input, an output, the archive or the place for temporary files fails, and nothing else
+    does, with the input `good`."""
+    folder = os.open(os.path.join(ROOT, 'samples'), os.O_RDONLY)
+    ran('a folder', words, 2, b'', b'cannot read\n', stdin=folder)
+    os.close(folder)
+    ran('a closed standard input', in_shell('<&-', words), 2, b'', b'cannot read\n')
+    ran('a closed standard output', in_shell('>&-', words), 2, b'', b'cannot write\n', input=good)
+    ran('a closed standard error', in_shell('2>&-', words), 2, b'', b'', input=good)
+    if DEV_FULL:
+        ran('a full device', in_shell('>' + DEV_FULL, words), 2, b'', b'cannot write\n', input=good)
+        ran('a full device, and a closed standard input', in_shell('<&- 2>' + DEV_FULL, words), 2, b'', b'')
+    reads, writes = os.pipe()
+    os.close(reads)
+    ran('a pipe that nobody reads', words, 2, b'', b'cannot write\n', input=good, stdout=writes)
+    os.close(writes)
+    with tempfile.TemporaryDirectory() as folder:
+        for name, variables, why in [('no archive', dict(IHEX_LIB_DIR=folder, CARGO_TARGET_DIR=folder), b'there is no'), ('no place for temporary files', dict(TMPDIR='/dev/null/none'), b'')]:
+            run = subprocess.run(words, input=good, stdout=subprocess.PIPE, stderr=subprocess.PIPE, cwd=ROOT, env=dict(os.environ, **variables))
+            told(name, run.returncode == 2 and run.stdout == b'' and why in run.stderr, '%d, %r' % (run.returncode, run.stderr))
 
 
 def helps(script, sentences):

@@ -8,32 +8,22 @@ The last line is 'N passed, M failed'; the exit status is 1 if any failed.
 import os
 import random
 import subprocess
-import tempfile
 
 import model
-from programs import DEV_FULL, ROOT, end, helps, in_shell, ran, terminal, told
+from programs import DEV_FULL, ROOT, end, helps, in_shell, in_words, over_rust, ran, terminal, told
 
 SCRIPT = ['./salvage']
 END = b':00000001FF\n'
 ADDED = b'end of file record added, the text has none\n'
-
-# The words of each refusal, from its number and its values.
-WORDS = {1: "missing start code ':'", 2: 'invalid characters encountered in record', 3: 'too short', 4: 'too long', 5: 'record does not contain a whole number of bytes',
-         6: "invalid checksum '%s', expecting '%s'", 7: 'payload length does not match record header', 8: "unsupported IHEX record type '%s'",
-         9: 'payload length invalid for record type'}
 
 
 def words(number, refusal):
     """The line of the list for an entry of the model's."""
     if refusal is None:
         return 'line %d: base unknown after a refused line\n' % number
-    why, *values = refusal[2:].split()
-    if why == '13':
+    if refusal == '! 13':
         return ADDED.decode()
-    if why == '2':
-        place = int(values[0], 16)
-        return 'line %d, column %d%s: %s\n' % (number, place + 1, ' or beyond' if place == 65535 else '', WORDS[2])
-    return 'line %d: %s\n' % (number, WORDS[int(why)] % tuple(values) if values else WORDS[int(why)])
+    return in_words(number, refusal) + '\n'
 
 
 def saved(name, text, **files):
@@ -103,31 +93,15 @@ saved('4 MB of noise', b'x\n' * 100000 + b'\0' * 4000000)
 
 # ---- inputs and outputs that fail, and usage
 
-folder = os.open(os.path.join(ROOT, 'samples'), os.O_RDONLY)
-ran('a folder', SCRIPT, 2, b'', b'cannot read\n', stdin=folder)
-os.close(folder)
+over_rust(SCRIPT, TANK)
 ran('a folder by its name', SCRIPT + ['samples'], 2, b'', b'cannot read\n')
 ran('a file that is not there', SCRIPT + ['no/such file'], 2, b'', b'cannot read no/such file\n')
 ran('two files', SCRIPT + ['samples/tank.hex'] * 2, 2, b'', b'usage: ./salvage [FILE]\n')
-ran('a closed standard input', in_shell('<&-', SCRIPT), 2, b'', b'cannot read\n')
-ran('a closed standard output', in_shell('>&-', SCRIPT), 2, b'', b'cannot write\n', input=END)
-ran('a closed standard error', in_shell('2>&-', SCRIPT), 2, b'', b'', input=END)
 if DEV_FULL:
-    ran('a full device', in_shell('>' + DEV_FULL, SCRIPT), 2, b'', b'cannot write\n', input=TANK)
     ran('a full device for the list', in_shell('2>' + DEV_FULL, SCRIPT), 2, END, b'', input=b'')
     ran('a full device for an empty list', in_shell('2>' + DEV_FULL, SCRIPT), 0, END, b'', input=END)
     ran('a full device, and a file that is not there', in_shell('2>' + DEV_FULL, SCRIPT + ['no/such']), 2, b'', b'')
     ran('a full device, and two files', in_shell('2>' + DEV_FULL, SCRIPT + ['samples/tank.hex'] * 2), 2, b'', b'')
-    ran('a full device, and a closed standard input', in_shell('<&- 2>' + DEV_FULL, SCRIPT), 2, b'', b'')
-reads, writes = os.pipe()
-os.close(reads)
-ran('a pipe that nobody reads', SCRIPT, 2, b'', b'cannot write\n', input=TANK, stdout=writes)
-os.close(writes)
-with tempfile.TemporaryDirectory() as folder:
-    run = subprocess.run(SCRIPT, input=END, stdout=subprocess.PIPE, stderr=subprocess.PIPE, cwd=ROOT, env=dict(os.environ, IHEX_LIB_DIR=folder, CARGO_TARGET_DIR=folder))
-    told('no archive', run.returncode == 2 and run.stdout == b'' and b'there is no' in run.stderr, '%d, %r' % (run.returncode, run.stderr))
-run = subprocess.run(SCRIPT, input=END, stdout=subprocess.PIPE, stderr=subprocess.PIPE, cwd=ROOT, env=dict(os.environ, TMPDIR='/dev/null/none'))
-told('no place for temporary files', run.returncode == 2 and run.stdout == b'', '%d, %r' % (run.returncode, run.stderr))
 helps('./salvage', [b'usage: ./salvage [FILE]', b'any length that fits in memory', b'0 nothing was dropped', b'1 something was dropped, or an end record was added',
                     b'2 the input cannot be read, the output cannot be written, memory ran out, or the usage is wrong'])
 

@@ -5,6 +5,7 @@
 
 The last lines say for each bar whether it is met.
 """
+import itertools
 import re
 import subprocess
 import sys
@@ -40,6 +41,14 @@ WINDOWS = (1, 2, 15, 16)
 TABLES = {"table": "all together", "last": "the last alone"}
 # Captures that are saved, by what is dropped of them.
 CAPTURES = {"salvage": "nothing", "noisy": "all, after a first line that is refused"}
+# Texts that are asked for a byte, by which of their records state it: the work of asking, that of reading the same text, and the address, from
+# the size of a payload.
+ASKS = {
+    "the last": ("ask", "text", lambda size: size * FULL - 1),
+    "none": ("ask", "text", lambda size: 2**32 - 1),
+    "every one": ("every", "alike", lambda size: size),
+}
+ASK_SIZES = (16, 1)
 # Pages by which of their places are marked: the multiples of a number.
 PLACES = 16 * FULL
 PAGES = {1: "all", 2: "every second", PLACES: "one"}
@@ -180,6 +189,22 @@ def show_captures(reading):
     return dearest
 
 
+def show_asks():
+    """Shows what it costs to ask for a byte, and returns the dearest as a multiple of reading the same text."""
+    print(f"Instructions a record, of a text of {FULL:,} that is asked for a byte:\n")
+    rows, dearest = [], 0
+    for size, (stated, (what, read, address)) in itertools.product(ASK_SIZES, ASKS.items()):
+        found = {one: instructions(one, what, size, FULL, address(size)) for one in ("face", "port")}
+        if len({result for _, result in found.values()}) != 1:
+            sys.exit(f"asks, stated by {stated}: the results differ, {found}")
+        reading, _ = instructions("port", read, size, FULL)
+        multiple = found["port"][0] / reading
+        dearest = max(dearest, multiple)
+        rows.append([stated, str(size)] + [whole(n) for n, _ in found.values()] + [whole(reading), f"{multiple:.2f}"])
+    table(["Records that state the byte", "Payload", "face", "port", "port, reading the text", "asking : reading"], rows)
+    return dearest
+
+
 def show_tables():
     """Shows what a load through a table costs beside the loader of one window, and returns that of one window as a multiple."""
     loader, result = instructions("port", "load", 16, FULL)
@@ -269,13 +294,14 @@ def under(bar):
     return f"under {bar}", lambda is_: is_ < bar
 
 
-def show_bars(who, count, loading, unmarked, chunks, srecords, saving, tabled):
+def show_bars(who, count, loading, unmarked, chunks, srecords, saving, tabled, asking):
     reading, writing = count["port", "text", 16], count["port", "object", 16]
     bars = [
         ("the dearest load, as a multiple of reading", loading / reading, at_most(2.5)),
         (f"loading a full page, as a multiple of {BYTE_MARKS:,}, with a byte for each mark", count["port", "load", 16] / BYTE_MARKS, at_most(1.1)),
         ("saving a capture, the dearest, as a multiple of reading", saving / reading, at_most(2.5)),
         ("loading through a table of one window, as a multiple of the loader of one window", tabled, at_most(1.3)),
+        ("asking for a byte, the dearest, as a multiple of reading the same text", asking, at_most(1.1)),
         ("writing a page, instructions for a place without a mark", unmarked, under(15)),
         ("reading an S-record, the dearest type, as a multiple of Intel's", srecords["srecord"], at_most(1.15)),
         ("loading S-records, the dearest type, as a multiple of Intel's", srecords["srecords"], at_most(1.15)),
@@ -311,7 +337,8 @@ def main():
     srecords = show_srecords(count)
     saving = show_captures(count["port", "text", 16])
     tabled = show_tables()
-    show_bars(who, count, loading, unmarked, chunks, srecords, saving, tabled)
+    asking = show_asks()
+    show_bars(who, count, loading, unmarked, chunks, srecords, saving, tabled, asking)
 
 
 main()

@@ -7,6 +7,8 @@
 //!     bench port|face|floor srecord|srecords BYTES RECORDS REPETITIONS TYPE
 //!     bench port|face salvage|noisy BYTES RECORDS REPETITIONS
 //!     bench port|face table|last BYTES RECORDS REPETITIONS WINDOWS
+//!     bench port alike BYTES RECORDS REPETITIONS
+//!     bench port|face ask|every BYTES RECORDS REPETITIONS ADDRESS
 //!
 //! WHO is crate, port, face or floor. WHAT is record or text (reading), line or object (writing), or
 //! load. BYTES are a record's payload, RECORDS how many there are in a text, or calls a repetition.
@@ -17,7 +19,9 @@
 //! text as S-records of at most 252 bytes, each to the number that `record` and `load` print. `salvage` saves
 //! what can be of the text, which is all of it, and `noisy` of the text after a line that is refused, which is
 //! its end record. `table` loads the text through a table of so many windows that fill the pool, and `last` through
-//! one whose last window fills it and whose others are empty, each to the number that `load` prints.
+//! one whose last window fills it and whose others are empty, each to the number that `load` prints. `alike` reads a text
+//! in which all records lie at address 1. `ask` asks the text, and `every` that other text, for the byte at ADDRESS, which
+//! is not 0.
 //! It prints a number that comes from the results, the same for all, and the nanoseconds taken.
 
 mod floor;
@@ -45,6 +49,10 @@ pub struct Given {
     across: String,
     /// The text after a line that is refused.
     noisy: String,
+    /// The text with every record at the same address.
+    alike: String,
+    /// The address that is asked for.
+    address: u32,
     /// The text as S-records, and its first line.
     srecords: String,
     srecord: String,
@@ -118,8 +126,8 @@ fn object(n: usize, records: usize, pool: &[u8]) -> Object {
     (of_crate, of_face, list)
 }
 
-/// The inputs; `step` is a chunk's length, which places of a page are marked, the type of S-records, or how many windows a
-/// table has.
+/// The inputs; `step` is a chunk's length, which places of a page are marked, the type of S-records, how many windows a
+/// table has, or an address.
 fn given(n: usize, records: usize, step: usize) -> Given {
     let byte = |i: usize| (i.wrapping_add(1).wrapping_mul(2_654_435_761) >> 13) as u8;
     let pool: Vec<u8> = (0..n * records).map(byte).collect();
@@ -131,7 +139,9 @@ fn given(n: usize, records: usize, step: usize) -> Given {
         records,
         segment: format!(":020000020000FC\n{text}"),
         linear: format!(":020000040000FA\n{text}"),
-        across: across(n, &pool),
+        across: at_one(n, &pool, (65_536 - n / 2) as u16),
+        alike: at_one(n, &pool, ALIKE),
+        address: step as u32,
         noisy: format!("x\n{text}"),
         srecord: srecord(data_type(step), 0, &pool[..n.min(pool.len())]),
         srecords: srecords(data_type(step), n, &pool),
@@ -169,9 +179,11 @@ fn marked(places: usize, every: usize) -> Vec<u8> {
     marks
 }
 
-/// A text of these payloads, n bytes each, every one across the end of segment 0 by half of it.
-fn across(n: usize, pool: &[u8]) -> String {
-    let offset = (65_536 - n / 2) as u16;
+/// Where all records lie in the text in which they lie at the same address.
+const ALIKE: u16 = 1;
+
+/// A text of these payloads, n bytes each, every one at this offset.
+fn at_one(n: usize, pool: &[u8], offset: u16) -> String {
     let data = |value: &[u8]| original::Record::Data {
         offset,
         value: value.to_vec(),
@@ -317,6 +329,22 @@ fn face_last(given: &mut Given) -> u64 {
     face_through(&given.last.of_face, &given.text, pool, marks)
 }
 
+/// What is returned of a byte that is not stated.
+const NONE: u64 = 256;
+
+fn face_asked(text: &str, address: u32) -> u64 {
+    let asked = ihex::ask(text, address);
+    asked.map_or(0, |byte| byte.map_or(NONE, u64::from))
+}
+
+fn face_ask(given: &mut Given) -> u64 {
+    face_asked(&given.text, given.address)
+}
+
+fn face_every(given: &mut Given) -> u64 {
+    face_asked(&given.alike, given.address)
+}
+
 /// How long the clean file of a text is, and how many entries its list has, in one number.
 fn face_saved(text: &str) -> u64 {
     let saved = ihex::salvage(text);
@@ -345,7 +373,7 @@ fn face_page(given: &mut Given) -> u64 {
 }
 
 mod by_port {
-    use super::Given;
+    use super::{Given, NONE};
 
     pub fn record(given: &mut Given) -> u64 {
         let mut pool = [0; 255];
@@ -379,13 +407,14 @@ mod by_port {
         a
     }
 
-    pub fn text(given: &mut Given) -> u64 {
+    /// How many answers a text has, and the sum of the first bytes of its records, in one number.
+    fn read(text: &str) -> u64 {
         let mut pool = [0; 255];
         let (mut position, mut line, mut flags) = (0, 0, 3);
         let (mut a, mut b, mut c, mut sum) = (0, 0, 0, 0);
         loop {
             let code = ihex_sys::next(
-                given.text.as_bytes(),
+                text.as_bytes(),
                 &mut pool,
                 0,
                 &mut position,
@@ -400,6 +429,30 @@ mod by_port {
             }
             sum += 1 + if code == 0 { u64::from(pool[0]) } else { 0 };
         }
+    }
+
+    pub fn text(given: &mut Given) -> u64 {
+        read(&given.text)
+    }
+
+    pub fn alike(given: &mut Given) -> u64 {
+        read(&given.alike)
+    }
+
+    fn asked(text: &str, address: u32) -> u64 {
+        let (mut line, mut a, mut b) = (0, 0, 0);
+        match ihex_sys::ask(text.as_bytes(), address, &mut line, &mut a, &mut b) {
+            ihex_sys::NOT_STATED => NONE,
+            _ => a,
+        }
+    }
+
+    pub fn ask(given: &mut Given) -> u64 {
+        asked(&given.text, given.address)
+    }
+
+    pub fn every(given: &mut Given) -> u64 {
+        asked(&given.alike, given.address)
     }
 
     /// A reader of chunks, and the number that comes from its answers.
@@ -637,6 +690,8 @@ fn face_work(what: &str) -> Option<Work> {
         "noisy" => face_noisy,
         "table" => face_table,
         "last" => face_last,
+        "ask" => face_ask,
+        "every" => face_every,
         _ => return None,
     })
 }
@@ -660,6 +715,9 @@ fn port_work(what: &str) -> Option<Work> {
         "noisy" => by_port::noisy,
         "table" => by_port::table,
         "last" => by_port::last,
+        "alike" => by_port::alike,
+        "ask" => by_port::ask,
+        "every" => by_port::every,
         _ => return None,
     })
 }
@@ -696,7 +754,9 @@ usage: bench crate|port|face|floor record|text|line|object|load BYTES RECORDS RE
        bench crate|port|face|floor page BYTES RECORDS REPETITIONS EVERY
        bench port|face|floor srecord|srecords BYTES RECORDS REPETITIONS TYPE
        bench port|face salvage|noisy BYTES RECORDS REPETITIONS
-       bench port|face table|last BYTES RECORDS REPETITIONS WINDOWS";
+       bench port|face table|last BYTES RECORDS REPETITIONS WINDOWS
+       bench port alike BYTES RECORDS REPETITIONS
+       bench port|face ask|every BYTES RECORDS REPETITIONS ADDRESS";
 
 fn main() {
     let words: Vec<String> = env::args().skip(1).collect();

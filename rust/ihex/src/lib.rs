@@ -9,8 +9,8 @@
 //! [`Record::from_record_bytes`]), line numbers and columns ([`Reader::numbered`],
 //! [`ReaderError::column`]), a text that comes in chunks ([`ChunkReader`]), the loading of a text
 //! into a page with marks, and its start ([`load`], [`Marks`], [`Start`]), the loads of two owners into one
-//! pool ([`Table`]), the writing of such a page ([`write_page`]), what can be saved of a noisy capture
-//! ([`salvage`](fn@salvage)), and S-records ([`srec`]).
+//! pool ([`Table`]), the writing of such a page ([`write_page`]), one byte of a text without a page ([`ask`]), what
+//! can be saved of a noisy capture ([`salvage`](fn@salvage)), and S-records ([`srec`]).
 //!
 //! No function panics, whatever its arguments.
 //!
@@ -33,6 +33,7 @@ mod chunks;
 mod loader;
 mod marks;
 mod page;
+mod query;
 mod reader;
 mod record;
 mod salvage;
@@ -45,6 +46,7 @@ pub use chunks::*;
 pub use loader::*;
 pub use marks::*;
 pub use page::*;
+pub use query::*;
 pub use reader::*;
 pub use record::*;
 pub use salvage::*;

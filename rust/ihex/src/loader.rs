@@ -47,7 +47,7 @@ pub struct Loaded {
     pub start: Option<Start>,
 }
 
-/// Why a text is not loaded.
+/// Why a text is not loaded. [`ask`](crate::ask) refuses a text with some of these too.
 #[derive(PartialEq, Eq, Clone, Copy, Debug, Hash)]
 #[non_exhaustive]
 pub enum LoadError {

@@ -31,6 +31,7 @@ example!(salvage, "../examples/salvage.rs");
 example!(srecord, "../examples/srecord.rs");
 example!(srecords, "../examples/srecords.rs");
 example!(table, "../examples/table.rs");
+example!(ask, "../examples/ask.rs");
 
 /// Each block of Rust in rust/README.md is a run of lines of the example that is named last before it, with four blanks
 /// less at the beginning of each.

@@ -17,7 +17,7 @@ use std::time::Instant;
 use oracle::comparisons::all::{of_chunks, of_face, of_port, show_seen};
 use oracle::comparisons::run::{Kind, Plan, Report};
 use oracle::comparisons::stored::List;
-use oracle::comparisons::{dumps, pages, replay, salvage, srecords, tables};
+use oracle::comparisons::{asks, dumps, pages, replay, salvage, srecords, tables};
 use oracle::subjects::port::Real;
 use oracle::subjects::program::{command, run};
 use oracle::subjects::the_crate::{keeps_last_cr, NO_SOURCE};
@@ -195,6 +195,7 @@ impl Counts {
         self.compare(srecords::of_port(&Real, plan));
         self.compare(salvage::of_port(&Real, plan));
         self.compare(tables::of_port(&Real, plan));
+        self.compare(asks::of_port(&Real, plan));
         self.compare(of_face(plan));
         let lent = self.compare_lent(command(), plan);
         self.add(stored_agree());
@@ -218,6 +219,12 @@ impl Counts {
         });
         self.find("a port", wrong::tables::all(), |port| {
             tables::of_port(port, few)
+        });
+        self.find("a port", wrong::asks::all(), |port| {
+            asks::of_port(port, few)
+        });
+        self.find("a port", wrong::asks::beside_loads(), |port| {
+            asks::beside_loads(port, few)
         });
         if lent {
             let programs = wrong::replay::all();

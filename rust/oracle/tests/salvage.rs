@@ -1,19 +1,15 @@
 //! Salvage: the model saves as the document says, the port and the face save as the model does, and what can be
 //! relied on finds by itself each port that keeps what cannot.
 
-use oracle::comparisons::run::{Kind, Plan};
+mod right;
+
+use oracle::comparisons::run::Kind;
 use oracle::comparisons::salvage::{of_face, of_port, relied_on};
 use oracle::models::salvage::{placements, saved, stranger_among, Entry, Saved, RIGHT};
 use oracle::subjects::port::Real;
 use oracle::subjects::the_crate::at_hand;
 use oracle::wrong::salvage::{bases, right};
-
-const PLAN: Plan = Plan {
-    seed: 2,
-    times: 1,
-    part_of: 50,
-    enough: 1,
-};
+use right::{are_right, PLAN};
 
 const END: &str = ":00000001FF";
 const ELEVEN: &str = ":0100000011EE";
@@ -86,14 +82,6 @@ fn what_is_stated_is_compared_in_order() {
             ":0100050011E9",
         ];
         assert_eq!(placements(&text(&capture)), [one, two]);
-    }
-}
-
-fn are_right(kinds: Vec<Kind>) {
-    for kind in kinds {
-        let report = kind();
-        assert_eq!(report.smallest, None, "{}", report.name);
-        assert!(report.inputs > 0, "{}", report.name);
     }
 }
 

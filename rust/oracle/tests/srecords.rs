@@ -1,18 +1,13 @@
 //! S-records: the model answers as the document says, and the port and the face answer as the model does. The
 //! crate is not needed for it.
 
-use oracle::comparisons::run::{Kind, Plan};
+mod right;
+
 use oracle::comparisons::srecords::{of_face, of_port};
 use oracle::models::srecords::{read, Said, RIGHT};
 use oracle::subjects::port::Real;
 use oracle::wrong::srecords::right;
-
-const PLAN: Plan = Plan {
-    seed: 2,
-    times: 1,
-    part_of: 50,
-    enough: 1,
-};
+use right::{are_right, PLAN};
 
 #[test]
 fn the_model_refuses_as_the_document_says() {
@@ -66,14 +61,6 @@ fn the_model_reads_as_the_document_says() {
             data,
         };
         assert_eq!(read(RIGHT, line.as_bytes()), Ok(should), "{line:?}");
-    }
-}
-
-fn are_right(kinds: Vec<Kind>) {
-    for kind in kinds {
-        let report = kind();
-        assert_eq!(report.smallest, None, "{}", report.name);
-        assert!(report.inputs > 0, "{}", report.name);
     }
 }
 

@@ -7,7 +7,7 @@ use oracle::comparisons::stored::List;
 use oracle::inputs::replay::Given;
 use oracle::models::replay::answer;
 
-const HEADINGS_AND_CASES: [(&str, &str); 23] = [
+const HEADINGS_AND_CASES: [(&str, &str); 27] = [
     ("# a heading", "# a heading"),
     ("C 01", "FF"),
     ("C", "00"),
@@ -51,12 +51,20 @@ const HEADINGS_AND_CASES: [(&str, &str); 23] = [
     ),
     ("N 1 1 1  1 FFFFFFFF 2 0", "! 23 @0 | CC | AA"),
     ("N 1 1 1 3A30303030303030314646", "A 0 | CC | AA"),
+    (
+        "Q 5 3A3031303030353030373738330A3A30303030303030314646",
+        "B 77",
+    ),
+    ("Q FFFFFFFF 3A30303030303030314646", "none"),
+    ("Q 0 0A3A304780", "! 2 0002 @2"),
+    ("Q 0", "! 13 @0"),
 ];
 
 /// What `replay` takes another way, or not at all.
-const PASSED_OVER: [&str; 10] = [
+const PASSED_OVER: [&str; 11] = [
     "",
-    "Q 1",
+    "X 1",
+    "Q 100000000",
     "C 0",
     "C 0a",
     "C 01 02",
@@ -82,11 +90,11 @@ fn right_answers_agree() {
     assert_eq!(outcome.report.smallest, None);
     assert_eq!(
         (outcome.report.inputs, outcome.report.disagreements),
-        (22, 0)
+        (26, 0)
     );
     assert_eq!(
         outcome.told,
-        "2 C, 3 L, 5 T, 1 W, 1 O, 7 M, 3 N; 2 of them no UTF-8, answered by the rule for bytes; 0 passed over"
+        "2 C, 3 L, 5 T, 1 W, 1 O, 7 M, 3 N, 4 Q; 3 of them no UTF-8, answered by the rule for bytes; 0 passed over"
     );
 }
 
@@ -115,10 +123,10 @@ fn what_is_no_case_is_passed_over_and_kept() {
     let outcome = list.compare();
     assert_eq!(
         (outcome.report.inputs, outcome.report.disagreements),
-        (22, 0)
+        (26, 0)
     );
-    assert!(outcome.told.ends_with("; 11 passed over"));
-    assert_eq!(outcome.over, 11);
+    assert!(outcome.told.ends_with("; 12 passed over"));
+    assert_eq!(outcome.over, 12);
     assert_eq!(list.answered().answers, list.answers);
 }
 

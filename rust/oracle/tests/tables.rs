@@ -1,6 +1,7 @@
 //! Window tables: the model answers as the document says, and the port and the face answer as the model does.
 
-use oracle::comparisons::run::{Kind, Plan};
+mod right;
+
 use oracle::comparisons::tables::{of_face, of_port};
 use oracle::inputs::tables::{Kind as TextKind, Row, TableCase};
 use oracle::models::loads::LoadAnswer;
@@ -8,13 +9,7 @@ use oracle::models::tables::{broken, model};
 use oracle::subjects::port::Real;
 use oracle::subjects::the_crate::at_hand;
 use oracle::wrong::tables::right;
-
-const PLAN: Plan = Plan {
-    seed: 2,
-    times: 1,
-    part_of: 50,
-    enough: 1,
-};
+use right::{are_right, PLAN};
 
 const END: &str = "S9030000FC";
 
@@ -79,14 +74,6 @@ fn the_model_loads_as_the_document_says() {
     // Before the text.
     let (answer, ..) = left(&case(&["x"], 3, &[], 0));
     assert_eq!(answer, LoadAnswer::refused(23, 0, 0, 0));
-}
-
-fn are_right(kinds: Vec<Kind>) {
-    for kind in kinds {
-        let report = kind();
-        assert_eq!(report.smallest, None, "{}", report.name);
-        assert!(report.inputs > 0, "{}", report.name);
-    }
 }
 
 #[test]

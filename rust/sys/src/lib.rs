@@ -9,6 +9,8 @@ pub const REFUSED: u32 = 256;
 pub const DONE: u32 = 512;
 /// The chunk has no further answer: the next may be handed over.
 pub const USED_UP: u32 = 513;
+/// The text is accepted, and states no byte at the address that was asked for.
+pub const NOT_STATED: u32 = 514;
 /// What should be written is not a record: its type is not one of the format's, or its number does not fit the type.
 pub const BAD_RECORD: u32 = 1024;
 
@@ -197,6 +199,14 @@ mod c {
             a: *mut u64,
             b: *mut u64,
             c: *mut u64,
+        ) -> u32;
+        pub fn ihex_ask(
+            text: *const u8,
+            text_len: usize,
+            address: u32,
+            line: *mut usize,
+            a: *mut u64,
+            b: *mut u64,
         ) -> u32;
         pub fn ihex_page_file_length(
             first: u32,
@@ -484,6 +494,11 @@ pub fn load_table(
             a, b, c,
         )
     }
+}
+
+/// The byte that a text states at an address: 0 and the byte in `a`, or [`NOT_STATED`], or a refusal as [`load`] has it.
+pub fn ask(text: &[u8], address: u32, line: &mut usize, a: &mut u64, b: &mut u64) -> u32 {
+    unsafe { c::ihex_ask(text.as_ptr(), text.len(), address, line, a, b) }
 }
 
 /// How long the file of a page with marks is. Marks take one bit a place.

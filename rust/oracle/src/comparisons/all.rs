@@ -3,7 +3,7 @@
 use crate::comparisons::run::{Kind, Plan};
 use crate::comparisons::seen::{Answers, Places};
 use crate::comparisons::{
-    chunks, dumps, forms, joined, lines, loads, long, pages, salvage, srecords, sums, tables,
+    asks, chunks, dumps, forms, joined, lines, loads, long, pages, salvage, srecords, sums, tables,
     texts, writes,
 };
 use crate::subjects::face::RealFace;
@@ -42,6 +42,7 @@ pub fn of_face(plan: Plan) -> Vec<Kind<'static>> {
         srecords::of_face(plan),
         salvage::of_face(plan),
         tables::of_face(plan),
+        asks::of_face(plan),
     ];
     parts.into_iter().flatten().collect()
 }
@@ -62,6 +63,7 @@ fn answers() -> impl Iterator<Item = &'static Answers> {
         .chain(srecords::answers())
         .chain(&salvage::SEEN)
         .chain(&tables::SEEN)
+        .chain(&asks::SEEN)
         .chain(&loads::SEEN_WRAPS)
 }
 
@@ -77,7 +79,7 @@ fn places() -> impl Iterator<Item = &'static Places> {
     .into_iter()
     .chain(&joined::SEEN_CUTS)
     .chain(srecords::places())
-    .chain([&salvage::SEEN_PLACES])
+    .chain([&salvage::SEEN_PLACES, &asks::SEEN_PLACES])
 }
 
 /// Prints how often each answer, each kind of place, each form of a page and each way to stop was called

@@ -112,6 +112,18 @@ pub type Places<'a> = (&'a mut usize, &'a mut u8);
 /// The values that it tells.
 pub type Values<'a> = (&'a mut u64, &'a mut u64, &'a mut u64);
 
+/// What a load answers, from what is called with room for its line, its kind of start and its values.
+pub fn answer(call: impl FnOnce(Places, Values) -> u32) -> LoadAnswer {
+    let (mut line, mut start, mut a, mut b, mut c) = (0, 0, 0, 0, 0);
+    let code = call((&mut line, &mut start), (&mut a, &mut b, &mut c));
+    LoadAnswer {
+        code,
+        line,
+        start,
+        values: [a, b, c],
+    }
+}
+
 /// What is wrong with a load by a loader of the port, if it should answer as a model does; the model's answer is
 /// noted.
 pub fn by_port(
@@ -157,12 +169,14 @@ fn as_port(answer: Result<Loaded, LoadError>) -> LoadAnswer {
         Start::Linear(address) => (5, address.into(), 0),
         other => panic!("a start that the oracle does not know: {other}"),
     };
-    let why = match answer {
-        Ok(loaded) => {
-            return LoadAnswer::accepted(loaded.data_records as u64, loaded.start.map(start))
-        }
-        Err(why) => why,
-    };
+    match answer {
+        Ok(loaded) => LoadAnswer::accepted(loaded.data_records as u64, loaded.start.map(start)),
+        Err(why) => refused(why),
+    }
+}
+
+/// A refusal of the face, in the form of the port's answers.
+pub fn refused(why: LoadError) -> LoadAnswer {
     let [a, b, _] = match why {
         LoadError::Line(refused) => by_face::refusal(&refused.error).values,
         LoadError::SRecordLine { error, .. } => by_face::refusal(&error.0).values,

@@ -2,6 +2,7 @@
 //! comparison that run them. `all` has the kinds in the order in which they are run.
 
 pub mod all;
+pub mod asks;
 pub mod chunks;
 pub mod dumps;
 pub mod forms;

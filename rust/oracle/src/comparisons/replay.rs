@@ -3,7 +3,7 @@
 
 use std::time::Instant;
 
-use crate::comparisons::run::{blocks, search, thousand, Kind, Plan, Report};
+use crate::comparisons::run::{block_of, blocks, search, Kind, Plan, Report, A_BLOCK};
 use crate::inputs::chance::Chance;
 use crate::inputs::lent::{first, list, text};
 use crate::inputs::replay::Given;
@@ -85,7 +85,13 @@ fn by_program<'a>(
     Box::new(move || {
         let start = Instant::now();
         let wrong = |cases| self::wrong(program, cases);
-        let found = search(name, plan, blocks(thousands, plan), thousand(make), wrong);
+        let found = search(
+            name,
+            plan,
+            blocks(thousands, plan),
+            block_of(A_BLOCK, make),
+            wrong,
+        );
         Report {
             name,
             inputs: found.inputs,

@@ -125,14 +125,20 @@ fn compare<C: Case>(
 /// A kind of comparison, ready to run.
 pub type Kind<'a> = Box<dyn Fn() -> Report + 'a>;
 
-/// How many blocks a kind has whose inputs come by chance, a thousand a block.
-pub fn blocks(thousands: u64, plan: Plan) -> u64 {
-    (thousands * plan.times / plan.part_of).max(1)
+/// How many inputs by chance a block has, mostly.
+pub const A_BLOCK: u64 = 1000;
+
+/// How many blocks a kind has whose inputs come by chance, from the usual number.
+pub fn blocks(usual: u64, plan: Plan) -> u64 {
+    (usual * plan.times / plan.part_of).max(1)
 }
 
-/// A block of inputs by chance.
-pub fn thousand<C>(make: fn(&mut Chance) -> C) -> impl Fn(u64, &mut Chance) -> Vec<C> + Sync {
-    move |_, chance| (0..1000).map(|_| make(chance)).collect()
+/// A block of so many inputs by chance.
+pub fn block_of<C>(
+    size: u64,
+    make: fn(&mut Chance) -> C,
+) -> impl Fn(u64, &mut Chance) -> Vec<C> + Sync {
+    move |_, chance| (0..size).map(|_| make(chance)).collect()
 }
 
 /// A kind whose inputs are made a block at once, from the block's number and its own chance.
@@ -154,7 +160,13 @@ pub fn by_chance<'a, C: Case + 'a>(
     make: fn(&mut Chance) -> C,
     check: impl Fn(&C) -> Option<String> + Sync + 'a,
 ) -> Kind<'a> {
-    by_block(name, plan, blocks(thousands, plan), thousand(make), check)
+    by_block(
+        name,
+        plan,
+        blocks(thousands, plan),
+        block_of(A_BLOCK, make),
+        check,
+    )
 }
 
 /// A kind of long lines.

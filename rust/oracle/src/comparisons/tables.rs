@@ -4,7 +4,7 @@ use ihex::{BadTable, Owner, Table, Window};
 use ihex_sys::REFUSED;
 
 use crate::comparisons::lent::Lent;
-use crate::comparisons::loads::{by_face_with, by_port};
+use crate::comparisons::loads::{answer, by_face_with, by_port};
 use crate::comparisons::run::{by_block, by_chance, Kind as Comparison, Plan};
 use crate::comparisons::seen::{Answers, Times};
 use crate::inputs::loads::LoadCase;
@@ -92,20 +92,6 @@ fn port(port: &dyn Port, case: &TableCase) -> Option<String> {
     wrong
         .or_else(|| checked(port, case, &table))
         .or_else(|| table.unlike("table", &case.table()))
-}
-
-/// What a load answers, from what is called with room for its line, its kind of start and its values.
-fn answer(
-    call: impl FnOnce((&mut usize, &mut u8), (&mut u64, &mut u64, &mut u64)) -> u32,
-) -> LoadAnswer {
-    let (mut line, mut start, mut a, mut b, mut c) = (0, 0, 0, 0, 0);
-    let code = call((&mut line, &mut start), (&mut a, &mut b, &mut c));
-    LoadAnswer {
-        code,
-        line,
-        start,
-        values: [a, b, c],
-    }
 }
 
 /// The page and marks of an owner's own loader.

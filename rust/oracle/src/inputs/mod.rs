@@ -1,6 +1,7 @@
 //! The inputs: what a case of each kind is, how it is made smaller, and how cases are made, by rule and by
 //! chance.
 
+pub mod asks;
 pub mod chance;
 pub mod chunks;
 pub mod cuts;

@@ -3,6 +3,7 @@
 
 use std::str::{self, Split};
 
+use crate::inputs::asks::AtCase;
 use crate::inputs::lines::LineCase;
 use crate::inputs::loads::LoadCase;
 use crate::inputs::shrink::Case;
@@ -39,6 +40,7 @@ pub enum Given {
     Object(ObjectCase),
     Load(LoadCase),
     Table(TableCase),
+    Ask(AtCase),
 }
 
 /// The digits of a number, in capitals.
@@ -171,6 +173,13 @@ fn table_of(mut words: Words) -> Option<TableCase> {
     })
 }
 
+fn ask_of(mut words: Words) -> Option<AtCase> {
+    Some(AtCase {
+        address: words.number()?,
+        text: words.last_bytes()?,
+    })
+}
+
 fn row_told(row: &Row) -> String {
     let Row {
         owner,
@@ -224,6 +233,7 @@ impl Given {
             "O" => object_of(words).map(Given::Object),
             "M" => load_of(words).map(Given::Load),
             "N" => table_of(words).map(Given::Table),
+            "Q" => ask_of(words).map(Given::Ask),
             _ => None,
         }
     }
@@ -246,6 +256,7 @@ impl Given {
                 let (first, page, marks) = (case.first, case.page, case.marks);
                 format!("M {first:X} {page:X} {marks:X} {}", hex(&case.text))
             }
+            Given::Ask(case) => format!("Q {:X} {}", case.address, hex(&case.text)),
         };
         line.trim_end().into()
     }
@@ -258,6 +269,7 @@ impl Given {
             Given::Text(case) | Given::First(case) => &case.text,
             Given::Load(case) => &case.text,
             Given::Table(case) => &case.text,
+            Given::Ask(case) => &case.text,
             _ => return false,
         };
         str::from_utf8(read).is_err()
@@ -281,6 +293,7 @@ impl Case for Given {
             Given::Object(case) => smaller(case, Given::Object),
             Given::Load(case) => smaller(case, Given::Load),
             Given::Table(case) => smaller(case, Given::Table),
+            Given::Ask(case) => smaller(case, Given::Ask),
         }
     }
 

@@ -1,6 +1,7 @@
 //! The models: what should be answered, from the crate's answers and the rules; for S-records from the rules
 //! alone. A model asks neither the port nor the face.
 
+pub mod asks;
 pub mod chunks;
 pub mod dumps;
 pub mod lines;

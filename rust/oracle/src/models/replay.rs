@@ -1,13 +1,15 @@
 //! The crate's answers to the cases of `replay`, printed as that program prints its own.
 
-use ihex_sys::{DONE, REFUSED, STOP_AFTER_EOF, STOP_AFTER_FIRST_ERROR};
+use ihex_sys::{DONE, NOT_STATED, REFUSED, STOP_AFTER_EOF, STOP_AFTER_FIRST_ERROR};
 
+use crate::inputs::asks::AtCase;
 use crate::inputs::lines::LineCase;
 use crate::inputs::loads::LoadCase;
 use crate::inputs::replay::{Given, MARKS};
 use crate::inputs::spelling::hex;
 use crate::inputs::tables::TableCase;
 use crate::inputs::texts::TextCase;
+use crate::models::asks;
 use crate::models::lines::{self, in_pool, pour};
 use crate::models::loads::{self, LoadAnswer};
 use crate::models::tables;
@@ -35,6 +37,7 @@ pub fn answer(given: &Given) -> String {
         Given::Object(case) => written(&writes::object(case), case.out),
         Given::Load(case) => load(case),
         Given::Table(case) => load_through(case),
+        Given::Ask(case) => asked(case),
     }
 }
 
@@ -166,4 +169,15 @@ fn load_through(case: &TableCase) -> String {
     with_page(case.pool, case.marks, |pool, marks| {
         tables::model(case, pool, marks)
     })
+}
+
+fn asked(case: &AtCase) -> String {
+    let walk = asks::walked(asks::RIGHT, &case.text);
+    let answer = asks::answered(asks::RIGHT, &walk, case.address);
+    let [a, b] = answer.values;
+    match answer.code {
+        0 => format!("B {a:02X}"),
+        NOT_STATED => "none".into(),
+        code => format!("{} @{:X}", refusal(code, a, b), answer.line),
+    }
 }

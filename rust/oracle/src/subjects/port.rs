@@ -116,6 +116,16 @@ pub trait Port: Sync {
         ihex_sys::load_table(text, owner, table, pool, marks, line, start, a, b, c)
     }
 
+    fn ask(
+        &self,
+        text: &[u8],
+        address: u32,
+        line: &mut usize,
+        (a, b): (&mut u64, &mut u64),
+    ) -> u32 {
+        ihex_sys::ask(text, address, line, a, b)
+    }
+
     fn page_file_length(&self, first: u32, page: &[u8], marks: &[u8], value: &mut u64) -> u32 {
         ihex_sys::page_file_length(first, page, marks, value)
     }

@@ -2,6 +2,7 @@
 //! the wrong ports in the order in which they are tried.
 
 pub mod all;
+pub mod asks;
 pub mod chunk_calls;
 pub mod chunks;
 pub mod dumps;
