@@ -1,0 +1,5 @@
+pub mod Colors
+pub mod Places
+pub mod Telling
+pub mod History
+pub mod Claims

@@ -1,0 +1,4 @@
+pub mod Colors
+pub mod Light
+pub mod Claims
+pub mod Helpers
