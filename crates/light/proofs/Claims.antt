@@ -1,41 +1,39 @@
 -- The claims of `specs/Claims.antt` of one dump, and the contracts.
 -- Assumes nothing.
-use mathlib.Core.Path.{_≡_, refl, sym, ap, ap₂, _∙_, subst}
+use mathlib.Core.Path.{_≡_, refl, sym, ap, _∙_, subst}
 use mathlib.Core.Logic.{_≢_, _↔_, _⊎_, inl, inr}
 use Prim.Native.Nat.{ℕ, _+_, _*_, _≤_, _<_}
 use native.Mathlib.Omega.{arith}
 use mathlib.Core.Bool.{Bool, true, false, _&&_, _||_}
 use mathlib.Core.Option.{Option, none, some}
 use mathlib.Core.List.{List}
-use lib.Dec.{eqb, leb, ltb}
+use lib.Dec.{eqb, leb}
 use lib.ListN.{length, getD}
-use borrow.Author.Tests.{eq-eqb, eqb-true, leb-true, leb-false, le-leb, ltb-true, ltb-false, le-ltb, lt-ltb}
+use borrow.Author.Tests.{eqb-true, leb-true, leb-false, le-ltb, lt-ltb}
 use Rattle.digits.specs.Common.{if_then_else_}
 use Rattle.record.specs.Refusals.{Refusal, bad-window}
-use Rattle.reader.specs.Lines.{through}
 use Rattle.marks.specs.Marks.{mark-at, Marked}
-use Rattle.steps.specs.Steps.{Placement, Step, Tally, Verdict, accepted, refused, Decision, by, verdict, stated}
+use Rattle.steps.specs.Steps.{Placement, Tally, Verdict, accepted, refused, Decision, by, verdict, stated}
 use Rattle.steps.specs.Source.{Source, steps-of}
 use Rattle.steps.specs.Sites.{Loaded, last-at, Last-stated, stopping-in}
 use Rattle.steps.specs.Told.{told-loading}
 use Rattle.steps.proofs.Places.{Found, found, last-stated-is}
 use Rattle.steps.proofs.Told.{told-apart}
-use Rattle.window.specs.Window.{window, one-window}
+use Rattle.window.specs.Window.{unfit, window, one-window}
 use Rattle.window.specs.Load.{stopping-by-window, load-window}
 use Rattle.window.specs.Loads.{Alike}
-use Rattle.window.proofs.Loads.{load-answer, non-interference, refusal-changes-nothing as window-keeps}
+use Rattle.window.proofs.Loads.{load-answer, load-unfit, non-interference, refusal-changes-nothing as window-keeps}
 use Rattle.intel.specs.Placing.{intel}
 use Rattle.srecload.specs.Placing.{s-records}
 use Rattle.light.specs.declared.Color.{Color as CodeColor}
 use Rattle.light.specs.declared.Color.the-variants.{Broken, NoCount, First, Green, Stale, Restarted}
 use Rattle.light.specs.declared.Count.the-variants.{Unknown}
 use Rattle.light.specs.declared.Light.{Light}
-use Rattle.light.specs.declared.Made.{Made}
 use Rattle.light.specs.declared.Made.the-variants as made
 use Rattle.light.specs.declared.Dumped.{Dumped}
-use Rattle.light.specs.Colors.{Color, broken, no-count, green, Outcome, refused-one, uncounted, counted, forward, color}
-use Rattle.light.specs.Light.{told-color, told-count, load-for, count-in, said-in, outcome, light-after, SetUp, Dumps}
-use Rattle.light.specs.Claims.{count-of, stated-for, said-by, said, Means-green, Green-means, Nothing-after, Refusal-changes-nothing, Outside-no-count, Bad-place-exactly, Set-up-unique, One-dump, Dump-unique, Dump-srecords-unique}
+use Rattle.light.specs.Colors.{green, refused-one, uncounted, counted, forward, color}
+use Rattle.light.specs.Light.{told-color, told-count, load-for, count-in, said-in, outcome, light-after}
+use Rattle.light.specs.Claims.{count-of, stated-for, said-by, said, Means-green, Green-means, Nothing-after, Refusal-changes-nothing, Bad-window-whatever, Outside-no-count, Bad-place-exactly, Set-up-unique, One-dump, Dump-unique, Dump-srecords-unique}
 use Rattle.light.proofs.Colors.{green-exactly}
 use Rattle.light.proofs.Places.{outcome-is-said}
 
@@ -161,6 +159,18 @@ refusal-changes-nothing S src l text page marks r p m x w n e =
       x .page ∙ kp,
       x .marks ∙ km,
     )
+
+-- ---- bad windows
+
+pub bad-window-whatever : Bad-window-whatever
+unfolding load-for
+bad-window-whatever S src l text page marks r p m x w = x .answer ∙ go (eqb (length page) (l .length)) refl w
+  where
+    go : (b : Bool) → eqb (length page) (l .length) ≡ b → (length page ≢ l .length) ⊎ (unfit (l .first) (length page) (length marks) ≡ true)
+        → (if b then load-window src text (l .first) page marks else record { answer = refused bad-window 0; page = page; marks = marks }) .answer ≡ refused bad-window 0
+    go false q u = refl
+    go true q (inl n) = absurd (n (eqb-true (length page) (l .length) q))
+    go true q (inr u) = sym (load-unfit src text (l .first) page marks u .answer)
 
 -- ---- places outside
 

@@ -1,8 +1,8 @@
 -- The colors of a history: the count that is known is the last one, and how far a count moved says which color it is.
 -- Assumes nothing.
-use mathlib.Core.Path.{_≡_, refl, sym, ap, _∙_, subst}
-use mathlib.Core.Logic.{_≢_, _↔_}
-use Prim.Native.Nat.{ℕ, _+_, _%_, _≤_, _<_}
+use mathlib.Core.Path.{_≡_, refl, sym, _∙_, subst}
+use mathlib.Core.Logic.{_≢_}
+use Prim.Native.Nat.{ℕ, _≤_, _<_}
 use native.Mathlib.Omega.{arith}
 use mathlib.Core.Bool.{Bool, true, false}
 use mathlib.Core.Option.{Option, none, some}
@@ -10,7 +10,6 @@ use mathlib.Core.List.{List, [], _∷_, _++_, append-assoc}
 use lib.Dec.{eqb, leb}
 use borrow.Author.Tests.{eq-eqb, eqb-true, eqb-false, leb-true, leb-false}
 use Rattle.digits.specs.Common.{if_then_else_, or-else, Every}
-use Rattle.record.proofs.Choices.{or-else-assoc}
 use Rattle.steps.proofs.Firsts.{every-at}
 use Rattle.light.specs.Colors.{Color, green, stale, restarted, Outcome, refused-one, uncounted, counted, forward, compared, color, known-after, colors, Last-count, never, this-one, Shows, is-broken, has-none, is-first, is-same, moved-forward, moved-else, Sixteen, Shown-so, Shown-only-so, Known-is-last, Never-green-again, Green-exactly, Examples}
 

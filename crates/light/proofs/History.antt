@@ -1,23 +1,24 @@
 -- The history alone: what each dump says is what its steps state, and the light remembers the last count.
 -- Assumes nothing.
-use mathlib.Core.Path.{_≡_, refl, sym, ap, ap₂, _∙_}
-use mathlib.Core.Logic.{_≢_, _⊎_, inl, inr}
+use mathlib.Core.Path.{_≡_, refl, sym, ap, ap₂, _∙_, subst}
+use mathlib.Core.Logic.{_⊎_, inl, inr}
 use Prim.Native.Nat.{ℕ, _≤_, _<_}
 use native.Mathlib.Omega.{arith}
 use mathlib.Core.Option.{Option, none, some}
-use mathlib.Core.List.{List, [], _∷_, map}
+use mathlib.Core.List.{List, [], _∷_, _++_, map}
 use lib.ListN.{length}
+use Rattle.digits.specs.Common.{Every}
 use Rattle.steps.specs.Source.{Source, steps-of}
 use Rattle.steps.specs.Steps.{Step}
 use Rattle.intel.specs.Placing.{intel}
 use Rattle.srecload.specs.Placing.{s-records}
 use Rattle.light.specs.declared.Light.{Light}
-use Rattle.light.specs.declared.Dumped.{Dumped}
-use Rattle.light.specs.Colors.{Color, green, Outcome, refused-one, uncounted, counted, forward, color, known-after, colors}
-use Rattle.light.specs.Light.{told-color, told-count, outcome, light-after, Dumps}
-use Rattle.light.specs.Claims.{said, Kind, hex, srecords, steps-by, Call, Meets-by, Row, said-of, shown, By-history, Never-green-twice, Unmoved-never-green}
-use Rattle.light.proofs.Colors.{never-green-again, green-exactly}
+use Rattle.light.specs.Colors.{Color, green, Outcome, refused-one, uncounted, counted, forward, color, known-after, colors, Last-count, never, Shows, Sixteen}
+use Rattle.light.specs.Light.{told-count, outcome, light-after, Dumps}
+use Rattle.light.specs.Claims.{said, Kind, hex, srecords, steps-by, Call, Meets-by, In-turn, said-of, shown, Each-shows, By-history, Shows-history, Never-green-twice, Unmoved-never-green}
+use Rattle.light.proofs.Colors.{shown-so, known-is-last, never-green-again, green-exactly}
 use Rattle.light.proofs.Places.{outcome-is-said}
+use Rattle.light.proofs.Sixteen.{said-sixteen}
 
 -- ---- one call
 
@@ -62,7 +63,7 @@ said-after : (l : Light) (o : Outcome) (cs : List Call) → map (said-of (light-
 said-after l o [] = refl
 said-after l o (c ∷ cs) = ap₂ (λ (x : Outcome) (xs : List Outcome). x ∷ xs) (same-said l o (steps-by (c .kind) (c .text)) (length (c .page)) (length (c .marks))) (said-after l o cs)
 
--- ---- a row of calls
+-- ---- calls in turn
 
 pub by-history : By-history
 unfolding colors
@@ -74,6 +75,30 @@ by-history l (c ∷ cs) (d, r) =
     (by-history (c .returned .light) cs r
     ∙ ap (λ (x : Light). colors (told-count (x .known)) (map (said-of x) cs)) (f .light-is)
     ∙ ap₂ (λ (k : Option ℕ) (xs : List Outcome). colors k xs) (known-is l o) (said-after l o cs))
+
+-- the same without computing, after a history whose last count the light knows; l₀ has the window and the places
+each-shows : (l₀ l : Light) (history : List Outcome) (cs : List Call) → ((c : Call) → said-of l c ≡ said-of l₀ c) → Every Sixteen history
+    → Last-count history (told-count (l .known)) → In-turn l cs → Each-shows l₀ history cs
+each-shows l₀ l history [] same small last r = tt
+each-shows l₀ l history (c ∷ cs) same small last (d, r) =
+    let f = call-follows l c d in
+    let o = said-of l₀ c in
+    let k = told-count (l .known) in
+    let here : c .returned .light ≡ light-after l o = f .light-is ∙ ap (light-after l) (same c) in
+    let o-small : Sixteen o = said-sixteen l₀ (c .kind) (c .text) (length (c .page)) (length (c .marks)) in (
+      subst (λ (x : Color). Shows history o x) (sym (f .color-is ∙ ap (color k) (same c))) (shown-so history o k small o-small last),
+      each-shows l₀ (c .returned .light) (history ++ (o ∷ [])) cs
+          (λ x. ap (λ (y : Light). said-of y x) here ∙ same-said l o (steps-by (x .kind) (x .text)) (length (x .page)) (length (x .marks)) ∙ same x)
+          (both history o small o-small)
+          (subst (λ (x : Option ℕ). Last-count (history ++ (o ∷ [])) x) (sym (ap (λ (y : Light). told-count (y .known)) here ∙ known-is l o)) (known-is-last history k o last)) r,
+    )
+  where
+    both : (os : List Outcome) (o : Outcome) → Every Sixteen os → Sixteen o → Every Sixteen (os ++ (o ∷ []))
+    both [] o h k = (k, tt)
+    both (x ∷ os) o (h, hs) k = (h, both os o hs k)
+
+pub shows-history : Shows-history
+shows-history l cs e r = each-shows l l [] cs (λ c. refl) tt (rw e (never tt)) r
 
 pub never-green-twice : Never-green-twice
 never-green-twice l c c′ d d′ ek et ep em e =

@@ -1,25 +1,25 @@
 -- What a dump says is what its steps state: the places of the count hold, after an accepted load, what was stated for them.
 -- Assumes nothing.
-use mathlib.Core.Path.{_≡_, refl, sym, ap, _∙_}
-use Prim.Native.Nat.{ℕ, _+_, _*_, _≤_, _<_}
+use mathlib.Core.Path.{_≡_, refl, ap, _∙_}
+use Prim.Native.Nat.{ℕ, _+_}
 use native.Mathlib.Omega.{arith}
-use mathlib.Core.Bool.{Bool, true, false, _&&_}
+use mathlib.Core.Bool.{Bool, true, false}
 use mathlib.Core.Option.{Option, none, some, Option·getD}
 use mathlib.Core.List.{List}
 use lib.Dec.{eqb, ltb}
 use lib.ListN.{length, getD}
-use borrow.Author.Tests.{eq-eqb, eqb-true, ltb-true, ltb-false}
+use borrow.Author.Tests.{eqb-true, ltb-true, ltb-false}
 use Rattle.digits.specs.Common.{if_then_else_}
 use Rattle.record.specs.Refusals.{bad-window}
 use Rattle.marks.specs.Marks.{mark-at}
-use Rattle.steps.specs.Steps.{Placement, Tally, Verdict, accepted, refused, verdict, stated}
+use Rattle.steps.specs.Steps.{Tally, Verdict, accepted, refused, verdict, stated}
 use Rattle.steps.specs.Source.{Source, steps-of}
 use Rattle.steps.specs.Sites.{Loaded, last-at, mark}
-use Rattle.window.specs.Window.{window, one-window}
+use Rattle.window.specs.Window.{window}
 use Rattle.window.specs.Load.{stopping-by-window, load-window}
 use Rattle.window.proofs.Loads.{load-answer, marked-below, at-place}
 use Rattle.light.specs.declared.Light.{Light}
-use Rattle.light.specs.Colors.{Outcome, refused-one, uncounted, counted}
+use Rattle.light.specs.Colors.{refused-one}
 use Rattle.light.specs.Light.{load-for, count-in, said-in, outcome}
 use Rattle.light.specs.Claims.{count-of, stated-for, said-by, said}
 

@@ -1,32 +1,29 @@
 -- The private functions of the light: a comparison, a count in a page, and what a load comes to.
 -- Assumes nothing.
-use mathlib.Core.Path.{_≡_, refl, sym, ap, _∙_, subst}
+use mathlib.Core.Path.{_≡_, refl, sym, ap, _∙_}
 use Prim.Native.Nat.{ℕ, _+_, _*_, _%_, _^_, _≤_, _<_}
 use native.Mathlib.Omega.{arith}
-use mathlib.Core.Bool.{Bool, true, false, _&&_}
-use mathlib.Core.Option.{Option, none, some}
+use mathlib.Core.Bool.{Bool, true, false}
 use mathlib.Core.List.{List}
-use lib.Dec.{eqb, leb}
+use lib.Dec.{eqb}
 use lib.ListN.{length, getD}
-use borrow.Author.Tests.{eq-eqb, eqb-true, eqb-false, leb-true, leb-false, le-leb}
-use Rattle.digits.specs.Common.{if_then_else_}
+use borrow.Author.Tests.{eq-eqb, eqb-true}
 use Rattle.marks.specs.Marks.{mark-at, IsMarked}
 use Rattle.steps.specs.declared.LoaderError.the-variants.{BadWindow}
 use Rattle.steps.specs.declared.Loading.{Loading}
 use Rattle.steps.specs.declared.Loading.the-variants.{Accepted, Refused}
-use Rattle.steps.specs.Steps.{Tally, accepted, refused}
+use Rattle.steps.specs.Steps.{accepted}
 use Rattle.steps.specs.Source.{Source}
 use Rattle.steps.specs.Told.{tallied, told-loading, is-accepted}
 use Rattle.window.specs.Load.{load-window, LoadWindow}
 use Rattle.window.proofs.Loads.{marked-below, sizes-kept}
 use Rattle.light.specs.declared.Color.the-variants.{Broken, NoCount, First, Green, Stale, Restarted}
 use Rattle.light.specs.declared.Color.{Color as CodeColor}
-use Rattle.light.specs.declared.Count.{Count}
 use Rattle.light.specs.declared.Count.the-variants.{Unknown, Known}
 use Rattle.light.specs.declared.Light.{Light}
 use Rattle.light.specs.declared.Dumped.{Dumped}
 use Rattle.light.specs.Colors.{forward, compared, color}
-use Rattle.light.specs.Light.{told-color, told-count, count-in, said-in, load-for, outcome, Dumps}
+use Rattle.light.specs.Light.{count-in, said-in, load-for, outcome, Dumps}
 use Rattle.light.specs.Helpers.{Compared, Counts, Marked-inside, Held, Tells}
 use Rattle.light.proofs.Colors.{at-zero, at-little, at-much}
 

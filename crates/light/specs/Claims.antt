@@ -1,28 +1,29 @@
--- What is claimed of the light, for calls of `dump` and `dump_srecords` in any row. Each claim is proved in `proofs/Claims.antt` or `proofs/History.antt`.
+-- What is claimed of the light, for one call of `dump` or `dump_srecords`, and for any number of them in turn. Each claim is proved in `proofs/Claims.antt` or `proofs/History.antt`.
 -- Assumes nothing.
 use mathlib.Core.Path.{_≡_}
 use mathlib.Core.Logic.{_≢_, _↔_, _⊎_}
 use Prim.Native.Nat.{ℕ, _+_, _*_, _≤_, _<_}
-use mathlib.Core.Bool.{Bool}
+use mathlib.Core.Bool.{true}
 use mathlib.Core.Option.{Option, none, some}
-use mathlib.Core.List.{List, [], _∷_, map}
+use mathlib.Core.List.{List, [], _∷_, _++_, map}
 use lib.Dec.{eqb}
 use lib.ListN.{length}
 use Rattle.digits.specs.Common.{if_then_else_}
-use Rattle.record.specs.Refusals.{Refusal}
+use Rattle.record.specs.Refusals.{Refusal, bad-window}
 use Rattle.reader.specs.Lines.{through}
-use Rattle.steps.specs.Steps.{Placement, Step, nothing-yet, Tally, Verdict, accepted, refused, by, verdict, stated}
+use Rattle.steps.specs.Steps.{Placement, Step, Tally, Verdict, accepted, refused, by, verdict, stated}
 use Rattle.steps.specs.Source.{Source, steps-of}
 use Rattle.steps.specs.Sites.{last-at, Last-stated, stopping-by, stopping-in}
 use Rattle.steps.specs.Told.{told-loading}
-use Rattle.window.specs.Window.{window, one-window}
+use Rattle.window.specs.Window.{unfit, window, one-window}
 use Rattle.intel.specs.Placing.{intel}
 use Rattle.srecload.specs.Placing.{s-records}
+use Rattle.light.specs.declared.Count.the-variants.{Unknown}
 use Rattle.light.specs.declared.Light.{Light}
 use Rattle.light.specs.declared.Made.{Made}
 use Rattle.light.specs.declared.Made.the-variants.{BadPlace}
 use Rattle.light.specs.declared.Dumped.{Dumped}
-use Rattle.light.specs.Colors.{Color, broken, no-count, green, Outcome, refused-one, uncounted, counted, forward, colors}
+use Rattle.light.specs.Colors.{Color, broken, no-count, green, Outcome, refused-one, uncounted, counted, forward, colors, Shows, Sixteen}
 use Rattle.light.specs.Light.{told-color, told-count, load-for, SetUp, Dumps}
 
 -- ---- what a dump says, from its steps and the lengths of its buffers alone
@@ -44,7 +45,7 @@ unfolding last-at
 said-by shows high low ps (accepted t) = count-of (stated-for (shows high) ps) (stated-for (shows low) ps)
 said-by shows high low ps (refused r line) = refused-one
 
--- a dump with these steps, into a page and marks of these lengths: no byte and no mark counts
+-- a dump with these steps, into a page and marks of these lengths: what the buffers held does not matter
 unfoldable pub said : Light → List Step → (page marks : ℕ) → Outcome
 unfolding said-by stopping-by one-window window stated verdict
 said l steps page marks =
@@ -82,9 +83,9 @@ abbrev pub Meets : Light → Call → Type 0
 Meets l c = Meets-by (c .kind) l c
 
 -- each is made with the light that the one before returned
-abbrev pub Row : Light → List Call → Type 0
-Row l [] = Unit
-Row l (c ∷ cs) = Meets l c × Row (c .returned .light) cs
+abbrev pub In-turn : Light → List Call → Type 0
+In-turn l [] = Unit
+In-turn l (c ∷ cs) = Meets l c × In-turn (c .returned .light) cs
 
 -- what a call's dump says
 abbrev pub said-of : Light → Call → Outcome
@@ -93,9 +94,22 @@ said-of l c = said l (steps-by (c .kind) (c .text)) (length (c .page)) (length (
 abbrev pub shown : Call → Color
 shown c = told-color (c .returned .color)
 
--- over any row of dumps each color follows from the history alone: from what each dump says, and the count that the light knew at first
+-- over any number of dumps in turn each color follows from the history alone: from what each dump says, and the count that the light knew at first
 abbrev pub By-history : Type 0
-By-history = (l : Light) (cs : List Call) → Row l cs → map shown cs ≡ colors (told-count (l .known)) (map (said-of l) cs)
+By-history = (l : Light) (cs : List Call) → In-turn l cs → map shown cs ≡ colors (told-count (l .known)) (map (said-of l) cs)
+
+-- what a dump says has a count of 16 bits, if it has one
+abbrev pub Said-sixteen : Type 0
+Said-sixteen = (l : Light) (kind : Kind) (text : List ℕ) (page marks : ℕ) → Sixteen (said l (steps-by kind text) page marks)
+
+-- each call shows what `Shows` says, after the history of the calls before it
+abbrev pub Each-shows : Light → (history : List Outcome) → List Call → Type 0
+Each-shows l history [] = Unit
+Each-shows l history (c ∷ cs) = Shows history (said-of l c) (shown c) × Each-shows l (history ++ (said-of l c ∷ [])) cs
+
+-- the same without computing, for a light that knows no count at first
+abbrev pub Shows-history : Type 0
+Shows-history = (l : Light) (cs : List Call) → l .known ≡ Unknown → In-turn l cs → Each-shows l [] cs
 
 -- the same dump twice running, with buffers of equal sizes and whatever contents, is never green the second time
 abbrev pub Never-green-twice : Type 0
@@ -147,6 +161,12 @@ Refusal-changes-nothing =
     → (w : Refusal) (line : ℕ) → told-loading (r .answer) ≡ refused w line
     → (told-color (r .color) ≡ broken) × (r .light ≡ l) × (p ≡ page) × (m ≡ marks)
 
+-- 16 with line 0, whatever the text is: for a page of another length than at set-up, and for a window that the loader refuses
+abbrev pub Bad-window-whatever : Type 1
+Bad-window-whatever =
+    (S : Type 0) (src : Source S) (l : Light) (text page marks : List ℕ) (r : Dumped) (p m : List ℕ) → Dumps src l text page marks r p m
+    → (length page ≢ l .length) ⊎ (unfit (l .first) (length page) (length marks) ≡ true) → told-loading (r .answer) ≡ refused bad-window 0
+
 -- a light made up by hand, with a place outside its window, shows no count for an accepted dump
 abbrev pub Outside-no-count : Type 1
 Outside-no-count =
@@ -155,7 +175,7 @@ Outside-no-count =
 
 -- ---- set-up, and the contracts
 
--- 24 exactly where a place lies outside
+-- BadPlace exactly where a place lies outside
 abbrev pub Bad-place-exactly : Type 0
 Bad-place-exactly = (first length high low : ℕ) (r : Made) → SetUp first length high low r → (r ≡ BadPlace) ↔ ((length ≤ high) ⊎ (length ≤ low))
 

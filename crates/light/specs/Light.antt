@@ -2,7 +2,7 @@
 -- Assumes nothing.
 use mathlib.Core.Path.{_≡_}
 use Prim.Native.Nat.{ℕ, _+_, _*_}
-use mathlib.Core.Bool.{Bool, _&&_, _||_}
+use mathlib.Core.Bool.{_&&_, _||_}
 use mathlib.Core.Option.{Option, none, some}
 use mathlib.Core.List.{List}
 use lib.Dec.{eqb, leb}
@@ -10,7 +10,6 @@ use lib.ListN.{length, getD}
 use Rattle.digits.specs.Common.{if_then_else_}
 use Rattle.record.specs.Refusals.{bad-window}
 use Rattle.marks.specs.Marks.{mark-at}
-use Rattle.steps.specs.declared.Loading.{Loading}
 use Rattle.steps.specs.Steps.{Verdict, accepted, refused}
 use Rattle.steps.specs.Source.{Source}
 use Rattle.steps.specs.Sites.{Loaded}
@@ -42,7 +41,7 @@ told-count (Known n) = some n
 
 -- ---- set-up
 
--- 24, BadPlace, for a place outside the window; else a light that knows no count
+-- BadPlace for a place outside the window; else a light that knows no count
 abbrev pub made-of : (first length high low : ℕ) → Made
 made-of first length high low =
     if leb length high || leb length low then made.BadPlace else

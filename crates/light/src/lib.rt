@@ -5,7 +5,6 @@ ghost use mathlib.Core.Path.{_≡_};
 ghost use Prim.Native.Nat.{_+_, _*_};
 ghost use Rattle.intel.specs.Placing.{intel};
 ghost use Rattle.srecload.specs.Placing.{s-records};
-ghost use Rattle.steps.specs.Told.{told-loading};
 ghost use Rattle.light.specs.Light.{SetUp, Dumps};
 ghost use Rattle.light.specs.Helpers.{Compared, Marked-inside, Counts, Held, Tells};
 
@@ -34,7 +33,7 @@ pub enum Count {
     Known(u16),
 }
 
-// A light: the window of its page, the two places of the count, the high byte's first, and the count that was stated last.
+// A light: the window of its page, the places of the count's high and low byte, and the count that was stated last.
 pub struct Light {
     pub first: u32,
     pub length: usize,
@@ -56,7 +55,7 @@ pub struct Dumped {
     pub light: Light,
 }
 
-// A light for a page of so many places from an address on. Both places of the count must lie in it.
+// A light for a page of so many places from an address on. The places of the count are numbered from 0 in it, and may be the same.
 pub fn set_up(first: u32, length: usize, high: usize, low: usize) -> Made
     ensures { λ r. ⌜ SetUp first length high low r ⌝ }
 {

@@ -7,7 +7,7 @@ use borrow.Author.Needs.{needs}
 use borrow.Author.Tests.{not-true, not-false}
 use Rattle.steps.specs.Told.{is-accepted}
 use Rattle.light.specs.declared.Count.{Count}
-use Rattle.light.specs.Helpers.{Counts, Compared}
+use Rattle.light.specs.Helpers.{Counts}
 use Rattle.light.proofs.Telling.{tells-broken, tells-none, tells-count, held-now}
 use Rattle.light.proofs.tell.Statement.{statement}
 use Rattle.light.proofs.tell.Tie as tie
