@@ -42,14 +42,14 @@ is-last (this-one before n after h) = sym (one-of before n after h)
 one-last : {history : List Outcome} {a b : Option ℕ} → Last-count history a → Last-count history b → a ≡ b
 one-last x y = is-last x ∙ sym (is-last y)
 
-every-more : (P : Outcome → Type 0) (history : List Outcome) (o : Outcome) → Every P history → P o → Every P (history ++ (o ∷ []))
-every-more P [] o h p = (p, tt)
-every-more P (x ∷ history) o (q, h) p = (q, every-more P history o h p)
+pub every-joined : {A : Type 0} (P : A → Type 0) (xs ys : List A) → Every P xs → Every P ys → Every P (xs ++ ys)
+every-joined P [] ys h k = k
+every-joined P (x ∷ xs) ys (h, hs) k = (h, every-joined P xs ys hs k)
 
 -- a dump that states no count leaves the last one
 still : {history : List Outcome} {known : Option ℕ} (o : Outcome) → No-count o → Last-count history known → Last-count (history ++ (o ∷ [])) known
-still {history} o without (never h) = never (every-more No-count history o h without)
-still o without (this-one before n after h) = rw append-assoc (this-one before n (after ++ (o ∷ [])) (every-more No-count after o h without))
+still {history} o without (never h) = never (every-joined No-count history (o ∷ []) h (without, tt))
+still o without (this-one before n after h) = rw append-assoc (this-one before n (after ++ (o ∷ [])) (every-joined No-count after (o ∷ []) h (without, tt)))
 
 pub known-is-last : Known-is-last
 known-is-last history known refused-one l = still refused-one (λ n e. let z : _≡_ {A = ℕ} 0 1 = cc in omega arith) l

@@ -16,7 +16,7 @@ use Rattle.light.specs.declared.Light.{Light}
 use Rattle.light.specs.Colors.{Color, green, Outcome, refused-one, uncounted, counted, forward, color, known-after, colors, Last-count, never, Shows, Sixteen}
 use Rattle.light.specs.Light.{told-count, outcome, light-after, Dumps}
 use Rattle.light.specs.Claims.{said, Kind, hex, srecords, steps-by, Call, Meets-by, In-turn, said-of, shown, Each-shows, By-history, Shows-history, Never-green-twice, Unmoved-never-green}
-use Rattle.light.proofs.Colors.{shown-so, known-is-last, never-green-again, green-exactly}
+use Rattle.light.proofs.Colors.{every-joined, shown-so, known-is-last, never-green-again, green-exactly}
 use Rattle.light.proofs.Places.{outcome-is-said}
 use Rattle.light.proofs.Sixteen.{said-sixteen}
 
@@ -89,13 +89,9 @@ each-shows l₀ l history (c ∷ cs) same small last (d, r) =
       subst (λ (x : Color). Shows history o x) (sym (f .color-is ∙ ap (color k) (same c))) (shown-so history o k small o-small last),
       each-shows l₀ (c .returned .light) (history ++ (o ∷ [])) cs
           (λ x. ap (λ (y : Light). said-of y x) here ∙ same-said l o (steps-by (x .kind) (x .text)) (length (x .page)) (length (x .marks)) ∙ same x)
-          (both history o small o-small)
+          (every-joined Sixteen history (o ∷ []) small (o-small, tt))
           (subst (λ (x : Option ℕ). Last-count (history ++ (o ∷ [])) x) (sym (ap (λ (y : Light). told-count (y .known)) here ∙ known-is l o)) (known-is-last history k o last)) r,
     )
-  where
-    both : (os : List Outcome) (o : Outcome) → Every Sixteen os → Sixteen o → Every Sixteen (os ++ (o ∷ []))
-    both [] o h k = (k, tt)
-    both (x ∷ os) o (h, hs) k = (h, both os o hs k)
 
 pub shows-history : Shows-history
 shows-history l cs e r = each-shows l l [] cs (λ c. refl) tt (rw e (never tt)) r

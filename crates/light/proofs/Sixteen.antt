@@ -26,6 +26,7 @@ use Rattle.window.specs.Window.{window, one-window}
 use Rattle.light.specs.declared.Light.{Light}
 use Rattle.light.specs.Colors.{refused-one, Sixteen}
 use Rattle.light.specs.Claims.{count-of, stated-for, said-by, said, hex, srecords, Said-sixteen}
+use Rattle.light.proofs.Colors.{every-joined}
 
 -- ---- bytes that are placed
 
@@ -41,10 +42,6 @@ Placed-small (fails r) = Unit
 
 abbrev Small-step : Step → Type 0
 Small-step (step n a) = Placed-small a
-
-every-joined : {A : Type 0} (P : A → Type 0) (xs ys : List A) → Every P xs → Every P ys → Every P (xs ++ ys)
-every-joined P [] ys h k = k
-every-joined P (x ∷ xs) ys (h, hs) k = (h, every-joined P xs ys hs k)
 
 spread-small : (at : ℕ → ℕ) (i : ℕ) (bytes : List ℕ) → Every Byte bytes → Every Small (spread at i bytes)
 unfolding spread
