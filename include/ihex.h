@@ -1,7 +1,7 @@
 /* Intel's hexadecimal object file format, and Motorola's S-records: the functions of libihex.a, on numbers and bytes.
  *
  * A text is of one kind, and the caller says which by the function that is called. No function guesses it. The functions whose names have
- * "srecord" in them are for S-records, and stand at the end. All others are for Intel HEX. A window table is for texts of both kinds.
+ * "srecord" in them are for S-records, and stand at the end. All others are for Intel HEX. A window table and a light are for texts of both kinds.
  *
  * Each function of the library is proved to do what is said of it here, for all inputs. The inline functions and IHEX_MARKS of this
  * header are tested, not proved. The header needs C99 or C++. What a function leaves to its caller:
@@ -41,7 +41,7 @@ extern "C" {
 #define IHEX_S9 9 /* the end: 2 address bytes; b and c are 0 */
 
 /* The other codes that are returned. */
-#define IHEX_OK 0             /* a writer wrote all, a length is returned, a load was accepted, a capture was saved, or a byte is stated */
+#define IHEX_OK 0             /* a writer wrote all, a length is returned, a load or a dump was accepted, a light was set up, a capture was saved, or a byte is stated */
 #define IHEX_REFUSED 256      /* and the number of a refusal, below */
 #define IHEX_DONE 512         /* the text has no more answers */
 #define IHEX_USED_UP 513      /* the chunk has no more answers: the next one is wanted, or ihex_finish; no values */
@@ -65,7 +65,7 @@ extern "C" {
 #define IHEX_MISSING_END_OF_FILE_RECORD 13  /* the list's last record is not an end record; the text has no end record; in the list of a salvage: one was added */
 #define IHEX_MULTIPLE_END_OF_FILE_RECORDS 14 /* a, or value: how many end records the list has */
 #define IHEX_OUTPUT_FULL 15                 /* the whole result is longer than the output */
-#define IHEX_BAD_WINDOW 16                  /* marks_len is not IHEX_MARKS(page_len), page_len is over IHEX_MAX_PAGE, or the page ends beyond 2^32 */
+#define IHEX_BAD_WINDOW 16                  /* marks_len is not IHEX_MARKS(page_len), page_len is over IHEX_MAX_PAGE, or the page ends beyond 2^32; a light has one reason more */
 #define IHEX_OUTSIDE_WINDOW 17              /* a: the address of a data record's first byte that lies outside; through a table, outside all windows of the owner */
 #define IHEX_CARRY_TOO_SMALL 18             /* a carry under IHEX_CARRY bytes, or a state that counts more than that used */
 #define IHEX_BAD_MARK 19                    /* a page to be written; value: the place of the lowest unused bit of its marks that is set */
@@ -73,6 +73,7 @@ extern "C" {
 #define IHEX_START_CONFLICT 21              /* a type 03 or 05 that states another start than the first that the text states */
 #define IHEX_LIST_FULL 22                   /* a salvage; its list has more entries than there is room for */
 #define IHEX_BAD_TABLE 23                   /* a window table, or a call with one, breaks a limit; ihex_check_table and ihex_load_table name them */
+#define IHEX_BAD_PLACE 24                   /* a light to be set up; a place of its count lies outside its page */
 #define IHEX_ADDRESS_TOO_WIDE 25            /* an S-record to be written; its address needs more bytes than its type has */
 
 /* The flags of a state. The other bits are not read, and are 0 at exit; ihex_next has the first three only. */
@@ -102,6 +103,17 @@ extern "C" {
 
 /* What an accepted load says of the start address: `start`. It is IHEX_NO_START, IHEX_START_SEGMENT_ADDRESS or IHEX_START_LINEAR_ADDRESS. */
 #define IHEX_NO_START 0 /* the text states none */
+
+/* What a light shows after a dump: `color`. 0 is not green, so a color that was never written is not green either. */
+#define IHEX_COLOR_BROKEN 0    /* the dump was refused */
+#define IHEX_COLOR_NO_COUNT 1  /* it was accepted, and states no count */
+#define IHEX_COLOR_FIRST 2     /* it states a count, and none was known */
+#define IHEX_COLOR_GREEN 3     /* the count moved forward: by 1 to 32,767, modulo 65,536 */
+#define IHEX_COLOR_STALE 4     /* the count is the known one */
+#define IHEX_COLOR_RESTARTED 5 /* the count is any other */
+
+/* The count of a light that knows none: `known`. A count has 16 bits. Every greater number means that none is known. */
+#define IHEX_COUNT_UNKNOWN 65536
 
 /* A page has at most so many places, its marks at most so many bytes, and its file at most so many bytes: 7 for each place, and 58. The pool
  * of a window table has at most as many places and marks as a page. */
@@ -342,6 +354,44 @@ uint32_t ihex_load_table(const uint8_t *text, size_t text_len, uint32_t owner,
 uint32_t ihex_ask(const uint8_t *text, size_t text_len, uint32_t address,
                   size_t *line, uint64_t *a, uint64_t *b);
 
+/* Sets up a light. A light shows whether a count moves forward from dump to dump. The controller keeps the count in its memory, and raises it as
+ * it works. The count has 16 bits: its high byte lies at the place `high` of a page, and its low byte at the place `low`. Places are numbered from 0.
+ * They are not addresses, may stand in either order, and may be the same. A light is five numbers: the page's first address and its length, the
+ * two places, and the count that was stated last, `known`. The caller keeps them. Every dump of a light gets the same first four, and `known` as
+ * the call before left it.
+ * Returns IHEX_OK; or IHEX_REFUSED and 24, if `high` or `low` is not below `length`. In both cases known is IHEX_COUNT_UNKNOWN at exit.
+ * Nothing else is refused here: with the first address FFFFFFFF and the length 2 a light is set up, and each of its dumps is refused with 16. */
+uint32_t ihex_set_up_light(uint32_t first, size_t length, size_t high, size_t low, uint32_t *known);
+
+/* Loads a dump of Intel HEX into the page of a light. What is returned, line, start, a, b and c, the page and the marks are as in ihex_load; but
+ * if page_len is not `length`, the dump is refused with 16, and line is 0. `color` is then what the light shows, the first of these that holds:
+ *
+ *   IHEX_COLOR_BROKEN     the dump is refused
+ *   IHEX_COLOR_NO_COUNT   one of the two places is not marked
+ *   IHEX_COLOR_FIRST      no count was known
+ *   IHEX_COLOR_GREEN      the count is 1 to 32,767 ahead of the known one, modulo 65,536
+ *   IHEX_COLOR_STALE      the count is the known one
+ *   IHEX_COLOR_RESTARTED  the count is any other
+ *
+ * If the dump is accepted and both places are marked, known becomes the count. Else it stays, and a number over IHEX_COUNT_UNKNOWN becomes
+ * IHEX_COUNT_UNKNOWN.
+ * Green means: this dump was accepted, it states a byte for both places of the count before its end record, and the count that it states is 1
+ * to 32,767 ahead of the one that was stated last, modulo 65,536.
+ * Over any number of dumps each color follows from the history alone: from what each dump says of the count. What page and marks held before
+ * does not matter. The same dump twice running, read as the same kind and with the same lengths of page and marks, is never green the second
+ * time. A dump whose count did not move forward is never green, whatever else it holds. What follows the line at which the load stops changes
+ * neither color nor known.
+ * Green does not say that the other bytes are right, or that the dump is new: two old dumps in turn, with the counts 5 and 6, are green every
+ * second time.
+ * A light whose places were not judged by ihex_set_up_light is answered too: if one of them lies outside the page, an accepted dump is
+ * IHEX_COLOR_NO_COUNT. */
+uint32_t ihex_light(const uint8_t *text, size_t text_len,
+                    uint32_t first, size_t length, size_t high, size_t low,
+                    uint8_t *page, size_t page_len,
+                    uint8_t *marks, size_t marks_len,
+                    uint32_t *known, uint8_t *color,
+                    size_t *line, uint8_t *start, uint64_t *a, uint64_t *b, uint64_t *c);
+
 /* How long the file is that ihex_write_page writes: returns 0 and its length as the value, or IHEX_REFUSED and the first of 16, 19 that
  * holds, with the value of 19; the value of 16 is 0. Of the page only the length counts. The unused bits of the marks must be 0: for 3
  * places with the marks 22 (hexadecimal) the value of 19 is 5. Where page_len is a multiple of 8 no bit is unused, and 19 is not given. */
@@ -483,6 +533,15 @@ uint32_t ihex_load_srecords_table(const uint8_t *text, size_t text_len, uint32_t
                                   uint8_t *pool, size_t pool_len,
                                   uint8_t *marks, size_t marks_len,
                                   size_t *line, uint8_t *start, uint64_t *a, uint64_t *b, uint64_t *c);
+
+/* Loads a dump of S-records into the page of a light, as ihex_load_srecords does. All else is as in ihex_light, with the end of the text in place of
+ * the end record. Dumps of both kinds may follow each other on one light. */
+uint32_t ihex_light_srecords(const uint8_t *text, size_t text_len,
+                             uint32_t first, size_t length, size_t high, size_t low,
+                             uint8_t *page, size_t page_len,
+                             uint8_t *marks, size_t marks_len,
+                             uint32_t *known, uint8_t *color,
+                             size_t *line, uint8_t *start, uint64_t *a, uint64_t *b, uint64_t *c);
 
 #ifdef __cplusplus
 }

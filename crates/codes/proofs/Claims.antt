@@ -8,7 +8,7 @@ use Rattle.steps.specs.Steps.{cs-with-ip, linear-address}
 use Rattle.codes.specs.declared.Coded.{Coded}
 use Rattle.codes.specs.declared.Spot.{Spot}
 use Rattle.codes.specs.Codes.{Message, Coded-as}
-use Rattle.codes.specs.Claims.{Code-answer-unique, Code-sanswer-unique, Code-reply-unique, Code-chunk-reply-unique, Code-attempt-unique, Code-sattempt-unique, Code-loading-unique, Code-paged-unique, Code-salvaged-unique, Code-asked-unique, Asked-line-unique, Line-at-unique, Start-kind-unique, Code-table-unique, Start-returns, State-from-unique, Flags-from-unique, Chunks-from-unique, Chunk-flags-from-unique, Spot-of-unique, Place-from-unique}
+use Rattle.codes.specs.Claims.{Code-answer-unique, Code-sanswer-unique, Code-reply-unique, Code-chunk-reply-unique, Code-attempt-unique, Code-sattempt-unique, Code-loading-unique, Code-paged-unique, Code-salvaged-unique, Code-asked-unique, Asked-line-unique, Line-at-unique, Start-kind-unique, Code-table-unique, Start-returns, State-from-unique, Flags-from-unique, Chunks-from-unique, Chunk-flags-from-unique, Spot-of-unique, Place-from-unique, Color-number-unique, Count-number-unique, Light-from-unique, Code-made-unique}
 
 one-coding : {m : Message} {r r′ : Coded} → Coded-as m r → Coded-as m r′ → r ≡ r′
 one-coding {r = r} {r′ = r′} x y =
@@ -63,6 +63,18 @@ start-kind-unique answer r r′ x y = x .answer ∙ sym (y .answer)
 
 pub code-table-unique : Code-table-unique
 code-table-unique bad r r′ x y = x .answer ∙ sym (y .answer)
+
+pub color-number-unique : Color-number-unique
+color-number-unique c r r′ x y = x .answer ∙ sym (y .answer)
+
+pub count-number-unique : Count-number-unique
+count-number-unique k r r′ x y = x .answer ∙ sym (y .answer)
+
+pub light-from-unique : Light-from-unique
+light-from-unique first length high low known r r′ x y = x .answer ∙ sym (y .answer)
+
+pub code-made-unique : Code-made-unique
+code-made-unique m r r′ x y = x .answer ∙ sym (y .answer)
 
 pub state-from-unique : State-from-unique
 state-from-unique position line flags r r′ x y = x .answer ∙ sym (y .answer)

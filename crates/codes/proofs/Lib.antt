@@ -3,3 +3,4 @@ pub mod Errors
 pub mod States
 pub mod Says
 pub mod Claims
+pub mod Lights

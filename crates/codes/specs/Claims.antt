@@ -1,6 +1,6 @@
 -- What is claimed of answers, states and places in numbers, and proved in `proofs/`.
 -- Assumes nothing.
-use Prim.Native.Nat.{ℕ, _%_}
+use Prim.Native.Nat.{ℕ, _%_, _<_}
 use mathlib.Core.Path.{_≡_}
 use mathlib.Core.Bool.{Bool}
 use mathlib.Core.Option.{Option, some}
@@ -27,9 +27,16 @@ use Rattle.salvage.specs.declared.Salvaged.{Salvaged}
 use Rattle.salvage.specs.Told.{told-salvage}
 use Rattle.query.specs.declared.Asked.{Asked}
 use Rattle.query.specs.Ask.{told-asked}
+use Rattle.light.specs.declared.Color.{Color as CodeColor}
+use Rattle.light.specs.declared.Count.{Count}
+use Rattle.light.specs.declared.Light.{Light}
+use Rattle.light.specs.declared.Made.{Made}
+use Rattle.light.specs.Colors.{Color}
+use Rattle.light.specs.Light.{told-count}
 use Rattle.codes.specs.declared.Coded.{Coded}
 use Rattle.codes.specs.declared.Spot.{Spot}
 use Rattle.codes.specs.Codes.{Message, Coded-as, reading, reading-chunk, writing, loading, salvaging, asking, LineAt, AskedLine, start-values, kind-of-start, StartKind, CodeTable}
+use Rattle.codes.specs.Lights.{color-number, count-number, light-of, ColorNumber, CountNumber, LightFrom, CodeMade}
 use Rattle.codes.specs.States.{state-of, flags-of, chunks-of, chunk-flags-of, lies-of, from-of, len-of, place-of, StateFrom, FlagsFrom, ChunksFrom, ChunkFlagsFrom, Spot-as, PlaceFrom}
 
 -- ---- no second answer meets a contract
@@ -99,6 +106,30 @@ Spot-of-unique = (p : Place) (r r′ : Spot) → Spot-as p r → Spot-as p r′ 
 
 abbrev pub Place-from-unique : Type 0
 Place-from-unique = (lies from len : ℕ) (r r′ : Place) → PlaceFrom lies from len r → PlaceFrom lies from len r′ → r ≡ r′
+
+abbrev pub Color-number-unique : Type 0
+Color-number-unique = (c : CodeColor) (r r′ : ℕ) → ColorNumber c r → ColorNumber c r′ → r ≡ r′
+
+abbrev pub Count-number-unique : Type 0
+Count-number-unique = (k : Count) (r r′ : ℕ) → CountNumber k r → CountNumber k r′ → r ≡ r′
+
+abbrev pub Light-from-unique : Type 0
+Light-from-unique =
+    (first length high low known : ℕ) (r r′ : Light) → LightFrom first length high low known r → LightFrom first length high low known r′ → r ≡ r′
+
+abbrev pub Code-made-unique : Type 0
+Code-made-unique = (m : Made) (r r′ : ℕ) → CodeMade m r → CodeMade m r′ → r ≡ r′
+
+-- ---- a color and a light are what their numbers say
+
+abbrev pub Color-returns : Type 0
+Color-returns = (c c′ : Color) → color-number c ≡ color-number c′ → c ≡ c′
+
+-- a count has 16 bits
+abbrev pub Light-returns : Type 0
+Light-returns =
+    (l : Light) → ((n : ℕ) → told-count (l .known) ≡ some n → n < 65536)
+    → light-of (l .first) (l .length) (l .high) (l .low) (count-number (told-count (l .known))) ≡ l
 
 -- ---- a start is what its numbers say
 

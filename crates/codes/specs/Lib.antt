@@ -1,3 +1,4 @@
 pub mod Codes
 pub mod States
+pub mod Lights
 pub mod Claims

@@ -4,6 +4,10 @@ use chunks::Chunks;
 use chunks::Place;
 use entries::Attempt;
 use entries::SAttempt;
+use light::Color;
+use light::Count;
+use light::Light;
+use light::Made;
 use page::PageError;
 use page::Paged;
 use query::Asked;
@@ -44,6 +48,7 @@ ghost use Rattle.page.specs.Told.{told-page, page-refusal};
 ghost use Rattle.salvage.specs.Told.{told-salvage, salvage-refusal};
 ghost use Rattle.query.specs.Ask.{told-asked};
 ghost use Rattle.codes.specs.Codes.{Coded-as, refused-with, reading, reading-chunk, writing, loading, salvaging, asking, LineAt, AskedLine, StartKind, CodeTable};
+ghost use Rattle.codes.specs.Lights.{count-from, ColorNumber, CountNumber, LightFrom, CodeMade};
 ghost use Rattle.codes.specs.States.{Flag, StateFrom, FlagsFrom, ChunksFrom, ChunkFlagsFrom, Spot-as, PlaceFrom};
 
 // The codes that are not the type of a record. A refusal's number is added to REFUSED.
@@ -61,6 +66,9 @@ const BAD_RECORD: u32 = 1024;
 
 // The kind of a start that no record states.
 const NO_START: u8 = 0;
+
+// The count of a light that knows none. Every number from here on means that.
+const COUNT_UNKNOWN: u32 = 65536;
 
 // An answer in numbers: its code, and up to three values, 0 where there is none.
 pub struct Coded {
@@ -474,4 +482,60 @@ pub fn code_table(bad: bool) -> u32
         return REFUSED + (refusals::BAD_TABLE as u32);
     }
     0
+}
+
+// The number of a color. 0 is "broken", so that a number that was never written is not green.
+pub fn color_number(color: Color) -> u8
+    ensures { λ r. ⌜ ColorNumber color r ⌝ }
+{
+    match color {
+        Color::Broken => 0,
+        Color::NoCount => 1,
+        Color::First => 2,
+        Color::Green => 3,
+        Color::Stale => 4,
+        Color::Restarted => 5,
+    }
+}
+
+// A count in a number, if one is known.
+pub fn count_number(known: Count) -> u32
+    ensures { λ r. ⌜ CountNumber known r ⌝ }
+{
+    match known {
+        Count::Unknown => COUNT_UNKNOWN,
+        Count::Known(count) => count as u32,
+    }
+}
+
+fn count_from(known: u32) -> Count
+    ensures { λ r. ⌜ r ≡ count-from known ⌝ }
+{
+    if known >= COUNT_UNKNOWN {
+        return Count::Unknown;
+    }
+    Count::Known(known as u16)
+}
+
+// The light that stands in numbers.
+pub fn light_from(first: u32, length: usize, high: usize, low: usize, known: u32) -> Light
+    ensures { λ r. ⌜ LightFrom first length high low known r ⌝ }
+{
+    Light {
+        first,
+        length,
+        high,
+        low,
+        known: count_from(known),
+    }
+}
+
+// Whether a light was set up.
+pub fn code_made(made: Made) -> u32
+    ensures { λ r. ⌜ CodeMade made r ⌝ }
+{
+    match made {
+        Made::Light(_) => OK,
+        Made::BadPlace => REFUSED + (refusals::BAD_PLACE as u32),
+    }
 }

@@ -15,3 +15,5 @@ pub mod Joined
 pub mod Salvage
 pub mod Tables
 pub mod Asks
+pub mod Dumped
+pub mod Lights

@@ -35,6 +35,11 @@ use Rattle.salvage.specs.Salvage.{refusal-for}
 use Rattle.salvage.specs.Told.{places-in, answered-by, output-by, list-by}
 use Rattle.entries.specs.Attempts.{told-of, output-with, record-text, srecord-text, list-text}
 use Rattle.query.specs.Ask.{ask}
+use Rattle.light.specs.declared.Light.{Light}
+use Rattle.light.specs.declared.Dumped.{Dumped}
+use Rattle.light.specs.Colors.{color, known-after}
+use Rattle.light.specs.Light.{told-color, told-count, made-of, load-for, outcome as said-of}
+use Rattle.codes.specs.Lights.{color-number, count-number, making, COUNT-UNKNOWN}
 use Rattle.codes.specs.Codes.{OK, BAD-TABLE, value, Numbers, Load-numbers, Ask-numbers, reading, reading-chunk, writing, load-numbers, ask-numbers, salvaging}
 use Rattle.codes.specs.States.{flags-of, chunk-flags-of, Spotted, place-of}
 
@@ -184,3 +189,37 @@ asked-in r line a b = record { code = r; line = line; a = a; b = b }
 -- a byte was asked
 pub record IhexAsk (text : List ℕ) (address : ℕ) (r : Ask-numbers) : Type 0 where
   pub numbers : r ≡ ask-numbers (ask text address)
+
+-- a light was set up: what was returned, and the count that is known
+pub record IhexSetUpLight (first length high low r known : ℕ) : Type 0 where
+  pub answer : r ≡ making (made-of first length high low)
+  pub known-is : known ≡ COUNT-UNKNOWN
+
+-- what a dump returned, in numbers: what its load returned, the color, and the count that is known after it
+pub record Light-numbers : Type 0 where
+  pub load : Load-numbers
+  pub color : ℕ
+  pub known : ℕ
+
+abbrev pub lit : (load : Load-numbers) (color known : ℕ) → Light-numbers
+lit load color known = record { load = load; color = color; known = known }
+
+-- the contract of `tell_light`
+pub record TellLight (d : Dumped) (r : Light-numbers) : Type 0 where
+  pub numbers : r .load ≡ load-numbers (told-loading (d .answer))
+  pub color-is : r .color ≡ color-number (told-color (d .color))
+  pub known-is : r .known ≡ count-number (told-count (d .light .known))
+
+-- a dump of any source, with this light: what was returned, and the page and the marks after it
+pub record IhexLightBy {S : Type 0} (src : Source S) (text : List ℕ) (l : Light) (page marks : List ℕ) (r : Light-numbers) (page′ marks′ : List ℕ) : Type 0 where
+  pub numbers : r .load ≡ load-numbers (load-for src l text page marks .answer)
+  pub color-is : r .color ≡ color-number (color (told-count (l .known)) (said-of src l text page marks))
+  pub known-is : r .known ≡ count-number (known-after (told-count (l .known)) (said-of src l text page marks))
+  pub page-is : page′ ≡ load-for src l text page marks .page
+  pub marks-is : marks′ ≡ load-for src l text page marks .marks
+
+abbrev pub IhexLight : (text : List ℕ) (l : Light) (page marks : List ℕ) (r : Light-numbers) (page′ marks′ : List ℕ) → Type 0
+IhexLight text l page marks r page′ marks′ = IhexLightBy intel text l page marks r page′ marks′
+
+abbrev pub IhexLightSrecords : (text : List ℕ) (l : Light) (page marks : List ℕ) (r : Light-numbers) (page′ marks′ : List ℕ) → Type 0
+IhexLightSrecords text l page marks r page′ marks′ = IhexLightBy s-records text l page marks r page′ marks′

@@ -14,3 +14,4 @@ pub mod Joined
 pub mod Salvage
 pub mod Tables
 pub mod Asks
+pub mod Lights

@@ -1,11 +1,14 @@
 // The C entry points: the library's functions on numbers and byte slices. include/ihex.h declares them.
 use chunks::ChunkStep;
 use chunks::Place;
+use light::Count;
+use light::Dumped;
 use steps::Loading;
 ghost use mathlib.Core.Path.{_≡_};
 ghost use Rattle.checksum.specs.Checksum.{Checksum};
+ghost use Rattle.codes.specs.Lights.{light-of};
 ghost use Rattle.codes.specs.States.{state-of, chunks-of, place-of};
-ghost use Rattle.ihex.specs.Entries.{start-of, six, TellStep, IhexReadRecord, IhexReadSrecord, IhexNext, IhexNextChunk, IhexFinish, IhexShown, IhexToRecordString, IhexToSrecordString, IhexCreateObjectFileRepresentation, TellLoad, IhexLoad, IhexLoadSrecords, IhexLoadTable, IhexLoadSrecordsTable, IhexCheckTable, IhexPageFileLength, IhexWritePage, IhexSalvage, asked-in, IhexAsk};
+ghost use Rattle.ihex.specs.Entries.{start-of, six, TellStep, IhexReadRecord, IhexReadSrecord, IhexNext, IhexNextChunk, IhexFinish, IhexShown, IhexToRecordString, IhexToSrecordString, IhexCreateObjectFileRepresentation, TellLoad, IhexLoad, IhexLoadSrecords, IhexLoadTable, IhexLoadSrecordsTable, IhexCheckTable, IhexPageFileLength, IhexWritePage, IhexSalvage, asked-in, IhexAsk, lit, TellLight, IhexSetUpLight, IhexLight, IhexLightSrecords};
 
 // The checksum of the bytes.
 #[no_mangle]
@@ -457,4 +460,93 @@ pub extern "C" fn ihex_ask(
     *a = told.a;
     *b = told.b;
     told.code
+}
+
+// Sets up a light: 24 for a place of the count outside its page. It knows no count.
+#[no_mangle]
+pub extern "C" fn ihex_set_up_light(
+    first: u32,
+    length: usize,
+    high: usize,
+    low: usize,
+    known: &mut u32,
+) -> u32
+    ensures { λ r. ⌜ IhexSetUpLight first length high low r (now (known .exit)) ⌝ }
+{
+    *known = codes::count_number(Count::Unknown);
+    codes::code_made(light::set_up(first, length, high, low))
+}
+
+// What a dump returns, in numbers.
+fn tell_light(
+    dumped: Dumped,
+    known: &mut u32,
+    color: &mut u8,
+    line: &mut usize,
+    start: &mut u8,
+    a: &mut u64,
+    b: &mut u64,
+    c: &mut u64,
+) -> u32
+    ensures { λ r. ⌜ TellLight dumped (lit (six r (now (line .exit)) (now (start .exit)) (now (a .exit)) (now (b .exit)) (now (c .exit))) (now (color .exit)) (now (known .exit))) ⌝ }
+{
+    let light = dumped.light;
+    let count = light.known;
+    *known = codes::count_number(count);
+    let shown = dumped.color;
+    *color = codes::color_number(shown);
+    let answer = dumped.answer;
+    tell_load(answer, line, start, a, b, c)
+}
+
+// A dump into a page with marks, and what the light shows after it.
+#[no_mangle]
+pub extern "C" fn ihex_light(
+    text: &[u8],
+    first: u32,
+    length: usize,
+    high: usize,
+    low: usize,
+    page: &mut [u8],
+    marks: &mut [u8],
+    known: &mut u32,
+    color: &mut u8,
+    line: &mut usize,
+    start: &mut u8,
+    a: &mut u64,
+    b: &mut u64,
+    c: &mut u64,
+) -> u32
+    ensures { λ r. ⌜ IhexLight (now (text .entry)) (light-of first length high low (now (known .entry))) (now (page .entry)) (now (marks .entry)) (lit (six r (now (line .exit)) (now (start .exit)) (now (a .exit)) (now (b .exit)) (now (c .exit))) (now (color .exit)) (now (known .exit))) (now (page .exit)) (now (marks .exit)) ⌝ }
+{
+    let dumped = codes::light_from(first, length, high, low, *known).dump(text, page, marks);
+    tell_light(dumped, known, color, line, start, a, b, c)
+}
+
+// A dump of S-records into a page with marks, and what the light shows after it.
+#[no_mangle]
+pub extern "C" fn ihex_light_srecords(
+    text: &[u8],
+    first: u32,
+    length: usize,
+    high: usize,
+    low: usize,
+    page: &mut [u8],
+    marks: &mut [u8],
+    known: &mut u32,
+    color: &mut u8,
+    line: &mut usize,
+    start: &mut u8,
+    a: &mut u64,
+    b: &mut u64,
+    c: &mut u64,
+) -> u32
+    ensures { λ r. ⌜ IhexLightSrecords (now (text .entry)) (light-of first length high low (now (known .entry))) (now (page .entry)) (now (marks .entry)) (lit (six r (now (line .exit)) (now (start .exit)) (now (a .exit)) (now (b .exit)) (now (c .exit))) (now (color .exit)) (now (known .exit))) (now (page .exit)) (now (marks .exit)) ⌝ }
+{
+    let dumped = codes::light_from(first, length, high, low, *known).dump_srecords(
+        text,
+        page,
+        marks,
+    );
+    tell_light(dumped, known, color, line, start, a, b, c)
 }

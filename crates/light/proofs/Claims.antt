@@ -7,23 +7,29 @@ use native.Mathlib.Omega.{arith}
 use mathlib.Core.Bool.{Bool, true, false, _&&_, _||_}
 use mathlib.Core.Option.{Option, none, some}
 use mathlib.Core.List.{List}
-use lib.Dec.{eqb, leb}
+use lib.Dec.{eqb, leb, ltb}
 use lib.ListN.{length, getD}
-use borrow.Author.Tests.{eqb-true, leb-true, leb-false, le-ltb, lt-ltb}
+use borrow.Author.Tests.{eq-eqb, eqb-true, leb-true, leb-false, le-ltb, lt-ltb, ltb-true}
 use Rattle.digits.specs.Common.{if_then_else_}
+use Rattle.digits.specs.Digits.{number-after}
+use Rattle.record.specs.Line.{judge}
+use Rattle.record.specs.Meaning.{meaning}
 use Rattle.record.specs.Refusals.{Refusal, bad-window}
 use Rattle.marks.specs.Marks.{mark-at, Marked}
 use Rattle.steps.specs.Steps.{Placement, Tally, Verdict, accepted, refused, Decision, by, verdict, stated}
 use Rattle.steps.specs.Source.{Source, steps-of}
 use Rattle.steps.specs.Sites.{Loaded, last-at, Last-stated, stopping-in}
+use Rattle.reader.specs.Lines.{through}
 use Rattle.steps.specs.Told.{told-loading}
+use Rattle.steps.proofs.Firsts.{every-at}
 use Rattle.steps.proofs.Places.{Found, found, last-stated-is}
+use Rattle.steps.proofs.Sites.{all-inside, load-answer as room-answer}
 use Rattle.steps.proofs.Told.{told-apart}
-use Rattle.window.specs.Window.{unfit, window, one-window}
+use Rattle.window.specs.Window.{unfit, within, window, one-window}
 use Rattle.window.specs.Load.{stopping-by-window, load-window}
 use Rattle.window.specs.Loads.{Alike}
 use Rattle.window.proofs.Loads.{load-answer, load-unfit, non-interference, refusal-changes-nothing as window-keeps}
-use Rattle.intel.specs.Placing.{intel}
+use Rattle.intel.specs.Placing.{intel, intel-by}
 use Rattle.srecload.specs.Placing.{s-records}
 use Rattle.light.specs.declared.Color.{Color as CodeColor}
 use Rattle.light.specs.declared.Color.the-variants.{Broken, NoCount, First, Green, Stale, Restarted}
@@ -31,11 +37,31 @@ use Rattle.light.specs.declared.Count.the-variants.{Unknown}
 use Rattle.light.specs.declared.Light.{Light}
 use Rattle.light.specs.declared.Made.the-variants as made
 use Rattle.light.specs.declared.Dumped.{Dumped}
-use Rattle.light.specs.Colors.{green, refused-one, uncounted, counted, forward, color}
-use Rattle.light.specs.Light.{told-color, told-count, load-for, count-in, said-in, outcome, light-after}
-use Rattle.light.specs.Claims.{count-of, stated-for, said-by, said, Means-green, Green-means, Nothing-after, Refusal-changes-nothing, Bad-window-whatever, Outside-no-count, Bad-place-exactly, Set-up-unique, One-dump, Dump-unique, Dump-srecords-unique}
-use Rattle.light.proofs.Colors.{green-exactly}
+use Rattle.light.specs.Colors.{broken, green, stale, restarted, refused-one, uncounted, counted, forward, compared, color}
+use Rattle.light.specs.Light.{told-color, told-count, load-for, count-in, said-in, outcome, light-after, Examples}
+use Rattle.light.specs.Claims.{count-of, stated-for, said-by, said, States-count, Means-green, Green-means, Nothing-after, Refusal-changes-nothing, Bad-window-whatever, Outside-no-count, Bad-place-exactly, Set-up-unique, One-dump, Dump-unique, Dump-srecords-unique}
+use Rattle.light.proofs.Turns.{green-by}
 use Rattle.light.proofs.Places.{outcome-is-said}
+
+-- ---- examples
+
+pub examples : Examples
+unfolding outcome load-for said-in count-in load-window stopping-by-window steps-of stated intel-by judge meaning number-after
+examples =
+    record {
+      states-five = refl;
+      old-tail = refl;
+      half-a-count = refl;
+      without-end = refl;
+      turned-round = refl;
+      one-place = refl;
+      not-an-address = refl;
+      by-hand = refl;
+      set-up-beyond = refl;
+      refused-beyond = refl;
+      longer-page = refl;
+      longer-marks = refl;
+    }
 
 -- ---- the contracts
 
@@ -117,7 +143,7 @@ bad-place-exactly first length high low r x = rw (x .answer) (go (leb length hig
 
 module _ {S : Type 0} (src : Source S) (l : Light) (text page marks : List ℕ) where
   -- one that is refused leaves all as it was
-  for-refused : (w : Refusal) (n : ℕ) → (load-for src l text page marks) .answer ≡ refused w n
+  pub for-refused : (w : Refusal) (n : ℕ) → (load-for src l text page marks) .answer ≡ refused w n
       → ((load-for src l text page marks) .page ≡ page) × ((load-for src l text page marks) .marks ≡ marks)
   unfolding load-for
   for-refused w n = go (eqb (length page) (l .length))
@@ -127,7 +153,7 @@ module _ {S : Type 0} (src : Source S) (l : Light) (text page marks : List ℕ) 
       go true e = window-keeps S src text (l .first) page marks w n e
       go false e = (refl, refl)
 
-  outcome-refused : (w : Refusal) (n : ℕ) → (load-for src l text page marks) .answer ≡ refused w n → outcome src l text page marks ≡ refused-one
+  pub outcome-refused : (w : Refusal) (n : ℕ) → (load-for src l text page marks) .answer ≡ refused w n → outcome src l text page marks ≡ refused-one
   unfolding outcome said-in
   outcome-refused w n e = rw e
 
@@ -135,18 +161,47 @@ module _ {S : Type 0} (src : Source S) (l : Light) (text page marks : List ℕ) 
   abbrev says-there : ℕ → Option ℕ
   says-there p = stated-for (window (l .first) (length page) p) (stated (steps-of src text))
 
-  accepted-said : (t : Tally) → (load-for src l text page marks) .answer ≡ accepted t
-      → (length page ≡ l .length) × (outcome src l text page marks ≡ count-of (says-there (l .high)) (says-there (l .low)))
-  unfolding load-for said said-by stopping-by-window
-  accepted-said t a = go (eqb (length page) (l .length)) refl a
+  accepted-by-steps : (t : Tally) → (load-for src l text page marks) .answer ≡ accepted t
+      → (length page ≡ l .length) × (verdict (stopping-in (one-window (l .first) (length page) (length marks)) (steps-of src text)) ≡ accepted t)
+  unfolding load-for stopping-by-window
+  accepted-by-steps t a = go (eqb (length page) (l .length)) refl a
     where
       go : (b : Bool) → eqb (length page) (l .length) ≡ b
           → (if b then load-window src text (l .first) page marks else record { answer = refused bad-window 0; page = page; marks = marks }) .answer ≡ accepted t
-          → (length page ≡ l .length) × (outcome src l text page marks ≡ count-of (says-there (l .high)) (says-there (l .low)))
-      go true e q =
-          let v : verdict (stopping-in (one-window (l .first) (length page) (length marks)) (steps-of src text)) ≡ accepted t = sym (load-answer src text (l .first) page marks) ∙ q in
-          (eqb-true (length page) (l .length) e, outcome-is-said src l text page marks ∙ rw (e, v))
+          → (length page ≡ l .length) × (verdict (stopping-in (one-window (l .first) (length page) (length marks)) (steps-of src text)) ≡ accepted t)
+      go true e q = (eqb-true (length page) (l .length) e, sym (load-answer src text (l .first) page marks) ∙ q)
       go false e q = let z : _≡_ {A = ℕ} 0 1 = cc in absurd (omega arith)
+
+  accepted-said : (t : Tally) → (load-for src l text page marks) .answer ≡ accepted t
+      → (length page ≡ l .length) × (outcome src l text page marks ≡ count-of (says-there (l .high)) (says-there (l .low)))
+  unfolding said said-by
+  accepted-said t a =
+      let (n, v) = accepted-by-steps t a in
+      (n, outcome-is-said src l text page marks ∙ rw (eq-eqb (length page) (l .length) n, v))
+
+-- a count, or none, is not broken
+compared-unbroken : (known : Option ℕ) (n : ℕ) → compared known n ≢ broken
+unfolding compared
+compared-unbroken none n e = let z : _≡_ {A = ℕ} 0 1 = cc in absurd (omega arith)
+compared-unbroken (some before) n e = go (eqb (forward before n) 0) (leb (forward before n) 32767) e
+  where
+    go : (a b : Bool) → (if a then stale else if b then green else restarted) ≢ broken
+    go true b e = let z : _≡_ {A = ℕ} 0 1 = cc in absurd (omega arith)
+    go false true e = let z : _≡_ {A = ℕ} 0 1 = cc in absurd (omega arith)
+    go false false e = let z : _≡_ {A = ℕ} 0 1 = cc in absurd (omega arith)
+
+unbroken : (known : Option ℕ) (h l : Option ℕ) → color known (count-of h l) ≢ broken
+unfolding color
+unbroken known none l e = let z : _≡_ {A = ℕ} 0 1 = cc in absurd (omega arith)
+unbroken known (some x) none e = let z : _≡_ {A = ℕ} 0 1 = cc in absurd (omega arith)
+unbroken known (some x) (some y) e = compared-unbroken known (256 * x + y) e
+
+-- an accepted dump is not broken
+pub accepted-unbroken : {S : Type 0} (src : Source S) (l : Light) (text page marks : List ℕ) (t : Tally) → (load-for src l text page marks) .answer ≡ accepted t
+    → (known : Option ℕ) → color known (outcome src l text page marks) ≢ broken
+accepted-unbroken src l text page marks t a known e =
+    let (n, o) = accepted-said src l text page marks t a in
+    unbroken known (says-there src l text page marks (l .high)) (says-there src l text page marks (l .low)) (ap (color known) (sym o) ∙ e)
 
 pub refusal-changes-nothing : Refusal-changes-nothing
 unfolding color
@@ -162,15 +217,19 @@ refusal-changes-nothing S src l text page marks r p m x w n e =
 
 -- ---- bad windows
 
-pub bad-window-whatever : Bad-window-whatever
+pub for-bad-window : {S : Type 0} (src : Source S) (l : Light) (text page marks : List ℕ)
+    → (length page ≢ l .length) ⊎ (unfit (l .first) (length page) (length marks) ≡ true) → (load-for src l text page marks) .answer ≡ refused bad-window 0
 unfolding load-for
-bad-window-whatever S src l text page marks r p m x w = x .answer ∙ go (eqb (length page) (l .length)) refl w
+for-bad-window src l text page marks w = go (eqb (length page) (l .length)) refl w
   where
     go : (b : Bool) → eqb (length page) (l .length) ≡ b → (length page ≢ l .length) ⊎ (unfit (l .first) (length page) (length marks) ≡ true)
         → (if b then load-window src text (l .first) page marks else record { answer = refused bad-window 0; page = page; marks = marks }) .answer ≡ refused bad-window 0
     go false q u = refl
     go true q (inl n) = absurd (n (eqb-true (length page) (l .length) q))
     go true q (inr u) = sym (load-unfit src text (l .first) page marks u .answer)
+
+pub bad-window-whatever : Bad-window-whatever
+bad-window-whatever S src l text page marks r p m x w = x .answer ∙ for-bad-window src l text page marks w
 
 -- ---- places outside
 
@@ -183,17 +242,19 @@ no-low-count : (h : Option ℕ) → count-of h none ≡ uncounted
 no-low-count none = refl
 no-low-count (some x) = refl
 
-pub outside-no-count : Outside-no-count
-unfolding color
-outside-no-count S src l text page marks r p m x out t e =
-    let a : (load-for src l text page marks) .answer ≡ accepted t = sym (x .answer) ∙ e in
-    let (n, o) = accepted-said src l text page marks t a in
-    x .color-is ∙ ap (color (told-count (l .known))) (o ∙ go n out)
+pub outside-uncounted : {S : Type 0} (src : Source S) (l : Light) (text page marks : List ℕ) → (l .length ≤ l .high) ⊎ (l .length ≤ l .low) → (t : Tally)
+    → (load-for src l text page marks) .answer ≡ accepted t → outcome src l text page marks ≡ uncounted
+outside-uncounted src l text page marks out t a = let (n, o) = accepted-said src l text page marks t a in o ∙ go n out
   where
     go : length page ≡ l .length → (l .length ≤ l .high) ⊎ (l .length ≤ l .low)
         → count-of (says-there src l text page marks (l .high)) (says-there src l text page marks (l .low)) ≡ uncounted
     go n (inl h) = rw (beyond (l .first) (length page) (l .high) (stated (steps-of src text)) (omega arith))
     go n (inr h) = rw (beyond (l .first) (length page) (l .low) (stated (steps-of src text)) (omega arith)) (no-low-count (says-there src l text page marks (l .high)))
+
+pub outside-no-count : Outside-no-count
+unfolding color
+outside-no-count S src l text page marks r p m x out t e =
+    x .color-is ∙ ap (color (told-count (l .known))) (outside-uncounted src l text page marks out t (sym (x .answer) ∙ e))
 
 -- ---- green
 
@@ -201,6 +262,15 @@ outside-no-count S src l text page marks r p m x out t e =
 shows-last : (first n p : ℕ) (ps : List Placement) → p < n → stated-for (window first n p) ps ≡ last-at (first + p) ps
 unfolding window
 shows-last first n p ps h = rw (lt-ltb p n h)
+
+-- what a place of a window shows was stated last at its address
+shown-last : (first n p : ℕ) (ps : List Placement) (b : ℕ) → stated-for (window first n p) ps ≡ some b → last-at (first + p) ps ≡ some b
+unfolding window
+shown-last first n p ps b = go (ltb p n)
+  where
+    go : (x : Bool) → stated-for (if x then some (first + p) else none) ps ≡ some b → last-at (first + p) ps ≡ some b
+    go true e = e
+    go false e = let z : _≡_ {A = ℕ} 0 1 = cc in absurd (omega arith)
 
 last-is : (a : ℕ) (ps : List Placement) (b : ℕ) → last-at a ps ≡ some b → Last-stated a b ps
 last-is a ps b e = subst (Found a ps) e (found a ps)
@@ -210,47 +280,66 @@ count-both none l n e = let z : _≡_ {A = ℕ} 0 1 = cc in absurd (omega arith)
 count-both (some x) none n e = let z : _≡_ {A = ℕ} 0 1 = cc in absurd (omega arith)
 count-both (some x) (some y) n e = (x, y, refl, refl, let q : 256 * x + y ≡ n = cc in sym q)
 
-pub green-means : Green-means
-green-means S src l text page marks r p m x hh hl = (there, back)
+-- an address of a window, less its first, is a place of it
+place-within : (first n p : ℕ) → within first n (first + p) ≡ true → p < n
+unfolding within
+place-within first n p e = go (leb first (first + p)) (ltb (first + p) (first + n)) refl e
   where
-    ps : List Placement
-    ps = stated (steps-of src text)
+    go : (a b : Bool) → ltb (first + p) (first + n) ≡ b → (a && b) ≡ true → p < n
+    go true true q h = let l = ltb-true (first + p) (first + n) q in omega arith
+    go true false q h = let z : _≡_ {A = ℕ} 0 1 = cc in absurd (omega arith)
+    go false b q h = let z : _≡_ {A = ℕ} 0 1 = cc in absurd (omega arith)
 
-    there : told-color (r .color) ≡ green → Means-green src l text page marks
-    there e = go ((load-for src l text page marks) .answer) refl
-      where
-        exact : (before : ℕ) × (now : ℕ) × (told-count (l .known) ≡ some before) × (outcome src l text page marks ≡ counted now) × (1 ≤ forward before now) × (forward before now ≤ 32767)
-        exact = green-exactly (told-count (l .known)) (outcome src l text page marks) .0 (sym (x .color-is) ∙ e)
+module _ {S : Type 0} (src : Source S) (l : Light) (text page marks : List ℕ) where
+  abbrev ps : List Placement
+  ps = stated (steps-of src text)
 
-        go : (v : Verdict) → (load-for src l text page marks) .answer ≡ v → Means-green src l text page marks
-        go (refused w n) a =
-            let (before, now, k, o, f, g) = exact in
-            let q = outcome-refused src l text page marks w n a in
-            let z : _≡_ {A = ℕ} 0 1 = cc in absurd (omega arith)
-        go (accepted t) a =
-            let (before, now, k, o, f, g) = exact in
-            let (n, said-so) = accepted-said src l text page marks t a in
-            let (h, w, eh, ew, is) = count-both (says-there src l text page marks (l .high)) (says-there src l text page marks (l .low)) now (sym said-so ∙ o) in
-            record {
-              tally = t;
-              accepted-so = a;
-              high = h;
-              low = w;
-              high-stated = last-is (l .first + l .high) ps h (sym (shows-last (l .first) (length page) (l .high) ps (omega arith)) ∙ eh);
-              low-stated = last-is (l .first + l .low) ps w (sym (shows-last (l .first) (length page) (l .low) ps (omega arith)) ∙ ew);
-              before = before;
-              known-before = k;
-              ahead = rw (← is) f;
-              not-far = rw (← is) g;
-            }
+  -- what an accepted dump states for a place lies in the page
+  place-inside : (t : Tally) → (load-for src l text page marks) .answer ≡ accepted t → (p b : ℕ) → Last-stated (l .first + p) b ps → p < length page
+  unfolding one-window
+  place-inside t a p b s =
+      let (n, v) = accepted-by-steps src l text page marks t a in
+      let room = one-window (l .first) (length page) (length marks) in
+      let all = all-inside S src room text page marks t (room-answer src room text page marks ∙ v) in
+      place-within (l .first) (length page) p
+      (every-at (λ (q : Placement). within (l .first) (length page) (q .address) ≡ true) (s .before) (record { address = l .first + p; byte = b }) (s .after) (rw (s .whole) at all))
 
-    back : Means-green src l text page marks → told-color (r .color) ≡ green
-    back g =
-        let (n, said-so) = accepted-said src l text page marks (g .tally) (g .accepted-so) in
-        let eh : says-there src l text page marks (l .high) ≡ some (g .high) = shows-last (l .first) (length page) (l .high) ps (omega arith) ∙ last-stated-is (l .first + l .high) (g .high) ps (g .high-stated) in
-        let el : says-there src l text page marks (l .low) ≡ some (g .low) = shows-last (l .first) (length page) (l .low) ps (omega arith) ∙ last-stated-is (l .first + l .low) (g .low) ps (g .low-stated) in
-        let o : outcome src l text page marks ≡ counted (256 * g .high + g .low) = said-so ∙ rw (eh, el) in
-        x .color-is ∙ green-exactly (told-count (l .known)) (outcome src l text page marks) .1 (g .before, 256 * g .high + g .low, g .known-before, o, g .ahead, g .not-far)
+  counts-there : (n : ℕ) → outcome src l text page marks ≡ counted n → States-count src l text page marks n
+  counts-there n o = go ((load-for src l text page marks) .answer) refl
+    where
+      go : (v : Verdict) → (load-for src l text page marks) .answer ≡ v → States-count src l text page marks n
+      go (refused w line) a = let q = outcome-refused src l text page marks w line a in let z : _≡_ {A = ℕ} 0 1 = cc in absurd (omega arith)
+      go (accepted t) a =
+          let (size, said-so) = accepted-said src l text page marks t a in
+          let (h, w, eh, ew, is) = count-both (says-there src l text page marks (l .high)) (says-there src l text page marks (l .low)) n (sym said-so ∙ o) in
+          record {
+            tally = t;
+            accepted-so = a;
+            high = h;
+            low = w;
+            high-stated = last-is (l .first + l .high) ps h (shown-last (l .first) (length page) (l .high) ps h eh);
+            low-stated = last-is (l .first + l .low) ps w (shown-last (l .first) (length page) (l .low) ps w ew);
+            count-is = is;
+          }
+
+  counts-back : (n : ℕ) → States-count src l text page marks n → outcome src l text page marks ≡ counted n
+  counts-back n g =
+      let (size, said-so) = accepted-said src l text page marks (g .tally) (g .accepted-so) in
+      let hh = place-inside (g .tally) (g .accepted-so) (l .high) (g .high) (g .high-stated) in
+      let hl = place-inside (g .tally) (g .accepted-so) (l .low) (g .low) (g .low-stated) in
+      let eh : says-there src l text page marks (l .high) ≡ some (g .high) = shows-last (l .first) (length page) (l .high) ps hh ∙ last-stated-is (l .first + l .high) (g .high) ps (g .high-stated) in
+      let el : says-there src l text page marks (l .low) ≡ some (g .low) = shows-last (l .first) (length page) (l .low) ps hl ∙ last-stated-is (l .first + l .low) (g .low) ps (g .low-stated) in
+      said-so ∙ rw (eh, el, g .count-is)
+
+  -- a dump says a count exactly if it states it
+  pub counts-so : (n : ℕ) → (outcome src l text page marks ≡ counted n) ↔ States-count src l text page marks n
+  counts-so n = (counts-there n, counts-back n)
+
+  pub green-so : (color (told-count (l .known)) (outcome src l text page marks) ≡ green) ↔ Means-green (States-count src l text page marks) (λ (b : ℕ). told-count (l .known) ≡ some b)
+  green-so = green-by (told-count (l .known)) (outcome src l text page marks) (States-count src l text page marks) (λ (b : ℕ). told-count (l .known) ≡ some b) counts-so (λ b. (λ e. e, λ e. e))
+
+pub green-means : Green-means
+green-means S src l text page marks r p m x = (λ e. green-so src l text page marks .0 (sym (x .color-is) ∙ e), λ g. x .color-is ∙ green-so src l text page marks .1 g)
 
 -- ---- what follows the line that decides
 
@@ -293,12 +382,15 @@ same-loads src l text₁ text₂ page₁ marks₁ page₂ marks₂ lp a =
     go true = (a .answers, same-said (l .high) (l .low) (load-window src text₁ (l .first) page₁ marks₁) (load-window src text₂ (l .first) page₂ marks₂) a)
     go false = (refl, refl)
 
+pub decided-alike : {S : Type 0} (src : Source S) (l : Light) (text₁ text₂ page₁ marks₁ page₂ marks₂ : List ℕ) → length page₁ ≡ length page₂ → length marks₁ ≡ length marks₂
+    → (line : ℕ) (v : Verdict) → stopping-in (one-window (l .first) (length page₁) (length marks₁)) (steps-of src text₁) ≡ some (by line v)
+    → (head : List ℕ) → through line text₁ ≡ some head → through line text₂ ≡ some head
+    → ((load-for src l text₁ page₁ marks₁) .answer ≡ (load-for src l text₂ page₂ marks₂) .answer) × (outcome src l text₁ page₁ marks₁ ≡ outcome src l text₂ page₂ marks₂)
+decided-alike src l text₁ text₂ page₁ marks₁ page₂ marks₂ lp lm line v e head h₁ h₂ =
+    same-loads src l text₁ text₂ page₁ marks₁ page₂ marks₂ lp
+    (non-interference _ src text₁ text₂ (l .first) page₁ marks₁ page₂ marks₂ lp lm line v (stops-so src text₁ (l .first) page₁ marks₁ (some (by line v)) e) head h₁ h₂)
+
 pub nothing-after : Nothing-after
 nothing-after S src l text₁ text₂ page₁ marks₁ page₂ marks₂ r₁ r₂ p₁ m₁ p₂ m₂ x y lp lm line v e head h₁ h₂ =
-    same-dumped r₁ r₂ (x .color-is ∙ ap (color (told-count (l .known))) (both .1) ∙ sym (y .color-is)) (x .answer ∙ both .0 ∙ sym (y .answer)) (x .light ∙ ap (light-after l) (both .1) ∙ sym (y .light))
-  where
-    alike : Alike (load-window src text₁ (l .first) page₁ marks₁) (load-window src text₂ (l .first) page₂ marks₂)
-    alike = non-interference S src text₁ text₂ (l .first) page₁ marks₁ page₂ marks₂ lp lm line v (stops-so src text₁ (l .first) page₁ marks₁ (some (by line v)) e) head h₁ h₂
-
-    both : ((load-for src l text₁ page₁ marks₁) .answer ≡ (load-for src l text₂ page₂ marks₂) .answer) × (outcome src l text₁ page₁ marks₁ ≡ outcome src l text₂ page₂ marks₂)
-    both = same-loads src l text₁ text₂ page₁ marks₁ page₂ marks₂ lp alike
+    let (a, o) = decided-alike src l text₁ text₂ page₁ marks₁ page₂ marks₂ lp lm line v e head h₁ h₂ in
+    same-dumped r₁ r₂ (x .color-is ∙ ap (color (told-count (l .known))) o ∙ sym (y .color-is)) (x .answer ∙ a ∙ sym (y .answer)) (x .light ∙ ap (light-after l) o ∙ sym (y .light))

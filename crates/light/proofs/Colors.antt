@@ -39,7 +39,7 @@ is-last : {history : List Outcome} {known : Option ℕ} → Last-count history k
 is-last {history} (never h) = sym (none-of history h)
 is-last (this-one before n after h) = sym (one-of before n after h)
 
-one-last : {history : List Outcome} {a b : Option ℕ} → Last-count history a → Last-count history b → a ≡ b
+pub one-last : {history : List Outcome} {a b : Option ℕ} → Last-count history a → Last-count history b → a ≡ b
 one-last x y = is-last x ∙ sym (is-last y)
 
 pub every-joined : {A : Type 0} (P : A → Type 0) (xs ys : List A) → Every P xs → Every P ys → Every P (xs ++ ys)

@@ -1,22 +1,23 @@
 -- The history alone: what each dump says is what its steps state, and the light remembers the last count.
 -- Assumes nothing.
 use mathlib.Core.Path.{_≡_, refl, sym, ap, ap₂, _∙_, subst}
-use mathlib.Core.Logic.{_⊎_, inl, inr}
+use mathlib.Core.Logic.{_↔_, _⊎_, inl, inr}
 use Prim.Native.Nat.{ℕ, _≤_, _<_}
 use native.Mathlib.Omega.{arith}
 use mathlib.Core.Option.{Option, none, some}
-use mathlib.Core.List.{List, [], _∷_, _++_, map}
+use mathlib.Core.List.{List, [], _∷_, map, map-id}
 use lib.ListN.{length}
-use Rattle.digits.specs.Common.{Every}
 use Rattle.steps.specs.Source.{Source, steps-of}
 use Rattle.steps.specs.Steps.{Step}
 use Rattle.intel.specs.Placing.{intel}
 use Rattle.srecload.specs.Placing.{s-records}
 use Rattle.light.specs.declared.Light.{Light}
-use Rattle.light.specs.Colors.{Color, green, Outcome, refused-one, uncounted, counted, forward, color, known-after, colors, Last-count, never, Shows, Sixteen}
+use Rattle.light.specs.Colors.{Color, green, Outcome, refused-one, uncounted, counted, forward, color, known-after, colors, never}
 use Rattle.light.specs.Light.{told-count, outcome, light-after, Dumps}
-use Rattle.light.specs.Claims.{said, Kind, hex, srecords, steps-by, Call, Meets-by, In-turn, said-of, shown, Each-shows, By-history, Shows-history, Never-green-twice, Unmoved-never-green}
-use Rattle.light.proofs.Colors.{every-joined, shown-so, known-is-last, never-green-again, green-exactly}
+use Rattle.light.specs.Claims.{said, Kind, hex, srecords, steps-by, Call, Meets-by, In-turn, said-of, shown, By-history, Shows-history, States-by, Green-in-history, Never-green-twice, Unmoved-never-green}
+use Rattle.light.proofs.Colors.{never-green-again, green-exactly}
+use Rattle.light.proofs.Turns.{Turns, each-shows, in-order, each-green}
+use Rattle.light.proofs.Claims.{counts-so}
 use Rattle.light.proofs.Places.{outcome-is-said}
 use Rattle.light.proofs.Sixteen.{said-sixteen}
 
@@ -47,54 +48,53 @@ call-follows l c d = follows l c (c .kind) refl d
 -- ---- the light after a dump
 
 -- it knows the last count
-known-is : (l : Light) (o : Outcome) → told-count (light-after l o .known) ≡ known-after (told-count (l .known)) o
+pub known-is : (l : Light) (o : Outcome) → told-count (light-after l o .known) ≡ known-after (told-count (l .known)) o
 known-is l refused-one = refl
 known-is l uncounted = refl
 known-is l (counted n) = refl
 
 -- and has the same window and places
-same-said : (l : Light) (o : Outcome) (s : List Step) (page marks : ℕ) → said (light-after l o) s page marks ≡ said l s page marks
+pub same-said : (l : Light) (o : Outcome) (s : List Step) (page marks : ℕ) → said (light-after l o) s page marks ≡ said l s page marks
 unfolding said
 same-said l refused-one s page marks = refl
 same-said l uncounted s page marks = refl
 same-said l (counted n) s page marks = refl
 
-said-after : (l : Light) (o : Outcome) (cs : List Call) → map (said-of (light-after l o)) cs ≡ map (said-of l) cs
-said-after l o [] = refl
-said-after l o (c ∷ cs) = ap₂ (λ (x : Outcome) (xs : List Outcome). x ∷ xs) (same-said l o (steps-by (c .kind) (c .text)) (length (c .page)) (length (c .marks))) (said-after l o cs)
-
 -- ---- calls in turn
 
-pub by-history : By-history
-unfolding colors
-by-history l [] r = refl
-by-history l (c ∷ cs) (d, r) =
-    let f = call-follows l c d in
-    let o = said-of l c in
-    ap₂ (λ (x : Color) (xs : List Color). x ∷ xs) (f .color-is)
-    (by-history (c .returned .light) cs r
-    ∙ ap (λ (x : Light). colors (told-count (x .known)) (map (said-of x) cs)) (f .light-is)
-    ∙ ap₂ (λ (k : Option ℕ) (xs : List Outcome). colors k xs) (known-is l o) (said-after l o cs))
-
--- the same without computing, after a history whose last count the light knows; l₀ has the window and the places
-each-shows : (l₀ l : Light) (history : List Outcome) (cs : List Call) → ((c : Call) → said-of l c ≡ said-of l₀ c) → Every Sixteen history
-    → Last-count history (told-count (l .known)) → In-turn l cs → Each-shows l₀ history cs
-each-shows l₀ l history [] same small last r = tt
-each-shows l₀ l history (c ∷ cs) same small last (d, r) =
+-- l₀ has the window and the places; l knows the last count
+in-turns : (l₀ l : Light) (cs : List Call) → ((c : Call) → said-of l c ≡ said-of l₀ c) → In-turn l cs
+    → Turns (said-of l₀) (λ (c : Call) (k : Color). shown c ≡ k) (told-count (l .known)) cs
+in-turns l₀ l [] same r = tt
+in-turns l₀ l (c ∷ cs) same (d, r) =
     let f = call-follows l c d in
     let o = said-of l₀ c in
     let k = told-count (l .known) in
-    let here : c .returned .light ≡ light-after l o = f .light-is ∙ ap (light-after l) (same c) in
-    let o-small : Sixteen o = said-sixteen l₀ (c .kind) (c .text) (length (c .page)) (length (c .marks)) in (
-      subst (λ (x : Color). Shows history o x) (sym (f .color-is ∙ ap (color k) (same c))) (shown-so history o k small o-small last),
-      each-shows l₀ (c .returned .light) (history ++ (o ∷ [])) cs
-          (λ x. ap (λ (y : Light). said-of y x) here ∙ same-said l o (steps-by (x .kind) (x .text)) (length (x .page)) (length (x .marks)) ∙ same x)
-          (every-joined Sixteen history (o ∷ []) small (o-small, tt))
-          (subst (λ (x : Option ℕ). Last-count (history ++ (o ∷ [])) x) (sym (ap (λ (y : Light). told-count (y .known)) here ∙ known-is l o)) (known-is-last history k o last)) r,
+    let here : c .returned .light ≡ light-after l o = f .light-is ∙ ap (light-after l) (same c) in (
+      f .color-is ∙ ap (color k) (same c),
+      subst (λ (x : Option ℕ). Turns (said-of l₀) (λ (c : Call) (k : Color). shown c ≡ k) x cs) (ap (λ (y : Light). told-count (y .known)) here ∙ known-is l o)
+          (in-turns l₀ (c .returned .light) cs (λ x. ap (λ (y : Light). said-of y x) here ∙ same-said l o (steps-by (x .kind) (x .text)) (length (x .page)) (length (x .marks)) ∙ same x) r),
     )
 
+pub by-history : By-history
+by-history l cs r =
+    let known = told-count (l .known) in
+    in-order (said-of l) shown (λ (k : Color). k) known cs (in-turns l l cs (λ c. refl) r) ∙ map-id (colors known (map (said-of l) cs))
+
 pub shows-history : Shows-history
-shows-history l cs e r = each-shows l l [] cs (λ c. refl) tt (rw e (never tt)) r
+shows-history l cs e r =
+    each-shows (said-of l) (λ (c : Call) (k : Color). shown c ≡ k) (λ c. said-sixteen l (c .kind) (c .text) (length (c .page)) (length (c .marks))) (told-count (l .known)) [] cs tt (rw e (never tt))
+    (in-turns l l cs (λ c. refl) r)
+
+-- a call's dump says a count exactly if it states it
+pub states-so : (l : Light) (k : Kind) (text page marks : List ℕ) (n : ℕ) → (said l (steps-by k text) (length page) (length marks) ≡ counted n) ↔ States-by k l text page marks n
+states-so l hex text page marks n = rw (← (outcome-is-said intel l text page marks)) (counts-so intel l text page marks n)
+states-so l srecords text page marks n = rw (← (outcome-is-said s-records l text page marks)) (counts-so s-records l text page marks n)
+
+pub green-in-history : Green-in-history
+green-in-history l cs e r =
+    each-green (said-of l) shown (λ (k : Color). k) (λ k k′ q. q) (λ (c : Call). States-by (c .kind) l (c .text) (c .page) (c .marks))
+    (λ c. states-so l (c .kind) (c .text) (c .page) (c .marks)) (told-count (l .known)) [] cs (rw e (never tt)) (in-turns l l cs (λ c. refl) r)
 
 pub never-green-twice : Never-green-twice
 never-green-twice l c c′ d d′ ek et ep em e =

@@ -23,7 +23,7 @@ use Rattle.light.specs.declared.Light.{Light}
 use Rattle.light.specs.declared.Made.{Made}
 use Rattle.light.specs.declared.Made.the-variants.{BadPlace}
 use Rattle.light.specs.declared.Dumped.{Dumped}
-use Rattle.light.specs.Colors.{Color, broken, no-count, green, Outcome, refused-one, uncounted, counted, forward, colors, Shows, Sixteen}
+use Rattle.light.specs.Colors.{Color, broken, no-count, green, Outcome, refused-one, uncounted, counted, forward, colors, Last-count, Shows, Sixteen}
 use Rattle.light.specs.Light.{told-color, told-count, load-for, SetUp, Dumps}
 
 -- ---- what a dump says, from its steps and the lengths of its buffers alone
@@ -102,14 +102,15 @@ By-history = (l : Light) (cs : List Call) → In-turn l cs → map shown cs ≡ 
 abbrev pub Said-sixteen : Type 0
 Said-sixteen = (l : Light) (kind : Kind) (text : List ℕ) (page marks : ℕ) → Sixteen (said l (steps-by kind text) page marks)
 
--- each call shows what `Shows` says, after the history of the calls before it
-abbrev pub Each-shows : Light → (history : List Outcome) → List Call → Type 0
-Each-shows l history [] = Unit
-Each-shows l history (c ∷ cs) = Shows history (said-of l c) (shown c) × Each-shows l (history ++ (said-of l c ∷ [])) cs
+-- of a row of things, each of which says something of the count: each is shown as `Shows` says, after the history of those before it
+abbrev pub Each-shows : {A : Type 0} (says : A → Outcome) (Shown : A → Color → Type 0) (history : List Outcome) → List A → Type 0
+Each-shows says Shown history [] = Unit
+Each-shows says Shown history (c ∷ cs) =
+    ((k : Color) × Shows history (says c) k × Shown c k) × Each-shows says Shown (history ++ (says c ∷ [])) cs
 
 -- the same without computing, for a light that knows no count at first
 abbrev pub Shows-history : Type 0
-Shows-history = (l : Light) (cs : List Call) → l .known ≡ Unknown → In-turn l cs → Each-shows l [] cs
+Shows-history = (l : Light) (cs : List Call) → l .known ≡ Unknown → In-turn l cs → Each-shows (said-of l) (λ (c : Call) (k : Color). shown c ≡ k) [] cs
 
 -- the same dump twice running, with buffers of equal sizes and whatever contents, is never green the second time
 abbrev pub Never-green-twice : Type 0
@@ -125,25 +126,47 @@ Unmoved-never-green =
 
 -- ---- one dump
 
--- green means: this dump was accepted, both places are stated by it before its end, and the count that it states is 1 to 32,767 ahead of the one
--- that was stated last
-pub record Means-green {S : Type 0} (src : Source S) (l : Light) (text page marks : List ℕ) : Type 0 where
+-- a dump is accepted and states this count: the last data records before its end that state the two places state its high and its low byte
+pub record States-count {S : Type 0} (src : Source S) (l : Light) (text page marks : List ℕ) (count : ℕ) : Type 0 where
   pub tally : Tally
   pub accepted-so : (load-for src l text page marks) .answer ≡ accepted tally
   pub high : ℕ
   pub low : ℕ
   pub high-stated : Last-stated (l .first + l .high) high (stated (steps-of src text))
   pub low-stated : Last-stated (l .first + l .low) low (stated (steps-of src text))
-  pub before : ℕ
-  pub known-before : told-count (l .known) ≡ some before
-  pub ahead : 1 ≤ forward before (256 * high + low)
-  pub not-far : forward before (256 * high + low) ≤ 32767
+  pub count-is : count ≡ 256 * high + low
 
+-- Green means: this dump was accepted, it states a byte for both places of the count before its end record, and the count that it states is 1 to
+-- 32,767 ahead of the one that was stated last, modulo 65,536.
+pub record Means-green (States Last : ℕ → Type 0) : Type 0 where
+  pub count : ℕ
+  pub states : States count
+  pub before : ℕ
+  pub stated-last : Last before
+  pub ahead : 1 ≤ forward before count
+  pub not-far : forward before count ≤ 32767
+
+-- of one dump, with what the light knows for what was stated last
 abbrev pub Green-means : Type 1
 Green-means =
     (S : Type 0) (src : Source S) (l : Light) (text page marks : List ℕ) (r : Dumped) (p m : List ℕ) → Dumps src l text page marks r p m
-    → l .high < l .length → l .low < l .length
-    → (told-color (r .color) ≡ green) ↔ Means-green src l text page marks
+    → (told-color (r .color) ≡ green) ↔ Means-green (States-count src l text page marks) (λ (b : ℕ). told-count (l .known) ≡ some b)
+
+-- of a row of things, each of which says something of the count: each is green exactly if that is what it means, after the history of those before it
+abbrev pub Each-green : {A : Type 0} (says : A → Outcome) (Green : A → Type 0) (States : A → ℕ → Type 0) (history : List Outcome) → List A → Type 0
+Each-green says Green States history [] = Unit
+Each-green says Green States history (c ∷ cs) =
+    (Green c ↔ Means-green (States c) (λ (b : ℕ). Last-count history (some b))) × Each-green says Green States (history ++ (says c ∷ [])) cs
+
+abbrev pub States-by : Kind → Light → (text page marks : List ℕ) (count : ℕ) → Type 0
+States-by hex l text page marks count = States-count intel l text page marks count
+States-by srecords l text page marks count = States-count s-records l text page marks count
+
+-- so it is over any number of dumps in turn, for a light that knows no count at first
+abbrev pub Green-in-history : Type 0
+Green-in-history =
+    (l : Light) (cs : List Call) → l .known ≡ Unknown → In-turn l cs
+    → Each-green (said-of l) (λ (c : Call). shown c ≡ green) (λ (c : Call). States-by (c .kind) l (c .text) (c .page) (c .marks)) [] cs
 
 -- what stands after the line at which a dump is decided changes neither its color nor what is remembered, whatever the buffers held
 abbrev pub Nothing-after : Type 1

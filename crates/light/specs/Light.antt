@@ -4,17 +4,19 @@ use mathlib.Core.Path.{_≡_}
 use Prim.Native.Nat.{ℕ, _+_, _*_}
 use mathlib.Core.Bool.{_&&_, _||_}
 use mathlib.Core.Option.{Option, none, some}
-use mathlib.Core.List.{List}
+use mathlib.Core.List.{List, [], _∷_, _++_}
 use lib.Dec.{eqb, leb}
 use lib.ListN.{length, getD}
-use Rattle.digits.specs.Common.{if_then_else_}
+use Rattle.digits.specs.Common.{text, if_then_else_}
 use Rattle.record.specs.Refusals.{bad-window}
 use Rattle.marks.specs.Marks.{mark-at}
+use Rattle.reader.specs.Lines.{LF}
 use Rattle.steps.specs.Steps.{Verdict, accepted, refused}
 use Rattle.steps.specs.Source.{Source}
 use Rattle.steps.specs.Sites.{Loaded}
 use Rattle.steps.specs.Told.{told-loading}
 use Rattle.window.specs.Load.{load-window}
+use Rattle.intel.specs.Placing.{intel}
 use Rattle.light.specs.declared.Color.{Color as CodeColor}
 use Rattle.light.specs.declared.Color.the-variants.{Broken, NoCount, First, Green, Stale, Restarted}
 use Rattle.light.specs.declared.Count.{Count}
@@ -91,3 +93,47 @@ pub record Dumps {S : Type 0} (src : Source S) (l : Light) (text page₀ marks�
   pub light : r .light ≡ light-after l (outcome src l text page₀ marks₀)
   pub page : page′ ≡ (load-for src l text page₀ marks₀) .page
   pub marks : marks′ ≡ (load-for src l text page₀ marks₀) .marks
+
+-- ---- examples: a light of 4 places from address 0 on, with the count at two of them
+
+abbrev pub lamp : (high low : ℕ) → Light
+lamp high low = record { first = 0; length = 4; high = high; low = low; known = Unknown }
+
+-- 0005 at the places 0 and 1; 0006 there; a high byte alone; the end
+abbrev pub five : List ℕ
+five = text ":020000000005F9"
+
+abbrev pub six : List ℕ
+six = text ":020000000006F8"
+
+abbrev pub half : List ℕ
+half = text ":0100000000FF"
+
+abbrev pub E : List ℕ
+E = text ":00000001FF"
+
+-- a light for a window that ends beyond 2^32
+abbrev pub beyond : Light
+beyond = record { first = 0xFFFFFFFF; length = 2; high = 0; low = 1; known = Unknown }
+
+pub record Examples : Type 0 where
+  pub states-five : outcome intel (lamp 0 1) (five ++ (LF ∷ E)) (9 ∷ 9 ∷ 9 ∷ 9 ∷ []) (0 ∷ []) ≡ counted 5
+  -- what follows the end record is not read
+  pub old-tail : outcome intel (lamp 0 1) (six ++ (LF ∷ E ++ (LF ∷ five ++ (LF ∷ E)))) (9 ∷ 9 ∷ 9 ∷ 9 ∷ []) (0 ∷ []) ≡ counted 6
+  -- half a count is none, whatever page and marks held
+  pub half-a-count : outcome intel (lamp 0 1) (half ++ (LF ∷ E)) (0 ∷ 5 ∷ 9 ∷ 9 ∷ []) (0xFF ∷ []) ≡ uncounted
+  pub without-end : outcome intel (lamp 0 1) five (9 ∷ 9 ∷ 9 ∷ 9 ∷ []) (0 ∷ []) ≡ refused-one
+  -- the first place has the high byte, also if it lies after the other
+  pub turned-round : outcome intel (lamp 1 0) (five ++ (LF ∷ E)) (9 ∷ 9 ∷ 9 ∷ 9 ∷ []) (0 ∷ []) ≡ counted 0x0500
+  -- both places may be the same
+  pub one-place : outcome intel (lamp 1 1) (five ++ (LF ∷ E)) (9 ∷ 9 ∷ 9 ∷ 9 ∷ []) (0 ∷ []) ≡ counted 0x0505
+  -- a place is not an address
+  pub not-an-address : made-of 0x12000 8 0x12000 0x12001 ≡ made.BadPlace
+  -- a light made up by hand
+  pub by-hand : outcome intel (lamp 0 9) (five ++ (LF ∷ E)) (9 ∷ 9 ∷ 9 ∷ 9 ∷ []) (0 ∷ []) ≡ uncounted
+  -- a window that ends beyond 2^32 is set up, and each of its dumps is refused
+  pub set-up-beyond : made-of 0xFFFFFFFF 2 0 1 ≡ made.Light beyond
+  pub refused-beyond : (load-for intel beyond E (9 ∷ 9 ∷ []) (0 ∷ [])) .answer ≡ refused bad-window 0
+  -- a page of 5 places for 4, and marks of 2 bytes for 1
+  pub longer-page : (load-for intel (lamp 0 1) E (9 ∷ 9 ∷ 9 ∷ 9 ∷ 9 ∷ []) (0 ∷ [])) .answer ≡ refused bad-window 0
+  pub longer-marks : (load-for intel (lamp 0 1) E (9 ∷ 9 ∷ 9 ∷ 9 ∷ []) (0 ∷ 0 ∷ [])) .answer ≡ refused bad-window 0

@@ -96,6 +96,11 @@ list-full = refusal 22 []
 abbrev pub bad-table : Refusal
 bad-table = refusal 23 []
 
+-- of a light that is set up
+
+abbrev pub bad-place : Refusal
+bad-place = refusal 24 []
+
 -- of an S-record to be written, beside 9, 11, 12 and 15
 
 abbrev pub address-too-wide : Refusal

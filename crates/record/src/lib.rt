@@ -79,6 +79,8 @@ pub mod refusals {
 
     pub const BAD_TABLE: u8 = 23;
 
+    pub const BAD_PLACE: u8 = 24;
+
     pub const ADDRESS_TOO_WIDE: u8 = 25;
 }
 

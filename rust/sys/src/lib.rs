@@ -57,6 +57,23 @@ pub const MOST_WINDOWS: usize = 16;
 /// The number of the refusal of a table.
 pub const BAD_TABLE: u32 = 23;
 
+/// What a light shows after a dump that was refused. 0 is not green.
+pub const COLOR_BROKEN: u8 = 0;
+/// After one that states no count.
+pub const COLOR_NO_COUNT: u8 = 1;
+/// After one that states a count where none was known.
+pub const COLOR_FIRST: u8 = 2;
+/// After one whose count moved forward.
+pub const COLOR_GREEN: u8 = 3;
+/// After one whose count is the known one.
+pub const COLOR_STALE: u8 = 4;
+/// After one with any other count.
+pub const COLOR_RESTARTED: u8 = 5;
+/// The count of a light that knows none.
+pub const COUNT_UNKNOWN: u32 = 65_536;
+/// The number of the refusal of a place.
+pub const BAD_PLACE: u32 = 24;
+
 /// The most places of a page, and of the pool of a window table.
 pub const MAX_PAGE: usize = 65_536;
 /// The most bytes of a page's file.
@@ -208,6 +225,32 @@ mod c {
             a: *mut u64,
             b: *mut u64,
         ) -> u32;
+        pub fn ihex_set_up_light(
+            first: u32,
+            length: usize,
+            high: usize,
+            low: usize,
+            known: *mut u32,
+        ) -> u32;
+        pub fn ihex_light(
+            text: *const u8,
+            text_len: usize,
+            first: u32,
+            length: usize,
+            high: usize,
+            low: usize,
+            page: *mut u8,
+            page_len: usize,
+            marks: *mut u8,
+            marks_len: usize,
+            known: *mut u32,
+            color: *mut u8,
+            line: *mut usize,
+            start: *mut u8,
+            a: *mut u64,
+            b: *mut u64,
+            c: *mut u64,
+        ) -> u32;
         pub fn ihex_page_file_length(
             first: u32,
             page: *const u8,
@@ -281,6 +324,25 @@ mod c {
             pool_len: usize,
             marks: *mut u8,
             marks_len: usize,
+            line: *mut usize,
+            start: *mut u8,
+            a: *mut u64,
+            b: *mut u64,
+            c: *mut u64,
+        ) -> u32;
+        pub fn ihex_light_srecords(
+            text: *const u8,
+            text_len: usize,
+            first: u32,
+            length: usize,
+            high: usize,
+            low: usize,
+            page: *mut u8,
+            page_len: usize,
+            marks: *mut u8,
+            marks_len: usize,
+            known: *mut u32,
+            color: *mut u8,
             line: *mut usize,
             start: *mut u8,
             a: *mut u64,
@@ -501,6 +563,39 @@ pub fn ask(text: &[u8], address: u32, line: &mut usize, a: &mut u64, b: &mut u64
     unsafe { c::ihex_ask(text.as_ptr(), text.len(), address, line, a, b) }
 }
 
+/// Sets up a light for a page of `length` places from `first` on, with the bytes of the count at the places `high` and `low`.
+pub fn set_up_light(first: u32, length: usize, high: usize, low: usize, known: &mut u32) -> u32 {
+    unsafe { c::ihex_set_up_light(first, length, high, low, known) }
+}
+
+/// A dump of Intel HEX into the page of a light, and what the light shows after it. Marks take one bit a place.
+pub fn light(
+    text: &[u8],
+    first: u32,
+    length: usize,
+    high: usize,
+    low: usize,
+    page: &mut [u8],
+    marks: &mut [u8],
+    known: &mut u32,
+    color: &mut u8,
+    line: &mut usize,
+    start: &mut u8,
+    a: &mut u64,
+    b: &mut u64,
+    c: &mut u64,
+) -> u32 {
+    let (text, text_len) = (text.as_ptr(), text.len());
+    let (page, page_len) = (page.as_mut_ptr(), page.len());
+    let (marks, marks_len) = (marks.as_mut_ptr(), marks.len());
+    unsafe {
+        c::ihex_light(
+            text, text_len, first, length, high, low, page, page_len, marks, marks_len, known,
+            color, line, start, a, b, c,
+        )
+    }
+}
+
 /// How long the file of a page with marks is. Marks take one bit a place.
 pub fn page_file_length(first: u32, page: &[u8], marks: &[u8], value: &mut u64) -> u32 {
     let (page, page_len) = (page.as_ptr(), page.len());
@@ -597,6 +692,34 @@ pub fn load_srecords_table(
         c::ihex_load_srecords_table(
             text, text_len, owner, table, table_len, pool, pool_len, marks, marks_len, line, start,
             a, b, c,
+        )
+    }
+}
+
+/// The same for a dump of S-records.
+pub fn light_srecords(
+    text: &[u8],
+    first: u32,
+    length: usize,
+    high: usize,
+    low: usize,
+    page: &mut [u8],
+    marks: &mut [u8],
+    known: &mut u32,
+    color: &mut u8,
+    line: &mut usize,
+    start: &mut u8,
+    a: &mut u64,
+    b: &mut u64,
+    c: &mut u64,
+) -> u32 {
+    let (text, text_len) = (text.as_ptr(), text.len());
+    let (page, page_len) = (page.as_mut_ptr(), page.len());
+    let (marks, marks_len) = (marks.as_mut_ptr(), marks.len());
+    unsafe {
+        c::ihex_light_srecords(
+            text, text_len, first, length, high, low, page, page_len, marks, marks_len, known,
+            color, line, start, a, b, c,
         )
     }
 }
