@@ -4,14 +4,14 @@
     tests/make_cases.py            writes the two files
     tests/make_cases.py --check    says whether the stored files are what it would write
 
-The answers come from a model of documents 01 and 02 that shares nothing with the port: its record reader and its asks are
-in model.py, the rest stands here. The examples of documents 01 and 02 and the limits stand here with their
+The answers come from a model of documents 01 and 02 that shares nothing with the port: its record reader, its asks and
+its light are in model.py, the rest stands here. The examples of documents 01 and 02 and the limits stand here with their
 answers as well, and the model is held to them. src/main.rt of `replay` says what a case looks like.
 """
 import pathlib
 import sys
 
-from model import asked, checksum, lines_of, packed, read, record, told_other
+from model import asked, checksum, lines_of, lit, packed, read, record, told_other
 
 FOLDER = pathlib.Path(__file__).resolve().parent.parent / "crates" / "replay"
 TOP = 2**64 - 1
@@ -132,16 +132,48 @@ def stated(text, place_of):
     return "! 13 @0", None
 
 
+def placed(text, first, page_size, marks_size):
+    """What the loader answers, and the byte that the text states at each place of the page; None where it is refused."""
+    if marks_size != (page_size + 7) // 8 or page_size > 65536 or first + page_size > 2**32:
+        return "! 16 @0", None
+    return stated(text, lambda address: address - first if first <= address < first + page_size else None)
+
+
+def laid(places, page, marks):
+    """Page and packed marks after a load: as they were where it is refused."""
+    if places is None:
+        return page, marks
+    return bytes(places.get(p, old) for p, old in enumerate(page)), packed([p in places for p in range(len(page))])
+
+
 def load(text, first, page_size, marks_size):
     """What the loader answers, page, and packed marks."""
-    untouched = bytes([PAGE]) * page_size, bytes([MARKS]) * marks_size
-    if marks_size != (page_size + 7) // 8 or page_size > 65536 or first + page_size > 2**32:
-        return "! 16 @0", *untouched
-    told, places = stated(text, lambda address: address - first if first <= address < first + page_size else None)
-    if places is None:
-        return told, *untouched
-    page = bytes(places.get(p, PAGE) for p in range(page_size))
-    return told, page, packed([p in places for p in range(page_size)])
+    told, places = placed(text, first, page_size, marks_size)
+    return told, *laid(places, bytes([PAGE]) * page_size, bytes([MARKS]) * marks_size)
+
+
+# A light: the first address and the length of its window, and the places of the count's high and low byte.
+
+def same_count(text, places, first, *bytes_of_count):
+    """Whether the model of asks states the count's bytes as the loads do."""
+    return all(asked(text, first + p) == (f"B {places[p]:02X}" if p in places else "none") for p in bytes_of_count)
+
+
+def dump_row(dumps, light, page, marks):
+    """What each dump of a light comes to, and page and packed marks after the last; or that it is not set up."""
+    first, length, high, low = light
+    if high >= length or low >= length:
+        return ["! 24"], None
+    history, row = [], []
+    for text in dumps:
+        told, places = placed(text, first, len(page), len(marks)) if len(page) == length else ("! 16 @0", None)
+        if places is not None and not same_count(text, places, first, high, low):
+            sys.exit(f"the models of asks and of loads do not state the same count in {text!r}")
+        page, marks = laid(places, page, marks)
+        history.append(places)
+        color, known = lit(history, high, low)
+        row.append(f"{color} {'-' if known is None else f'{known:04X}'} {told}")
+    return row, (page, marks)
 
 
 # A window of a table: its owner, its first address, its length, and its place in the pool.
@@ -350,6 +382,23 @@ def ask_cases(text, told):
     """A text asked at each of these addresses, modulo 2^32, with the byte there, or None where none is stated."""
     for address, byte in told.items():
         ask_case(text, address % 2**32, "none" if byte is None else f"B {byte:02X}")
+
+
+def light_case(dumps, answer=None, places=(0, 1), first=0, length=4, page=None, marks=None, holds=None, marked=None):
+    """Dumps in a row for a light with the count's high and low byte at these places. An answer is the row of what they come to. The page holds
+    these bytes then and no other, and these of its places are marked. It has as many bytes as the light's, and the marks the right number, or
+    those given."""
+    dumps = [text.encode("latin-1") if isinstance(text, str) else text for text in dumps]
+    page = length if page is None else page
+    marks = (page + 7) // 8 if marks is None else marks
+    light = first, length, *places
+    row, buffers = dump_row(dumps, light, bytes([PAGE]) * page, bytes([MARKS]) * marks)
+    if answer is not None and row != answer.split("; "):
+        sys.exit(f"the model answers {row}, not {answer}, to the dumps {dumps} for the light {light}")
+    if holds is not None and buffers != (bytes(holds.get(p, PAGE) for p in range(page)), row_of(marked, marks)):
+        sys.exit(f"the model leaves {buffers} after the dumps {dumps} for the light {light}")
+    cases.append(" ".join([f"K {spelt(light)} {page:X} {marks:X}", *(text.hex().upper() for text in dumps)]))
+    answers.append("; ".join(row) + "".join(f" |{told_long(buffer)}" for buffer in buffers or ()))
 
 
 def some_bytes(n, start=0):
@@ -1412,6 +1461,204 @@ def of_asks_by_chance():
         ask_case(ended(*lines, *([END] if numbers.below(16) else [])), addresses[numbers.below(len(addresses))])
 
 
+def count_of(number, places=(0, 1), more=()):
+    """A dump that states a count at these offsets, its high byte first, and then these records."""
+    return ended(*(record(0, place, bytes([byte])) for place, byte in zip(places, divmod(number, 256))), *more, END)
+
+
+def counts_of(*numbers, places=(0, 1)):
+    return [count_of(number, places) for number in numbers]
+
+
+def of_lights():
+    heading("lights: set-up, places inside and outside")
+    for length, *places in ((0, 0, 0), (1, 1, 0), (1, 0, 1), (8, 8, 0), (8, 0, 8), (8, 8, 8), (8, 9, 7), (65536, 65536, 0), (65536, 0, 65536)):
+        light_case([ended(END)], "! 24", places, length=length)
+    light_case(counts_of(5), "! 24", (0x12000, 0x12001), 0x12000, 8)
+    for places in ((2**32, 1), (0, 2**32 + 1), (2**63, 2**63), (TOP, TOP)):
+        light_case(counts_of(5), "! 24", places)
+    light_case(counts_of(5), "! 24", (4, 4), page=5, marks=9)
+    light_case(counts_of(5), "! 24", (2, 0), 2**32 - 1, 2)
+    light_case(["", "x"], "! 24", (0, 4))
+    heading("lights: set-up with the last place, and with any window")
+    light_case([count_of(0x1234, (7, 6))], "first 1234 A 2", (7, 6), length=8, holds={7: 0x12, 6: 0x34}, marked={6, 7})
+    light_case([count_of(0x0101, (0, 0))], "first 0101 A 2", (0, 0), length=1, holds={0: 1}, marked={0})
+    light_case(counts_of(5, 6), "broken - ! 16 @0; broken - ! 16 @0", first=2**32 - 1, length=2)
+    light_case(counts_of(5, 6), "broken - ! 16 @0; broken - ! 16 @0", length=2**32, page=4)
+    light_case(counts_of(5), "broken - ! 16 @0", (TOP - 1, TOP - 1), 2**32 - 1, TOP, page=4)
+    light_case([""], "broken - ! 16 @0", first=2**32 - 3)
+
+
+# What a light can show.
+COLORS = "broken", "no-count", "first", "green", "stale", "restarted"
+# The color of a count by how far it moved.
+MOVED = {0: "stale", 1: "green", 256: "green", 32767: "green", 32768: "restarted", 32769: "restarted", 65535: "restarted"}
+
+
+def of_moved_counts():
+    heading("lights: the count moved by 0, 1, 256, 32,767, 32,768, 32,769 and 65,535, from both ends and from the middle")
+    for known in (0, 0x00FF, 0x7FFF, 0x8000, 0xFFFF):
+        for step, color in MOVED.items():
+            count = (known + step) % 65536
+            holds = {0: count // 256, 1: count % 256}
+            light_case(counts_of(known, count), f"first {known:04X} A 2; {color} {count:04X} A 2", holds=holds, marked={0, 1})
+    heading("lights: the first count, whatever it is, and all colors in a row")
+    for count in (0, 1, 256, 0x8000, 0xCCCC, 0xFFFF):
+        light_case(counts_of(count), f"first {count:04X} A 2", holds={0: count // 256, 1: count % 256}, marked={0, 1})
+    light_case([*counts_of(5), "", ended(END), *counts_of(6, 6, 5)],
+               "first 0005 A 2; broken 0005 ! 13 @0; no-count 0005 A 0; green 0006 A 2; stale 0006 A 2; restarted 0005 A 2", holds={0: 0, 1: 5}, marked={0, 1})
+
+
+def of_known_counts():
+    five, none = count_of(5), ended(END)
+    heading("lights: what forgets the count: neither a dump without it nor a broken one, and a restart remembers")
+    light_case([five, none, five], "first 0005 A 2; no-count 0005 A 0; stale 0005 A 2", holds={0: 0, 1: 5}, marked={0, 1})
+    light_case([five, "x", count_of(6)], "first 0005 A 2; broken 0005 ! 1 @1; green 0006 A 2", holds={0: 0, 1: 6}, marked={0, 1})
+    light_case(counts_of(5, 4, 4), "first 0005 A 2; restarted 0004 A 2; stale 0004 A 2", holds={0: 0, 1: 4}, marked={0, 1})
+    light_case(counts_of(5, 4, 5), "first 0005 A 2; restarted 0004 A 2; green 0005 A 2", holds={0: 0, 1: 5}, marked={0, 1})
+    light_case([five, none], "first 0005 A 2; no-count 0005 A 0", holds={0: 0, 1: 5}, marked=())
+    light_case([five, "x"], "first 0005 A 2; broken 0005 ! 1 @1", holds={0: 0, 1: 5}, marked={0, 1})
+    light_case([five, none, "x", none, "x", five], "first 0005 A 2; no-count 0005 A 0; broken 0005 ! 1 @1; no-count 0005 A 0; broken 0005 ! 1 @1; stale 0005 A 2")
+    light_case([five, none, "x", none, count_of(4)], "first 0005 A 2; no-count 0005 A 0; broken 0005 ! 1 @1; no-count 0005 A 0; restarted 0004 A 2")
+    heading("lights: nothing is known before the first count")
+    light_case([none], "no-count - A 0", holds={}, marked=())
+    light_case(["x"], "broken - ! 1 @1")
+    light_case([none, none, five], "no-count - A 0; no-count - A 0; first 0005 A 2", holds={0: 0, 1: 5}, marked={0, 1})
+    light_case(["x", "x", count_of(0xFFFF)], "broken - ! 1 @1; broken - ! 1 @1; first FFFF A 2", holds={0: 0xFF, 1: 0xFF}, marked={0, 1})
+    light_case(["x", none, "x", *counts_of(0, 0)], "broken - ! 1 @1; no-count - A 0; broken - ! 1 @1; first 0000 A 2; stale 0000 A 2", holds={0: 0, 1: 0}, marked={0, 1})
+    heading("lights: the same dump twice is never green the second time")
+    half, whole = ended(record(0, 0, b"\1"), END), ended(record(0, 0, b"\0\1\2\3"), STARTS[1], END)
+    for dump, once, twice in ((five, "green 0005 A 2", "stale 0005 A 2"), (none, "no-count FFFE A 0", "no-count FFFE A 0"), ("x", "broken FFFE ! 1 @1", "broken FFFE ! 1 @1"),
+                              (half, "no-count FFFE A 1", "no-count FFFE A 1"), (whole, f"green 0001 A 1 {STARTS_SAID[1]}", f"stale 0001 A 1 {STARTS_SAID[1]}"),
+                              (count_of(0xFFFD), "restarted FFFD A 2", "stale FFFD A 2")):
+        light_case([count_of(0xFFFE), dump, dump], f"first FFFE A 2; {once}; {twice}")
+        light_case([dump, dump], f"{once}; {twice}".replace("green", "first").replace("restarted", "first").replace("FFFE", "-"))
+    heading("lights: empty texts, before, between and after others")
+    light_case([""], "broken - ! 13 @0")
+    light_case(["", five, "", "", five, ""],
+               "broken - ! 13 @0; first 0005 A 2; broken 0005 ! 13 @0; broken 0005 ! 13 @0; stale 0005 A 2; broken 0005 ! 13 @0", holds={0: 0, 1: 5}, marked={0, 1})
+
+
+def of_broken_dumps():
+    heading("lights: each refusal between two counts, and the page as the dump before left it")
+    known = {0: 0, 1: 5}
+    for line, said in zip(BAD, BAD_SAID):
+        bad = ended(record(0, 0, b"\1\2"), line, END)
+        told = f"broken - {said} @2; first 0005 A 2; broken 0005 {said} @2; green 0006 A 2; broken 0006 {said} @2"
+        light_case([bad, count_of(5), bad, count_of(6), bad], told, holds={0: 0, 1: 6}, marked={0, 1})
+        light_case([count_of(5) + line, count_of(6) + line], "first 0005 A 2; green 0006 A 2", holds={0: 0, 1: 6}, marked={0, 1})
+    for text, said in ((ended(record(0, 0, b"\1\2")), "! 13 @0"), (ended(record(0, 0, b"\1\2\3\4\5"), END), "! 17 00000004 @1"),
+                       (count_of(6, more=[*STARTS]), "! 21 @4"), (count_of(6, more=[LINEAR, ONE]), "! 17 00010002 @4")):
+        light_case([count_of(5), text], f"first 0005 A 2; broken 0005 {said}", holds=known, marked={0, 1})
+        light_case([text, count_of(5), text, count_of(5)], f"broken - {said}; first 0005 A 2; broken 0005 {said}; stale 0005 A 2", holds=known, marked={0, 1})
+    heading("lights: a page of another length, and marks of another length")
+    for length, pages in ((4, (0, 1, 3, 5, 8, 65536)), (8, (7, 9)), (65536, (0, 65535, 65537)), (65537, (65536, 65537))):
+        for page in pages:
+            light_case(counts_of(5), "broken - ! 16 @0", length=length, page=page)
+    for length, sizes in ((4, (0, 2, 4)), (8, (0, 2, 8)), (9, (1, 3)), (65536, (8191, 8193, 65536))):
+        for marks in sizes:
+            light_case([count_of(5), "x"], "broken - ! 16 @0; broken - ! 16 @0", length=length, marks=marks)
+    light_case(counts_of(5, 6), "first 0005 A 2; green 0006 A 2", length=65536, holds={0: 0, 1: 6}, marked={0, 1})
+    light_case([count_of(5, (0xFFFF, 0)), "", count_of(6, (0xFFFF, 0))], "first 0005 A 2; broken 0005 ! 13 @0; green 0006 A 2", (0xFFFF, 0), length=65536,
+               holds={0xFFFF: 0, 0: 6}, marked={0xFFFF, 0})
+
+
+def of_stated_counts():
+    high, low = record(0, 0, b"\0"), record(0, 1, b"\5")
+    heading("lights: one place marked, whatever the page holds from before")
+    for place, held in ((0, {0: 7, 1: 5}), (1, {0: 0, 1: 7})):
+        half = ended(record(0, place, b"\7"), END)
+        light_case([half], "no-count - A 1", holds={place: 7}, marked={place})
+        light_case([count_of(5), half], "first 0005 A 2; no-count 0005 A 1", holds=held, marked={place})
+        light_case([count_of(5), half, half, count_of(6)], "first 0005 A 2; no-count 0005 A 1; no-count 0005 A 1; green 0006 A 2", holds={0: 0, 1: 6}, marked={0, 1})
+    light_case([ended(high, END), ended(low, END), ended(high, low, END)], "no-count - A 1; no-count - A 1; first 0005 A 2", holds={0: 0, 1: 5}, marked={0, 1})
+    light_case([count_of(5), ended(record(0, 2, b"\7\7"), END)], "first 0005 A 2; no-count 0005 A 1", holds={0: 0, 1: 5, 2: 7, 3: 7}, marked={2, 3})
+    light_case([ended(record(0, 0, b""), record(0, 1, b""), END)], "no-count - A 2", holds={}, marked=())
+    heading("lights: a count after the end record, stated twice, and in any order of its bytes")
+    light_case([ended(END, high, low)], "no-count - A 0", holds={}, marked=())
+    light_case([ended(high, END, low), count_of(5) + count_of(9)], "no-count - A 1; first 0005 A 2", holds={0: 0, 1: 5}, marked={0, 1})
+    light_case([ended(high, low, record(0, 0, b"\1\6"), END), count_of(0x0106)], "first 0106 A 3; stale 0106 A 2", holds={0: 1, 1: 6}, marked={0, 1})
+    light_case([ended(record(0, 0, b"\1\6"), low, END), count_of(0x0105)], "first 0105 A 2; stale 0105 A 2", holds={0: 1, 1: 5}, marked={0, 1})
+    light_case([ended(low, high, END), ended(record(0, 0, b"\0\5"), END)], "first 0005 A 2; stale 0005 A 1", holds={0: 0, 1: 5}, marked={0, 1})
+    light_case([ended(high, SEGMENT, record(4, 0, b"\0\0"), low, END)], "first 0005 A 2", holds={0: 0, 1: 5}, marked={0, 1})
+    light_case([ended(OTHER_SEGMENT, high, record(2, 0, b"\x11\xff"), record(0, 0x11, b"\5"), END)], "first 0005 A 2", first=0x12000, holds={0: 0, 1: 5}, marked={0, 1})
+    heading("lights: line ends, empty lines, small letters, a last line without LF, and starts")
+    whole = ended(record(0, 0, b"\xab\xcd"), END)
+    for text in (whole, whole.lower(), whole[:-1], whole.replace("\n", "\r\n"), "\n\r\n" + whole.replace("\n", "\n\n"), whole + "garbage"):
+        light_case([text, count_of(0xABCE)], "first ABCD A 1; green ABCE A 2", holds={0: 0xAB, 1: 0xCE}, marked={0, 1})
+    for start, said in zip(STARTS, STARTS_SAID):
+        light_case([count_of(5, more=[start, start]), ended(start, END)], f"first 0005 A 2 {said}; no-count 0005 A 0 {said}", holds={0: 0, 1: 5}, marked=())
+
+
+def of_places_of_counts():
+    heading("lights: equal places, and the low byte before the high one")
+    ones = [ended(record(0, 1, bytes([b])), END) for b in (5, 5, 6, 5)]
+    light_case(ones, "first 0505 A 1; stale 0505 A 1; green 0606 A 1; restarted 0505 A 1", (1, 1), holds={1: 5}, marked={1})
+    light_case([ended(record(0, 0, b"\xff"), END), ended(record(0, 0, b"\0"), END)], "first FFFF A 1; green 0000 A 1", (0, 0), length=1, holds={0: 0}, marked={0})
+    light_case([ended(record(0, 0, b"\5"), END)], "no-count - A 1", (1, 1), holds={0: 5}, marked={0})
+    twos = [ended(record(0, 0, bytes([b, 5])), END) for b in (0, 1)]
+    light_case(twos, "first 0500 A 1; green 0501 A 1", (1, 0), holds={0: 1, 1: 5}, marked={0, 1})
+    light_case(twos, "first 0005 A 1; green 0105 A 1", (0, 1), holds={0: 1, 1: 5}, marked={0, 1})
+    light_case([ended(record(0, 0, some_bytes(8, 1)), END)], "first 1D08 A 1", (4, 1), length=8, holds=dict(enumerate(some_bytes(8, 1))), marked=range(8))
+    heading("lights: places beside the bytes of the marks, and at both ends of a page")
+    for length, one, two in ((9, 7, 8), (9, 8, 7), (9, 0, 8), (17, 15, 16), (17, 16, 8), (24, 23, 0), (65529, 65528, 65527), (65536, 0, 65535), (65536, 65535, 65528)):
+        places = one, two
+        light_case(counts_of(0x12FF, 0x1300, places=places), "first 12FF A 2; green 1300 A 2", places, length=length, holds={one: 0x13, two: 0}, marked={one, two})
+        halves = [ended(record(0, place, b"\7"), END) for place in places]
+        light_case([count_of(5, places), *halves], "first 0005 A 2; no-count 0005 A 1; no-count 0005 A 1", places, length=length, holds={one: 7, two: 7}, marked={two})
+    light_case([ended(record(0, 0, some_bytes(16, 1)), END)], "no-count - A 1", (15, 16), length=17, holds=dict(enumerate(some_bytes(16, 1))), marked=range(16))
+    heading("lights: windows away from 0, and at the top of the addresses")
+    light_case([PLACED.replace(END, record(0, 6, b"\1") + "\n" + END)], "first 7701 A 2", (5, 6), 0x12000, 8, holds={5: 0x77, 6: 1}, marked={5, 6})
+    light_case(counts_of(5), "broken - ! 17 00000000 @1", first=1)
+    top = record(4, 0, b"\xff\xff")
+    for first, length in ((2**32 - 2, 2), (2**32 - 8, 8), (2**32 - 65536, 65536)):
+        places = length - 2, length - 1
+        dumps = [ended(top, record(0, 0xFFFE, bytes([b, 9])), END) for b in (0, 1)]
+        told, held = "first 0009 A 1; green 0109 A 1", {places[0]: 1, places[1]: 9}
+        light_case(dumps, told, places, first, length, holds=held, marked=places)
+        light_case([*dumps, ended(top, OVER, END)], f"{told}; broken 0109 ! 17 00000000 @2", places, first, length, holds=held, marked=places)
+
+
+def some_count(numbers, known):
+    """A count beside one that is known, or any."""
+    return (known + (0, 1, 2, 256, 32767, 32768, 65535, numbers.below(65536))[numbers.below(8)]) % 65536
+
+
+def some_dump(numbers, count, places, length):
+    """A dump with this count, in most cases, and other bytes."""
+    lines = [record(0, place, bytes([byte])) for place, byte in zip(places, divmod(count, 256)) if numbers.below(8)]
+    if numbers.below(4) == 0:
+        lines.append(record(0, numbers.below(length), bytes([numbers.below(256)])))
+    if numbers.below(12) == 0:
+        lines.append((*STARTS, ONE, LINEAR, *BAD)[numbers.below(13)])
+    return ended(*lines[::1 - 2 * numbers.below(2)], *([END] if numbers.below(12) else []))
+
+
+def of_lights_by_chance():
+    heading("lights by chance")
+    numbers = Numbers(32)
+    for _ in range(40):
+        length, first = 2 + numbers.below(16), (0, 0, 0, 1)[numbers.below(4)]
+        places = numbers.below(length), numbers.below(length + (numbers.below(8) == 0))
+        dumps, count = [], numbers.below(65536)
+        for _ in range(1 + numbers.below(8)):
+            count = some_count(numbers, count)
+            dumps.append(some_dump(numbers, count, places, length))
+        light_case(dumps, None, places, first, length)
+    heading("lights: long rows")
+    rising = [ended(record(0, 0, bytes([0, i])), END)[:-1] for i in range(70)]
+    light_case(rising, "; ".join(["first 0000 A 1", *(f"green {i:04X} A 1" for i in range(1, 70))]), holds={0: 0, 1: 69}, marked={0, 1})
+    light_case([END] * 150, "; ".join(["no-count - A 0"] * 150), holds={}, marked=())
+    light_case(["", *["0"] * 1300], "; ".join(["broken - ! 13 @0", *["broken - ! 1 @1"] * 1300]))
+    for _ in range(7):
+        dumps, count = [], numbers.below(65536)
+        for _ in range(70):
+            count = some_count(numbers, count)
+            text = ended(record(0, 0, count.to_bytes(2, "big")), END)[:-1]
+            dumps.append((END, "", text[1:], text[:16], text, text, text, text)[numbers.below(8)])
+        light_case(dumps)
+
+
 def of_chance_again():
     numbers = Numbers(2026)
     texts = []
@@ -1490,6 +1737,22 @@ def make_all():
     of_refused_asks()
     of_asks_and_lines()
     of_asks_by_chance()
+    of_lights()
+    of_moved_counts()
+    of_known_counts()
+    of_broken_dumps()
+    of_stated_counts()
+    of_places_of_counts()
+    of_lights_by_chance()
+
+
+def said_in(case, answer):
+    """The answers in an answer, without the buffers; of a dump also what its load answers."""
+    for part in answer.split("; "):
+        said = part.split(" |")[0]
+        yield said
+        if case.startswith("K") and not said.startswith("!"):
+            yield said.split(" ", 2)[2]
 
 
 def hold_to_every_answer():
@@ -1497,11 +1760,12 @@ def hold_to_every_answer():
     told = {c[0]: set() for c in cases}
     for c, a in zip(cases, answers):
         assert len(c) <= 4096, f"a case is too long: {c}"
-        told[c[0]].update(part.split(" |")[0] for part in a.split("; "))
+        told[c[0]].update(said_in(c, a))
     kinds = ["D", "E", "X2", "X3", "X4", "X5"]
     for form, wanted in (("L", [*kinds, *range(1, 11)]), ("T", [*kinds, "done", *range(1, 11)]), ("W", ["W", 11, 12, 15]),
                          ("O", ["W", *range(11, 16)]), ("M", ["A", *range(1, 10), 13, 16, 17, 21]),
-                         ("N", ["A", *range(1, 10), 13, 17, 21, 23]), ("Q", ["B", "none", *range(1, 10), 13, 21])):
+                         ("N", ["A", *range(1, 10), 13, 17, 21, 23]), ("Q", ["B", "none", *range(1, 10), 13, 21]),
+                         ("K", [*COLORS, "A", *range(1, 10), 13, 16, 17, 21, 24])):
         for w in (f"! {w}" if isinstance(w, int) else w for w in wanted):
             assert any(t == w or t.startswith(w + " ") for t in told[form]), f"no case {form} is answered {w}"
 
@@ -1524,7 +1788,7 @@ def main():
         size += len(text)
         store(name, text)
     number = sum(not c.startswith("#") for c in cases)
-    forms = ", ".join(f"{sum(c.startswith(form) for c in cases)} {form}" for form in "CLTWOMNQ")
+    forms = ", ".join(f"{sum(c.startswith(form) for c in cases)} {form}" for form in "CLTWOMNQK")
     print(f"{number} cases ({forms}), {size} bytes in the two files")
 
 

@@ -1,4 +1,4 @@
-"""A model of the record reader of documents 01 and 02, of packed marks, of a salvage and of an ask, which shares nothing with the port."""
+"""A model of the record reader of documents 01 and 02, of packed marks, of a salvage, of an ask and of a light, which shares nothing with the port."""
 import re
 
 
@@ -132,3 +132,19 @@ def asked(text, address):
             if address == ((base + offset + i) % 2**32 if linear else base + (offset + i) % 65536):
                 found = f"B {byte:02X}"
     return "! 13 @0"
+
+
+def lit(history, high, low):
+    """What a light shows after a row of dumps, and the count that is known then, by the whole row. A dump is None if it was refused, and
+    otherwise the byte that it states at each place."""
+    last = history[-1]
+    counts = [256 * dump[high] + dump[low] for dump in history if dump is not None and high in dump and low in dump]
+    known = counts[-1] if counts else None
+    if last is None:
+        return "broken", known
+    if high not in last or low not in last:
+        return "no-count", known
+    if len(counts) == 1:
+        return "first", known
+    moved = (counts[-1] - counts[-2]) % 65536
+    return "stale" if moved == 0 else "green" if moved < 32768 else "restarted", known

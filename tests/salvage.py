@@ -54,7 +54,7 @@ ran('a damaged end record', SCRIPT, 1, END, b"line 1: invalid checksum 'FF', exp
 
 # ---- the files of samples/, and what the model makes of others
 
-for name in sorted(os.listdir(os.path.join(ROOT, 'samples'))):
+for name in sorted(entry.name for entry in os.scandir(os.path.join(ROOT, 'samples')) if entry.is_file()):
     with open(os.path.join(ROOT, 'samples', name), 'rb') as f:
         sample = f.read()
     clean, dropped = model.salvaged(sample)

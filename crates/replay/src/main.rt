@@ -10,6 +10,9 @@
 //   N OWNER POOL MARKS BYTES WINDOW WINDOW ..
 //                                  the text of these bytes, loaded for OWNER through a table into a pool of POOL bytes, with MARKS bytes of marks
 //   Q ADDRESS BYTES                the text of these bytes, asked for the byte at ADDRESS
+//   K FIRST LENGTH HIGH LOW PAGE MARKS BYTES BYTES ..
+//                                  a light for a page of LENGTH places from the address FIRST on, with the count's bytes at the places HIGH and LOW,
+//                                  and each of these texts as a dump into one page of PAGE bytes with MARKS bytes of marks
 //
 // A record is its type, two numbers, and the position and the length of its payload. The first number
 // is the offset of data and the number of types 02 to 05 (of 03: CS, and the second is IP). Bit 0 of
@@ -17,10 +20,11 @@
 // with both stops on. A text is read by a reader that holds it. For each answer one reader is opened, and
 // asked in a loop from the first answer up to that one. An object is written from a lent list, of at most
 // 64 records. A window is its owner, its first address, its length and its place in the pool; a case has at
-// most 17.
+// most 17. A case of K has at least one dump, with one space before each; an empty word is an empty text. A
+// dump finds the page and the marks as the one before it left them.
 //
 // A lent buffer holds one byte in each place before the call: pool EE, output DD, page CC, marks AA.
-// After an answer stand ` | ` and the whole buffer; after one of M or N the page, and then the marks. A
+// After an answer stand ` | ` and the whole buffer; after one of M, N or K the page, and then the marks. A
 // page or marks of more than 64 bytes are told in runs, each as its byte, `<` and the place where it
 // ends. The answer is one of these:
 //
@@ -39,9 +43,17 @@
 // call, with a pool of 4,096 bytes, is told at the end without its pool. A first answer alone has no
 // ` @`. After a refusal of M, N or Q stand ` @` and the number of its line.
 //
+// The answer of K is `! 24` alone if the light is not set up. Otherwise it is what each dump comes to, with
+// `; ` between them: the color, which is broken, no-count, first, green, stale or restarted; the count that
+// is known after the dump, in four digits, or `-` if none is; and the answer of its load, as in M.
+//
 // The number of a refusal is in decimal, and every other number in hexadecimal with capitals. A
 // case that is none of these is answered by `?`. Each case ends in LF, and what a case has beyond
 // 4,096 bytes is dropped.
+use light::Color;
+use light::Count;
+use light::Light;
+use light::Made;
 use query::Asked;
 use reader::Answer;
 use reader::ReaderError;
@@ -67,6 +79,9 @@ const MOST_ANSWERS: usize = 40;
 
 // The most numbers of a table in a case: those of 17 windows.
 const MOST_NUMBERS: usize = 68;
+
+// How many numbers of a light stand before its dumps.
+const NUMBERS_OF_LIGHT: usize = 6;
 
 // How many bytes of a buffer are printed one by one at most: of a page and of marks, and of any other.
 const MOST_OF_PAGE: usize = 64;
@@ -563,12 +578,126 @@ fn load_through(
     say_loaded(l, pool, marks);
 }
 
-// Lends marks to a load of a page, or to one through a table whose numbers stand at `x`. The text of the case has the first address or the
-// owner, the page's size and the size of the marks.
-fn lend_marks(kind: u8, text: &[u8], bytes: &[u8], page: &mut [u8], x: usize) {
+fn say_word(word: &[u8]) {
+    io::write_all(1, word);
+}
+
+fn say_color(color: Color) {
+    match color {
+        Color::Broken => say_word(b"broken"),
+        Color::NoCount => say_word(b"no-count"),
+        Color::First => say_word(b"first"),
+        Color::Green => say_word(b"green"),
+        Color::Stale => say_word(b"stale"),
+        Color::Restarted => say_word(b"restarted"),
+    }
+}
+
+fn say_count(count: Count) {
+    match count {
+        Count::Unknown => say_char(b'-'),
+        Count::Known(x) => say_number(x as u64, 4),
+    }
+}
+
+// Runs the dump whose bytes begin at a position, prints what it comes to, and returns the light after it.
+fn say_dump(text: &[u8], from: usize, light: Light, page: &mut [u8], marks: &mut [u8]) -> Light {
+    let mut bytes = io::buffer();
+    let k = unspell(text, from, &mut bytes);
+    let d = light.dump(front(&bytes, k), page, marks);
+    let color = d.color;
+    let answer = d.answer;
+    let after = d.light;
+    let known = after.known;
+    say_color(color);
+    say_char(b' ');
+    say_count(known);
+    say_char(b' ');
+    say_loading(answer);
+    after
+}
+
+// How many words of digits follow the letter of a case, with one space before each; 0 if any other byte is among them.
+fn count_words(text: &[u8]) -> usize {
+    if text.len() < 2 {
+        return 0;
+    }
+    if text[1] != b' ' {
+        return 0;
+    }
+    let mut n = 1;
+    let mut i = 2;
+    while i < text.len() {
+        let b = text[i];
+        i += 1;
+        if b == b' ' {
+            n += 1;
+            continue;
+        }
+        if digits::digit_value(b) > 15 {
+            return 0;
+        }
+    }
+    n
+}
+
+// Runs the dumps of a case, the first of which begins at a position.
+fn say_dumps(text: &[u8], from: usize, made: Light, page: &mut [u8], marks: &mut [u8]) {
+    let words = count_words(text);
+    let mut light = made;
+    let mut n = NUMBERS_OF_LIGHT;
+    let mut i = from;
+    while n < words {
+        light = say_dump(text, i, light, page, marks);
+        let word = read_number(text, i);
+        i = word.next;
+        n += 1;
+        if n < words {
+            say_word(b"; ");
+        }
+    }
+}
+
+// Sets up the light of a case and runs its dumps, the first of which begins at a position.
+fn light_up(text: &[u8], from: usize, page: &mut [u8], marks: &mut [u8]) {
     let first = read_number(text, 2);
-    let size = read_number(text, first.next);
-    let row = read_number(text, size.next);
+    let length = read_number(text, first.next);
+    let high = read_number(text, length.next);
+    let low = read_number(text, high.next);
+    let made = light::set_up(
+        (first.value % ADDRESSES) as u32,
+        length.value as usize,
+        high.value as usize,
+        low.value as usize,
+    );
+    match made {
+        Made::BadPlace => say_refused(refusals::BAD_PLACE, 0, 0),
+        Made::Light(light) => {
+            say_dumps(text, from, light, page, marks);
+            say_buffer(page, MOST_OF_PAGE);
+            say_buffer(marks, MOST_OF_PAGE);
+        }
+    }
+}
+
+// Runs a case of M, N or K on the page and the marks that it lends. Its first text begins at a position.
+fn load_as(kind: u8, text: &[u8], from: usize, bytes: &[u8], page: &mut [u8], marks: &mut [u8]) {
+    if kind == b'K' {
+        light_up(text, from, page, marks);
+        return;
+    }
+    let first = read_number(text, 2);
+    if kind == b'N' {
+        let word = read_number(text, from);
+        load_through(text, word.next, bytes, first.value as usize, page, marks);
+        return;
+    }
+    load(bytes, (first.value % ADDRESSES) as u32, page, marks);
+}
+
+// Lends marks to a case of M, N or K; their size is the number at `x`.
+fn lend_marks(kind: u8, text: &[u8], bytes: &[u8], page: &mut [u8], x: usize) {
+    let row = read_number(text, x);
     let n = row.value as usize;
     let mut space = filled(MARKS_BYTE);
     let marks: &mut [u8] = &mut space;
@@ -576,16 +705,7 @@ fn lend_marks(kind: u8, text: &[u8], bytes: &[u8], page: &mut [u8], x: usize) {
         say_char(b'?');
         return;
     }
-    if kind == b'N' {
-        load_through(text, x, bytes, first.value as usize, page, &mut marks[0..n]);
-        return;
-    }
-    load(
-        bytes,
-        (first.value % ADDRESSES) as u32,
-        page,
-        &mut marks[0..n],
-    );
+    load_as(kind, text, row.next, bytes, page, &mut marks[0..n]);
 }
 
 fn say_asked(a: Asked) {
@@ -609,22 +729,32 @@ fn ask_case(text: &[u8], address: u32, from: usize) {
     say_asked(a);
 }
 
-// Runs a case on the buffer that it lends, of which M and N alone may have more than 4,096 bytes. `x` is the position of L, the flags of T, and
-// where the records of O and the windows of N begin.
+// Whether a case lends a page, and marks with it.
+fn has_page(kind: u8) -> bool {
+    match kind {
+        b'M' => true,
+        b'N' => true,
+        b'K' => true,
+        _ => false,
+    }
+}
+
+// Runs a case on the buffer that it lends; only a page may have more than 4,096 bytes. `x` is the position of L, the flags of T, where the records
+// of O begin, and where the size of the marks is.
 fn run(kind: u8, text: &[u8], bytes: &[u8], lent: &mut [u8], x: usize) {
+    if has_page(kind) {
+        lend_marks(kind, text, bytes, lent, x);
+        return;
+    }
     if lent.len() > MOST_OF_POOL {
-        if kind != b'M' && kind != b'N' {
-            say_char(b'?');
-            return;
-        }
+        say_char(b'?');
+        return;
     }
     match kind {
         b'C' => say_checksum(bytes),
         b'L' => read_line(bytes, lent, x),
         b'T' => read_text(bytes, lent, x),
         b'W' => write_line(text, bytes, lent),
-        b'M' => lend_marks(kind, text, bytes, lent, x),
-        b'N' => lend_marks(kind, text, bytes, lent, x),
         _ => write_object(text, x, bytes, lent),
     }
 }
@@ -653,11 +783,22 @@ fn record_case(text: &[u8]) {
     lending_case(b'W', OUTPUT_BYTE, text, size.next, size.value as usize, 0);
 }
 
-// A load, into a page or through a table, whose windows stand after its bytes.
+// A case that lends a page of so many bytes; the size of the marks is the number at `from`.
 fn load_case(kind: u8, text: &[u8], size: usize, from: usize) {
     let marks = read_number(text, from);
-    let bytes = read_number(text, marks.next);
-    lending_case(kind, PAGE_BYTE, text, marks.next, size, bytes.next);
+    lending_case(kind, PAGE_BYTE, text, marks.next, size, from);
+}
+
+// A light and its dumps; the place of the count's high byte is the number at `from`.
+fn light_case(text: &[u8], from: usize) {
+    if count_words(text) <= NUMBERS_OF_LIGHT {
+        say_char(b'?');
+        return;
+    }
+    let high = read_number(text, from);
+    let low = read_number(text, high.next);
+    let page = read_number(text, low.next);
+    load_case(b'K', text, page.value as usize, page.next);
 }
 
 // The answer to a case.
@@ -682,6 +823,7 @@ fn answer(text: &[u8]) {
         b'M' => load_case(b'M', text, y, b.next),
         b'N' => load_case(b'N', text, y, b.next),
         b'Q' => ask_case(text, (a.value % ADDRESSES) as u32, a.next),
+        b'K' => light_case(text, b.next),
         _ => say_char(b'?'),
     }
 }
