@@ -9,8 +9,8 @@
 //! [`Record::from_record_bytes`]), line numbers and columns ([`Reader::numbered`],
 //! [`ReaderError::column`]), a text that comes in chunks ([`ChunkReader`]), the loading of a text
 //! into a page with marks, and its start ([`load`], [`Marks`], [`Start`]), the loads of two owners into one
-//! pool ([`Table`]), the writing of such a page ([`write_page`]), one byte of a text without a page ([`ask`]), what
-//! can be saved of a noisy capture ([`salvage`](fn@salvage)), and S-records ([`srec`]).
+//! pool ([`Table`]), the writing of such a page ([`write_page`]), one byte of a text without a page ([`ask`]), the
+//! panel's light ([`Light`]), what can be saved of a noisy capture ([`salvage`](fn@salvage)), and S-records ([`srec`]).
 //!
 //! No function panics, whatever its arguments.
 //!
@@ -30,6 +30,7 @@
 
 mod checksum;
 mod chunks;
+mod light;
 mod loader;
 mod marks;
 mod page;
@@ -43,6 +44,7 @@ mod writer;
 
 pub use checksum::*;
 pub use chunks::*;
+pub use light::*;
 pub use loader::*;
 pub use marks::*;
 pub use page::*;

@@ -63,7 +63,8 @@ pub enum LoadError {
     /// The text has no end record.
     MissingEndOfFileRecord,
     /// The marks do not have [`marks_len`](crate::marks_len) bytes for the places of the page, the page has
-    /// over 65,536 places, or it ends beyond 2^32.
+    /// over 65,536 places, or it ends beyond 2^32; at a dump, also if the page does not have the length that the
+    /// [`Light`](crate::Light) was made for.
     BadWindow,
     /// The pool or the marks do not have the length that the window table was made for.
     BadTable(BadTable),
@@ -136,7 +137,7 @@ impl fmt::Display for LoadError {
             LoadError::Line(refused) => refused.fmt(f),
             LoadError::SRecordLine { line, error } => write_line(f, *line, error.column(), error),
             LoadError::MissingEndOfFileRecord => write!(f, "text has no end of file record"),
-            LoadError::BadWindow => write!(f, "page and marks are no window"),
+            LoadError::BadWindow => write!(f, "page and marks do not fit the window"),
             LoadError::BadTable(why) => why.fmt(f),
             LoadError::OutsideWindow { line, address } => {
                 write!(
@@ -206,6 +207,9 @@ where
     );
     intel_result(code, line, start, [a, b, c])
 }
+
+/// What a load comes to, from its code, line, kind of start and values.
+pub(crate) type Outcome = fn(u32, usize, u8, [u64; 3]) -> Result<Loaded, LoadError>;
 
 /// What a load of Intel HEX comes to.
 pub(crate) fn intel_result(

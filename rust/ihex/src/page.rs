@@ -42,7 +42,7 @@ impl fmt::Display for PageError {
     fn fmt(&self, f: &mut fmt::Formatter) -> fmt::Result {
         match self {
             PageError::OutputFull => write!(f, "file is longer than the output"),
-            PageError::BadWindow => write!(f, "page and marks are no window"),
+            PageError::BadWindow => write!(f, "page and marks do not fit the window"),
             PageError::BadMark(place) => {
                 write!(f, "place {place} is marked, but the page has no such place")
             }

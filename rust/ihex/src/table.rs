@@ -3,7 +3,7 @@
 use std::error::Error;
 use std::fmt;
 
-use crate::loader::{self, LoadError, Loaded};
+use crate::loader::{self, LoadError, Loaded, Outcome};
 use crate::marks::marks_len;
 use crate::{srec, stranger};
 
@@ -203,9 +203,6 @@ type Load = fn(
     &mut u64,
     &mut u64,
 ) -> u32;
-
-/// What a load comes to, from its code, line, kind of start and values.
-type Outcome = fn(u32, usize, u8, [u64; 3]) -> Result<Loaded, LoadError>;
 
 impl Table {
     /// A table of these windows for a pool of so many bytes, or the first limit that it breaks. The limits are looked at

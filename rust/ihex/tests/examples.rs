@@ -32,6 +32,7 @@ example!(srecord, "../examples/srecord.rs");
 example!(srecords, "../examples/srecords.rs");
 example!(table, "../examples/table.rs");
 example!(ask, "../examples/ask.rs");
+example!(light, "../examples/light.rs");
 
 /// Each block of Rust in rust/README.md is a run of lines of the example that is named last before it, with four blanks
 /// less at the beginning of each.

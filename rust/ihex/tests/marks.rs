@@ -1,9 +1,12 @@
 //! Marks, one bit a place: read through `Marks` they are what the single bits say, and a load leaves them
 //! right in windows of each length, whatever they held before.
 
+mod chance;
+
 use std::iter::once;
 use std::ops::Range;
 
+use chance::Chance;
 use ihex::{
     load, marks_len, page_file_length, write_page, LoadError, Marks, PageError, Record, Runs,
 };
@@ -38,29 +41,6 @@ fn data(place: usize, value: &[u8]) -> String {
         offset: place as u16,
         value: value.to_vec(),
     })
-}
-
-/// Bytes that look random.
-struct Chance(u64);
-
-impl Chance {
-    fn byte(&mut self) -> u8 {
-        self.0 = self.0.wrapping_mul(6_364_136_223_846_793_005);
-        self.0 = self.0.wrapping_add(1_442_695_040_888_963_407);
-        (self.0 >> 56) as u8
-    }
-
-    /// A row of so many bytes, at times with long runs and long gaps.
-    fn row(&mut self, len: usize) -> Vec<u8> {
-        let plain = self.byte() % 2 == 0;
-        let mut byte = || match self.byte() {
-            any if plain => any,
-            0..=99 => 0,
-            100..=199 => 0xFF,
-            any => any,
-        };
-        (0..len).map(|_| byte()).collect()
-    }
 }
 
 /// The runs of marked places, by a walk over single bits.

@@ -313,7 +313,11 @@ fn the_longest_file_has_458_810_bytes() {
 fn refusals_print_and_have_numbers() {
     for (error, number, text) in [
         (PageError::OutputFull, 15, "file is longer than the output"),
-        (PageError::BadWindow, 16, "page and marks are no window"),
+        (
+            PageError::BadWindow,
+            16,
+            "page and marks do not fit the window",
+        ),
         (
             PageError::BadMark(7),
             19,

@@ -366,7 +366,7 @@ const LOAD_ERRORS: [(LoadError, u32, Option<usize>, &str); 5] = [
         LoadError::BadWindow,
         16,
         None,
-        "page and marks are no window",
+        "page and marks do not fit the window",
     ),
     (
         LoadError::OutsideWindow {

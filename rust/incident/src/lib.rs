@@ -1,11 +1,13 @@
-//! The incident, shown: a receive buffer that holds a new dump and, behind its end record, the tail
-//! of an old one; through a gateway's loop over the crate ihex 3.0.0, and through the port's loader.
+//! The incident, shown: a receive buffer that holds a new dump and, after its end record, the tail
+//! of an old one; through a gateway's loop over the crate ihex 3.0.0, and through the library's loader.
+//! Then the evening: buffer after buffer, with the old light beside the library's.
 #![forbid(unsafe_code)]
 
+pub mod evening;
 pub mod gateway;
 pub mod shown;
 
-use ihex::marks_len;
+use ihex::{marks_len, Color, Light};
 
 /// The address of the window's first place.
 pub const FIRST: u32 = 0x2000_0100;
@@ -40,7 +42,18 @@ pub fn by_crate(text: &[u8], stop_after_eof: bool) -> Side {
     Side::filled(|page, marks| gateway::fill(&text, stop_after_eof, FIRST, page, marks))
 }
 
-/// The port's loader.
+/// The library's loader.
 pub fn by_port(text: &[u8]) -> Side {
     Side::filled(|page, marks| ihex::load(text, FIRST, page, marks).map(|all| all.data_records))
+}
+
+/// The library's light, and what the load of its dump leaves.
+pub fn by_light(text: &[u8], light: &mut Light) -> (Color, Side) {
+    let mut color = Color::Broken;
+    let side = Side::filled(|page, marks| {
+        let dumped = light.dump(text, page, marks);
+        color = dumped.color;
+        dumped.load.map(|all| all.data_records)
+    });
+    (color, side)
 }

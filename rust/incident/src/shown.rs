@@ -5,7 +5,7 @@ use ihex::Marks;
 use crate::{Side, FIRST, PLACES};
 
 /// A value on the panel: two bytes of decimal digits, high byte first.
-struct Value {
+pub(crate) struct Value {
     address: u32,
     name: &'static str,
     unit: &'static str,
@@ -19,11 +19,18 @@ const fn value(address: u32, name: &'static str, unit: &'static str) -> Value {
     }
 }
 
+/// The head of the crate's side.
+pub(crate) const CRATES: &str = "crate, stop_after_eof off";
+
+/// What stands where a value is not drawn.
+pub(crate) const NOTHING: &str = "-";
+
 const TIME: Value = value(0x2000_0100, "time", "");
+pub(crate) const TANK_3: Value = value(0x2000_0114, "tank 3", " mm");
 const MEASURED: [Value; 7] = [
     value(0x2000_0110, "tank 1", " mm"),
     value(0x2000_0112, "tank 2", " mm"),
-    value(0x2000_0114, "tank 3", " mm"),
+    TANK_3,
     value(0x2000_0116, "tank 4", " mm"),
     value(0x2000_0118, "tank 5", " mm"),
     value(0x2000_0120, "inlet valve", " %"),
@@ -48,7 +55,7 @@ impl Value {
     }
 
     /// What the panel draws, if both bytes are marked.
-    fn drawn(&self, side: &Side) -> Option<String> {
+    pub(crate) fn drawn(&self, side: &Side) -> Option<String> {
         let [high, low] = self.bytes(side);
         let digits = u16::from_be_bytes([high, low]);
         match self.marked(side) {
@@ -63,7 +70,7 @@ impl Value {
 pub fn shown(text: &[u8], of_crate: Option<&Side>, of_port: &Side) -> String {
     let mut out = String::new();
     if of_crate.is_none() {
-        out += "the source of the crate ihex is not at hand: the port's side is shown alone\n\n";
+        out += "the source of the crate ihex is not at hand: the library's side is shown alone\n\n";
     }
     out += &buffer(text);
     out += &table(of_crate, of_port);
@@ -75,35 +82,34 @@ pub fn shown(text: &[u8], of_crate: Option<&Side>, of_port: &Side) -> String {
         );
     }
     out + &format!(
-        "\nThe panel, from the port's page:\n{}{LOADER}",
+        "\nThe panel, from the library's page:\n{}{LOADER}",
         panel(of_port)
     )
 }
 
-const LOADER: &str =
-    "  Nothing behind the end record is read: the loader has no switch for that.\n";
+const LOADER: &str = "  Nothing after the end record is read: the loader has no switch for that.\n";
 
-/// The buffer's lines, and which of them stand behind the end record.
+/// The buffer's lines, and which of them stand after the end record.
 fn buffer(text: &[u8]) -> String {
     let mut reader = ihex::ByteReader::new(text);
     let ends = reader.by_ref().last() == Some(Ok(ihex::Record::EndOfFile));
     let mut out = String::from("The receive buffer:\n\n");
     for (i, line) in String::from_utf8_lossy(text).lines().enumerate() {
-        let behind = if ends && i >= reader.line() {
-            "behind the end record"
+        let after = if ends && i >= reader.line() {
+            "after the end record"
         } else {
             ""
         };
-        out += &row(&format!("{:3}  {line:34}{behind}", i + 1));
+        out += &row(&format!("{:3}  {line:34}{after}", i + 1));
     }
     out + "\n"
 }
 
 fn table(of_crate: Option<&Side>, of_port: &Side) -> String {
-    let beside = of_crate.map(|side| ("crate, stop_after_eof off", side));
+    let beside = of_crate.map(|side| (CRATES, side));
     let sides: Vec<_> = beside
         .into_iter()
-        .chain([("port's loader", of_port)])
+        .chain([("library's loader", of_port)])
         .collect();
     let line = |left: [&str; 2], cell: &dyn Fn(&str, &Side) -> String| {
         let cells: String = sides
@@ -127,7 +133,7 @@ fn table(of_crate: Option<&Side>, of_port: &Side) -> String {
 
 fn cell(value: &Value, side: &Side) -> String {
     let ([a, b], [m, n]) = (value.bytes(side), value.marked(side).map(u8::from));
-    let drawn = value.drawn(side).unwrap_or_else(|| "-".into());
+    let drawn = value.drawn(side).unwrap_or_else(|| NOTHING.into());
     format!("{a:02X} {b:02X}  {m} {n}    {drawn}")
 }
 
@@ -138,7 +144,12 @@ fn answer(side: &Side) -> String {
     }
 }
 
-/// What the panel draws. Its light is green when a dump was accepted and states its time.
+/// The time that the old light is green beside. It is green when a dump was accepted and states its time.
+pub(crate) fn old_light(side: &Side) -> Option<String> {
+    TIME.drawn(side).filter(|_| side.answer.is_ok())
+}
+
+/// What the panel draws, with the old light.
 fn panel(side: &Side) -> String {
     if side.answer.is_err() {
         return "  nothing new: the dump was refused, and the light is not green.\n".into();
@@ -151,14 +162,14 @@ fn panel(side: &Side) -> String {
         .chunks(5)
         .map(|part| part.iter().map(said).collect::<Vec<_>>().join(", "))
         .collect();
-    let light = match TIME.drawn(side) {
-        Some(time) => format!("a green light beside the time {time}"),
-        None => "no green light, for no time is stated".into(),
+    let light = match old_light(side) {
+        Some(time) => format!("the old light is green, beside the time {time}"),
+        None => "the old light is not green, for no time is stated".into(),
     };
     format!("  {light};\n  {}.\n", lines.join(",\n  "))
 }
 
-/// What is wrong with the crate's panel, where it is not the port's.
+/// What is wrong with the crate's panel, where it is not the library's.
 fn old(of_crate: &Side, of_port: &Side) -> String {
     let wrong = MEASURED
         .iter()
@@ -168,12 +179,12 @@ fn old(of_crate: &Side, of_port: &Side) -> String {
         return String::new();
     }
     format!(
-        "  {wrong} of these are old: they come from behind the end record. The next dump brings a new\n  \
+        "  {wrong} of these are old: they come from after the end record. The next dump brings a new\n  \
          time, the tail is laid over it again, and the levels stand still under a green light.\n"
     )
 }
 
 /// A line, with no blanks at its end.
-fn row(line: &str) -> String {
+pub(crate) fn row(line: &str) -> String {
     format!("{}\n", line.trim_end())
 }

