@@ -6,8 +6,8 @@
 //! programs, each of which passes if a comparison finds it. `--write-stored` compares nothing: it
 //! stores the crate's answers to the cases of `replay`.
 //!
-//! IHEX_REPLAY has the command of the program `replay`, a word a line. Without it the lent forms are
-//! not compared, and a line that begins with '-- passed over:' says so.
+//! IHEX_REPLAY has the command of the program `replay`, a word a line. Without it neither the lent forms nor
+//! the lights of that program are compared, and a line that begins with '-- passed over:' says so.
 
 use std::env;
 use std::io;
@@ -17,7 +17,7 @@ use std::time::Instant;
 use oracle::comparisons::all::{of_chunks, of_face, of_port, show_seen};
 use oracle::comparisons::run::{Kind, Plan, Report};
 use oracle::comparisons::stored::List;
-use oracle::comparisons::{asks, dumps, pages, replay, salvage, srecords, tables};
+use oracle::comparisons::{asks, dumps, lights, pages, replay, salvage, srecords, tables};
 use oracle::subjects::port::Real;
 use oracle::subjects::program::{command, run};
 use oracle::subjects::the_crate::{keeps_last_cr, NO_SOURCE};
@@ -165,12 +165,12 @@ impl Counts {
         }
     }
 
-    /// Compares the lent forms by the program of this command, and says whether there is one.
+    /// Compares what the program of this command answers, and says whether there is one.
     fn compare_lent(&mut self, command: Option<Vec<String>>, plan: Plan) -> bool {
         match &command {
             Some(words) => self.compare(replay::of_program(&|cases| run(words, cases), plan)),
             None => println!(
-                "-- passed over: the lent forms: IHEX_REPLAY names no program; `rt check replay` builds it"
+                "-- passed over: the lent forms, and lights by replay: IHEX_REPLAY names no program; `rt check replay` builds it"
             ),
         }
         command.is_some()
@@ -188,6 +188,22 @@ impl Counts {
         }
     }
 
+    /// Looks for each wrong light by all that is compared, and for some of them by what must hold whatever a model says.
+    fn find_lights(&mut self, few: Plan) {
+        self.find("a light", wrong::lights::all(), |port| {
+            lights::of_port(port, few)
+        });
+        self.find("a light", wrong::lights::unlike_loads(), |port| {
+            lights::beside_loads(port, few)
+        });
+        self.find("a light", wrong::lights::green_again(), |port| {
+            lights::twice_running(port, few)
+        });
+        self.find("a light", wrong::lights::beyond_stops(), |port| {
+            lights::cut_off(port, few)
+        });
+    }
+
     fn compare_all(&mut self, plan: Plan) {
         self.compare(of_port(&Real, plan));
         self.compare(of_chunks(&Real, plan));
@@ -196,11 +212,16 @@ impl Counts {
         self.compare(salvage::of_port(&Real, plan));
         self.compare(tables::of_port(&Real, plan));
         self.compare(asks::of_port(&Real, plan));
+        self.compare(lights::of_port(&Real, plan));
         self.compare(of_face(plan));
         let lent = self.compare_lent(command(), plan);
         self.add(stored_agree());
         self.add(show_seen());
-        let few = few(plan);
+        self.find_all(lent, few(plan));
+    }
+
+    /// Looks for all that is wrong; for programs only if there is one.
+    fn find_all(&mut self, lent: bool, few: Plan) {
         self.find("a port", wrong::all::ports(), |port| of_port(port, few));
         self.find("a chunk reader", wrong::chunks::all(), |port| {
             of_chunks(port, few)
@@ -226,6 +247,7 @@ impl Counts {
         self.find("a port", wrong::asks::beside_loads(), |port| {
             asks::beside_loads(port, few)
         });
+        self.find_lights(few);
         if lent {
             let programs = wrong::replay::all();
             self.find("a replay", programs, |program| {

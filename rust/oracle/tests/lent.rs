@@ -1,12 +1,12 @@
-//! The comparison of the lent forms: its cases are within the limits of `replay` and call for every
-//! answer, and a program that answers wrongly, too little, too much or not at all is found.
+//! The comparison of the lent forms and of lights by way of `replay`: the cases are within its limits and call for
+//! every answer, and a program that answers wrongly, too little, too much or not at all is found.
 
 use std::io;
 
 use oracle::comparisons::replay::{of_program, shrunk, smallest, unlike, wrong};
 use oracle::comparisons::run::Plan;
 use oracle::inputs::chance::Chance;
-use oracle::inputs::lent::{first, list, text};
+use oracle::inputs::lent::{first, light, list, text};
 use oracle::inputs::replay::Given;
 use oracle::models::replay::answer;
 use oracle::subjects::program::{run, Program};
@@ -27,7 +27,7 @@ fn words(command: &[&str]) -> Vec<String> {
 
 #[test]
 fn each_case_is_told_as_its_line() {
-    for make in [text, first, list] {
+    for make in [text, first, list, light] {
         for case in &cases(make)[..200] {
             let again = Given::of(&case.line()).expect("a case within the limits");
             assert_eq!(again.line(), case.line());
@@ -49,10 +49,22 @@ fn every_answer_is_called_for() {
         "! 6 ", "! 7 ", "! 8 ", "! 9 ", "! 10 ",
     ];
     let written = ["W ", "! 11 ", "! 12 ", "! 13 ", "! 14 2", "! 14 3", "! 15 "];
+    let lit = [
+        "broken - ! 16 ",
+        "broken - ! 13 ",
+        "broken - ! 21 ",
+        "no-count - A 0",
+        "first ",
+        "green ",
+        "stale ",
+        "restarted ",
+        "! 24",
+    ];
     for (make, all) in [
         (text as fn(&mut Chance) -> Given, &read[..]),
         (first, &read[..]),
         (list, &written[..]),
+        (light, &lit[..]),
     ] {
         let answers: Vec<String> = cases(make).iter().map(answer).collect();
         for said in all {
@@ -72,8 +84,18 @@ fn lists_have_up_to_64_records_and_are_written() {
 }
 
 #[test]
+fn lights_have_up_to_6_dumps() {
+    let dumps = |case: &Given| match case {
+        Given::Light(light) => light.texts.len(),
+        _ => 0,
+    };
+    let lengths: Vec<usize> = cases(light).iter().map(dumps).collect();
+    assert!((1..=6).all(|n| lengths.contains(&n)));
+}
+
+#[test]
 fn right_answers_agree() {
-    for make in [text, first, list] {
+    for make in [text, first, list, light] {
         let found = unlike(&right, &cases(make)[..200]);
         assert_eq!(found, vec![None; 200]);
     }
@@ -111,7 +133,7 @@ fn what_is_no_answer_to_each_case_is_found() {
         altered(|_| Err(io::Error::new(io::ErrorKind::NotFound, "no such program"))),
     ];
     for (i, program) in wrong.iter().enumerate() {
-        for make in [text, first, list] {
+        for make in [text, first, list, light] {
             let found = unlike(program.as_ref(), &cases(make)[..9]);
             assert!(found.iter().any(Option::is_some), "{i}");
         }

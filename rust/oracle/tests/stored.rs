@@ -7,7 +7,7 @@ use oracle::comparisons::stored::List;
 use oracle::inputs::replay::Given;
 use oracle::models::replay::answer;
 
-const HEADINGS_AND_CASES: [(&str, &str); 27] = [
+const HEADINGS_AND_CASES: [(&str, &str); 33] = [
     ("# a heading", "# a heading"),
     ("C 01", "FF"),
     ("C", "00"),
@@ -58,10 +58,37 @@ const HEADINGS_AND_CASES: [(&str, &str); 27] = [
     ("Q FFFFFFFF 3A30303030303030314646", "none"),
     ("Q 0 0A3A304780", "! 2 0002 @2"),
     ("Q 0", "! 13 @0"),
+    (
+        "K 0 2 0 1 2 1 3A30323030303030303030303546390A3A3030303030303031\
+         4646 3A30323030303030303030303546390A3A30303030303030314646 3A30\
+         323030303030303030303646380A3A30303030303030314646",
+        "first 0005 A 1; stale 0005 A 1; green 0006 A 1 | 0006 | 03",
+    ),
+    (
+        "K 0 2 1 0 2 1 3A30323030303030303030303646380A3A3030303030303031\
+         4646 3A3031303030303030303046460A3A30303030303030314646 78 3A303\
+         23030303030303030303546390A3A30303030303030314646",
+        "first 0600 A 1; no-count 0600 A 1; broken 0600 ! 1 @1; restarted 0500 A 1 | 0005 | 03",
+    ),
+    (
+        "K 0 2 0 2 2 1 3A30323030303030303030303546390A3A30303030303030314646",
+        "! 24",
+    ),
+    ("K 0 2 0 1 2 1 ", "broken - ! 13 @0 | CCCC | AA"),
+    (
+        "K 0 2 0 1 3 1 3A30323030303030303030303546390A3A3030303030303031\
+         4646  80",
+        "broken - ! 16 @0; broken - ! 16 @0; broken - ! 16 @0 | CCCCCC | AA",
+    ),
+    (
+        "K FFFFFFFF 2 0 1 2 1 3A30323030303030303030303546390A3A303030303\
+         03030314646",
+        "broken - ! 16 @0 | CCCC | AA",
+    ),
 ];
 
 /// What `replay` takes another way, or not at all.
-const PASSED_OVER: [&str; 11] = [
+const PASSED_OVER: [&str; 15] = [
     "",
     "X 1",
     "Q 100000000",
@@ -73,6 +100,10 @@ const PASSED_OVER: [&str; 11] = [
     "W 6 0 0 0 0 C",
     "O C 00 1 0 0 0",
     "N 1 8 1 3A 1 0 8",
+    "K 0 2 0 1 2 1",
+    "K 0 2 0 1 2 1 0",
+    "K 100000000 2 0 1 2 1 ",
+    "K 0 2 0 1 10002 1 ",
 ];
 
 fn list() -> List {
@@ -90,11 +121,11 @@ fn right_answers_agree() {
     assert_eq!(outcome.report.smallest, None);
     assert_eq!(
         (outcome.report.inputs, outcome.report.disagreements),
-        (26, 0)
+        (32, 0)
     );
     assert_eq!(
         outcome.told,
-        "2 C, 3 L, 5 T, 1 W, 1 O, 7 M, 3 N, 4 Q; 3 of them no UTF-8, answered by the rule for bytes; 0 passed over"
+        "2 C, 3 L, 5 T, 1 W, 1 O, 7 M, 3 N, 4 Q, 6 K; 4 of them no UTF-8, answered by the rule for bytes; 0 passed over"
     );
 }
 
@@ -123,10 +154,10 @@ fn what_is_no_case_is_passed_over_and_kept() {
     let outcome = list.compare();
     assert_eq!(
         (outcome.report.inputs, outcome.report.disagreements),
-        (26, 0)
+        (32, 0)
     );
-    assert!(outcome.told.ends_with("; 12 passed over"));
-    assert_eq!(outcome.over, 12);
+    assert!(outcome.told.ends_with("; 16 passed over"));
+    assert_eq!(outcome.over, 16);
     assert_eq!(list.answered().answers, list.answers);
 }
 

@@ -3,8 +3,8 @@
 use crate::comparisons::run::{Kind, Plan};
 use crate::comparisons::seen::{Answers, Places};
 use crate::comparisons::{
-    asks, chunks, dumps, forms, joined, lines, loads, long, pages, salvage, srecords, sums, tables,
-    texts, writes,
+    asks, chunks, dumps, forms, joined, lights, lines, loads, long, pages, salvage, srecords, sums,
+    tables, texts, writes,
 };
 use crate::subjects::face::RealFace;
 use crate::subjects::port::Port;
@@ -43,6 +43,7 @@ pub fn of_face(plan: Plan) -> Vec<Kind<'static>> {
         salvage::of_face(plan),
         tables::of_face(plan),
         asks::of_face(plan),
+        lights::of_face(plan),
     ];
     parts.into_iter().flatten().collect()
 }
@@ -64,6 +65,7 @@ fn answers() -> impl Iterator<Item = &'static Answers> {
         .chain(&salvage::SEEN)
         .chain(&tables::SEEN)
         .chain(&asks::SEEN)
+        .chain(&lights::SEEN)
         .chain(&loads::SEEN_WRAPS)
 }
 

@@ -62,15 +62,20 @@ impl Lent {
         if !self.is_guarded() {
             return Some(format!("bytes around the {name} were written"));
         }
-        if self.bytes() == expected {
-            return None;
-        }
-        let at = (0..expected.len()).find(|&i| self.bytes().get(i) != expected.get(i))?;
-        let (is, should) = (self.bytes()[at], expected[at]);
-        Some(format!(
-            "{name}: byte {at} is {is:02X}, should be {should:02X}"
-        ))
+        first_unlike(name, self.bytes(), expected)
     }
+}
+
+/// The first byte that is not as it should be, if there is one. Both have the same length.
+pub fn first_unlike(name: &str, bytes: &[u8], expected: &[u8]) -> Option<String> {
+    if bytes == expected {
+        return None;
+    }
+    let at = (0..expected.len()).find(|&i| bytes.get(i) != expected.get(i))?;
+    let (is, should) = (bytes[at], expected[at]);
+    Some(format!(
+        "{name}: byte {at} is {is:02X}, should be {should:02X}"
+    ))
 }
 
 const MARK: u64 = 0xA5A5_5A5A_0F0F_F0F0;

@@ -134,7 +134,23 @@ pub fn by_port(
 ) -> Option<String> {
     let (mut page, mut marks, held, marked, should) = lent(case, model);
     note(should);
-    let text = Lent::holding(&case.text);
+    match guarded(&case.text, &mut page, &mut marks, load) {
+        Err(wrong) => Some(wrong),
+        Ok(is) if is != should => Some(format!("port {is:?}, model {should:?}")),
+        Ok(_) => page
+            .unlike("page", &held)
+            .or_else(|| marks.unlike("marks", &marked)),
+    }
+}
+
+/// What a loader of the port answers, if it leaves the text and what lies beside the numbers that are lent to it.
+pub fn guarded(
+    given: &[u8],
+    page: &mut Lent,
+    marks: &mut Lent,
+    load: impl FnOnce(&[u8], &mut [u8], &mut [u8], Places, Values) -> u32,
+) -> Result<LoadAnswer, String> {
+    let text = Lent::holding(given);
     let mut numbers = Numbers::default();
     let (mut lines, mut starts) = ([3, 5, 7], [3, 7, 5]);
     let code = load(
@@ -146,7 +162,7 @@ pub fn by_port(
     );
     let beside = (lines[0], lines[2], starts[0], starts[2]);
     if !numbers.is_guarded() || beside != (3, 7, 3, 5) {
-        return Some("numbers beside the lent ones were written".into());
+        return Err("numbers beside the lent ones were written".into());
     }
     let is = LoadAnswer {
         code,
@@ -154,16 +170,11 @@ pub fn by_port(
         start: starts[1],
         values: numbers.values(),
     };
-    if is != should {
-        return Some(format!("port {is:?}, model {should:?}"));
-    }
-    page.unlike("page", &held)
-        .or_else(|| marks.unlike("marks", &marked))
-        .or_else(|| text.unlike("text", &case.text))
+    text.unlike("text", given).map_or(Ok(is), Err)
 }
 
 /// What the face answers, in the form of the port's answers.
-fn as_port(answer: Result<Loaded, LoadError>) -> LoadAnswer {
+pub fn as_port(answer: Result<Loaded, LoadError>) -> LoadAnswer {
     let start = |start| match start {
         Start::Segment { cs, ip } => (3, cs.into(), ip.into()),
         Start::Linear(address) => (5, address.into(), 0),

@@ -8,6 +8,7 @@ pub mod dumps;
 pub mod forms;
 pub mod joined;
 pub mod lent;
+pub mod lights;
 pub mod lines;
 pub mod loads;
 pub mod long;

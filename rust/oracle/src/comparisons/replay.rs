@@ -1,11 +1,11 @@
 //! The two lent forms, a reader that holds its text and an object from a lent list, by way of the program
-//! `replay`. It asks one reader in a loop for each answer of a text.
+//! `replay`. It asks one reader in a loop for each answer of a text. Lights go by way of it too.
 
 use std::time::Instant;
 
 use crate::comparisons::run::{block_of, blocks, search, Kind, Plan, Report, A_BLOCK};
 use crate::inputs::chance::Chance;
-use crate::inputs::lent::{first, list, text};
+use crate::inputs::lent::{first, light, list, text};
 use crate::inputs::replay::Given;
 use crate::inputs::shrink::Case;
 use crate::models::replay::answer;
@@ -114,5 +114,6 @@ pub fn of_program<'a>(program: &'a Program, plan: Plan) -> Vec<Kind<'a>> {
             first,
         ),
         by_program(program, "lent: lists written", plan, 2, list),
+        by_program(program, "lights, by the program replay", plan, 2, light),
     ]
 }

@@ -87,7 +87,7 @@ impl List {
                 .filter(|(i, _)| self.cases[*i].starts_with(form));
             format!("{} {form}", n.count())
         };
-        let forms: Vec<String> = ['C', 'L', 'T', 'W', 'O', 'M', 'N', 'Q'].map(of).into();
+        let forms: Vec<String> = ['C', 'L', 'T', 'W', 'O', 'M', 'N', 'Q', 'K'].map(of).into();
         format!(
             "{}; {} of them no UTF-8, answered by the rule for bytes; {} passed over",
             forms.join(", "),

@@ -1,7 +1,8 @@
-//! Cases for the two lent forms, a reader that holds its text and an object from a lent list, within the
-//! limits of `replay`.
+//! Cases by chance within the limits of `replay`: for the two lent forms, a reader that holds its text and an
+//! object from a lent list, and for lights.
 
 use crate::inputs::chance::Chance;
+use crate::inputs::lights::one_page;
 use crate::inputs::lines::TELLING;
 use crate::inputs::replay::{Given, MOST, MOST_RECORDS};
 use crate::inputs::texts::{self, TextCase};
@@ -94,4 +95,13 @@ pub fn first(chance: &mut Chance) -> Given {
 /// A list of records that is lent.
 pub fn list(chance: &mut Chance) -> Given {
     Given::Object(lent_list(chance))
+}
+
+/// A light, and as many dumps into one page as a case has room for.
+pub fn light(chance: &mut Chance) -> Given {
+    let mut case = one_page(chance);
+    while case.texts.len() > 1 && Given::Light(case.clone()).line().len() > MOST {
+        case.texts.pop();
+    }
+    Given::Light(case)
 }

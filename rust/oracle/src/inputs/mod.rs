@@ -7,6 +7,8 @@ pub mod chunks;
 pub mod cuts;
 pub mod dumps;
 pub mod lent;
+pub mod lights;
+pub mod lights_by_rule;
 pub mod lines;
 pub mod loads;
 pub mod long;

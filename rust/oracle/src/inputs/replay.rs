@@ -4,6 +4,7 @@
 use std::str::{self, Split};
 
 use crate::inputs::asks::AtCase;
+use crate::inputs::lights::OnePageCase;
 use crate::inputs::lines::LineCase;
 use crate::inputs::loads::LoadCase;
 use crate::inputs::shrink::Case;
@@ -12,7 +13,7 @@ use crate::inputs::sums::SumCase;
 use crate::inputs::tables::{Kind, Row, TableCase};
 use crate::inputs::texts::TextCase;
 use crate::inputs::writes::{ObjectCase, RecordCase};
-use crate::subjects::told::Entry;
+use crate::subjects::told::{Entry, Light};
 
 /// The most bytes that `replay` takes of a case, or lends as a pool or an output.
 pub const MOST: usize = 4096;
@@ -41,6 +42,7 @@ pub enum Given {
     Load(LoadCase),
     Table(TableCase),
     Ask(AtCase),
+    Light(OnePageCase),
 }
 
 /// The digits of a number, in capitals.
@@ -180,6 +182,37 @@ fn ask_of(mut words: Words) -> Option<AtCase> {
     })
 }
 
+fn light_of(mut words: Words) -> Option<OnePageCase> {
+    let light = Light {
+        first: words.number()?,
+        length: words.number()?,
+        high: words.number()?,
+        low: words.number()?,
+    };
+    Some(OnePageCase {
+        light,
+        page: words.up_to(MOST_PAGE)?,
+        marks: words.up_to(MOST_PAGE)?,
+        texts: words.all(Words::bytes).filter(|texts| !texts.is_empty())?,
+    })
+}
+
+/// The words of a light and its dumps. An empty text at the end is an empty word there.
+fn light_told(case: &OnePageCase) -> String {
+    let Light {
+        first,
+        length,
+        high,
+        low,
+    } = case.light;
+    let texts: Vec<String> = case.texts.iter().map(|text| hex(text)).collect();
+    let (page, marks) = (case.page, case.marks);
+    format!(
+        "K {first:X} {length:X} {high:X} {low:X} {page:X} {marks:X} {}",
+        texts.join(" ")
+    )
+}
+
 fn row_told(row: &Row) -> String {
     let Row {
         owner,
@@ -234,6 +267,7 @@ impl Given {
             "M" => load_of(words).map(Given::Load),
             "N" => table_of(words).map(Given::Table),
             "Q" => ask_of(words).map(Given::Ask),
+            "K" => light_of(words).map(Given::Light),
             _ => None,
         }
     }
@@ -252,6 +286,7 @@ impl Given {
             }
             Given::Object(case) => return object_told(case),
             Given::Table(case) => return table_told(case),
+            Given::Light(case) => return light_told(case),
             Given::Load(case) => {
                 let (first, page, marks) = (case.first, case.page, case.marks);
                 format!("M {first:X} {page:X} {marks:X} {}", hex(&case.text))
@@ -270,10 +305,15 @@ impl Given {
             Given::Load(case) => &case.text,
             Given::Table(case) => &case.text,
             Given::Ask(case) => &case.text,
+            Given::Light(case) => return case.texts.iter().any(|text| no_string(text)),
             _ => return false,
         };
-        str::from_utf8(read).is_err()
+        no_string(read)
     }
+}
+
+fn no_string(text: &[u8]) -> bool {
+    str::from_utf8(text).is_err()
 }
 
 /// The cases that are smaller than one, each as what is given.
@@ -294,6 +334,7 @@ impl Case for Given {
             Given::Load(case) => smaller(case, Given::Load),
             Given::Table(case) => smaller(case, Given::Table),
             Given::Ask(case) => smaller(case, Given::Ask),
+            Given::Light(case) => smaller(case, Given::Light),
         }
     }
 

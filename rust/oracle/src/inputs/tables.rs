@@ -84,6 +84,16 @@ pub enum Kind {
     SRecords,
 }
 
+impl Kind {
+    /// The line that ends a text of this kind.
+    pub fn end(self) -> &'static [u8] {
+        match self {
+            Kind::Intel => b":00000001FF",
+            Kind::SRecords => b"S9030000FC",
+        }
+    }
+}
+
 /// A load of a text for an owner through a table.
 #[derive(Clone)]
 pub struct TableCase {
@@ -318,11 +328,16 @@ fn run(rows: &[Row], about: u32, chance: &mut Chance) -> (u32, usize) {
 fn data_line(kind: Kind, rows: &[Row], about: u32, chance: &mut Chance) -> Vec<u8> {
     let (address, n) = run(rows, about, chance);
     let bytes = chance.bytes(n);
+    data_at(kind, address, &bytes, chance)
+}
+
+/// A line of data of a kind with these bytes at an address; of Intel HEX mostly after one that sets its base.
+pub fn data_at(kind: Kind, address: u32, bytes: &[u8], chance: &mut Chance) -> Vec<u8> {
     if kind == Kind::SRecords {
         let kind = if address > 0xFFFF { 3 } else { 1 };
-        return srecord(kind, address, &bytes);
+        return srecord(kind, address, bytes);
     }
-    let data = line_of(0, address as u16, &bytes);
+    let data = line_of(0, address as u16, bytes);
     if address <= 0xFFFF && chance.once_in(2) {
         return data;
     }
@@ -334,7 +349,7 @@ fn data_line(kind: Kind, rows: &[Row], about: u32, chance: &mut Chance) -> Vec<u
 }
 
 /// A line that is not data.
-fn other_line(kind: Kind, records: usize, chance: &mut Chance) -> Vec<u8> {
+pub fn other_line(kind: Kind, records: usize, chance: &mut Chance) -> Vec<u8> {
     match (kind, chance.under(6)) {
         (_, 0) => b"x".to_vec(),
         (Kind::Intel, 1) => b":00000001FE".to_vec(),
@@ -359,11 +374,7 @@ fn text(kind: Kind, rows: &[Row], about: u32, chance: &mut Chance) -> Vec<u8> {
         text.extend(line_end(chance));
     }
     if !chance.once_in(16) {
-        let end: &[u8] = match kind {
-            Kind::Intel => b":00000001FF",
-            Kind::SRecords => b"S9030000FC",
-        };
-        text.extend(end);
+        text.extend(kind.end());
         text.extend(
             chance
                 .one_of(&["", "\n", "\nx", "\r\n:0100000099 66"])

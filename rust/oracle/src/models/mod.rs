@@ -4,6 +4,7 @@
 pub mod asks;
 pub mod chunks;
 pub mod dumps;
+pub mod lights;
 pub mod lines;
 pub mod loads;
 pub mod pages;

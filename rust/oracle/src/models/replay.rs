@@ -3,6 +3,7 @@
 use ihex_sys::{DONE, NOT_STATED, REFUSED, STOP_AFTER_EOF, STOP_AFTER_FIRST_ERROR};
 
 use crate::inputs::asks::AtCase;
+use crate::inputs::lights::OnePageCase;
 use crate::inputs::lines::LineCase;
 use crate::inputs::loads::LoadCase;
 use crate::inputs::replay::{Given, MARKS};
@@ -10,6 +11,7 @@ use crate::inputs::spelling::hex;
 use crate::inputs::tables::TableCase;
 use crate::inputs::texts::TextCase;
 use crate::models::asks;
+use crate::models::lights::{self, Shown};
 use crate::models::lines::{self, in_pool, pour};
 use crate::models::loads::{self, LoadAnswer};
 use crate::models::tables;
@@ -38,6 +40,7 @@ pub fn answer(given: &Given) -> String {
         Given::Load(case) => load(case),
         Given::Table(case) => load_through(case),
         Given::Ask(case) => asked(case),
+        Given::Light(case) => lit(case),
     }
 }
 
@@ -148,6 +151,11 @@ fn loaded(answer: LoadAnswer) -> String {
     }
 }
 
+/// What is said, and page and marks after it.
+fn with_buffers(said: &str, page: &[u8], marks: &[u8]) -> String {
+    format!("{said} |{} |{}", spelt_long(page), spelt_long(marks))
+}
+
 /// What a model answers to a load, and the page and marks of these lengths after it.
 fn with_page(
     page: usize,
@@ -156,7 +164,7 @@ fn with_page(
 ) -> String {
     let (mut page, mut marks) = (vec![PAGE; page], vec![MARKS; marks]);
     let said = loaded(load(&mut page, &mut marks));
-    format!("{said} |{} |{}", spelt_long(&page), spelt_long(&marks))
+    with_buffers(&said, &page, &marks)
 }
 
 fn load(case: &LoadCase) -> String {
@@ -180,4 +188,30 @@ fn asked(case: &AtCase) -> String {
         NOT_STATED => "none".into(),
         code => format!("{} @{:X}", refusal(code, a, b), answer.line),
     }
+}
+
+/// The colors by their numbers.
+const COLORS: [&str; 6] = ["broken", "no-count", "first", "green", "stale", "restarted"];
+
+fn shown(shown: Shown) -> String {
+    let known = lights::as_count(shown.known).map(|count| format!("{count:04X}"));
+    format!(
+        "{} {} {}",
+        COLORS[usize::from(shown.color)],
+        known.unwrap_or("-".into()),
+        loaded(shown.load)
+    )
+}
+
+/// What each dump comes to, and the page and marks after the last.
+fn lit(case: &OnePageCase) -> String {
+    if lights::set_up(case.light) != 0 {
+        return refusal(lights::set_up(case.light), 0, 0);
+    }
+    let dumps = lights::model(&case.row([PAGE, MARKS]));
+    let said: Vec<String> = dumps.iter().map(|after| shown(after.shown)).collect();
+    let (said, last) = (said.join("; "), dumps.last());
+    last.map_or("?".into(), |last| {
+        with_buffers(&said, &last.page, &last.marks)
+    })
 }

@@ -269,6 +269,13 @@ pub fn model(case: &LoadCase, page: &mut [u8], row: &mut [u8]) -> LoadAnswer {
     placed_by(RIGHT, case, page, row)
 }
 
+/// The number of the line of a text's first end, if it has one.
+pub fn end_line(text: &[u8]) -> Option<usize> {
+    let ends = |line: &[u8]| read(RIGHT, line).map_or(false, |said| (RIGHT.ends)(said.kind, None));
+    let mut found = lines(text).into_iter().filter(|(_, line)| ends(line));
+    found.next().map(|(number, _)| number)
+}
+
 /// The place of the first byte that is not a digit, if the load is refused for one: not as it is named.
 pub fn offender(case: &LoadCase) -> Option<usize> {
     let refused = |&(_, line): &(usize, &[u8])| read(RIGHT, line).is_err();

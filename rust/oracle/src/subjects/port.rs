@@ -3,7 +3,7 @@
 
 use ihex_sys::{Lies, Standing};
 
-use crate::subjects::told::{Entry, Place, SEntry};
+use crate::subjects::told::{Entry, Light, Place, SEntry};
 
 pub trait Port: Sync {
     fn checksum(&self, bytes: &[u8]) -> u8 {
@@ -126,6 +126,37 @@ pub trait Port: Sync {
         ihex_sys::ask(text, address, line, a, b)
     }
 
+    fn set_up_light(&self, light: Light, known: &mut u32) -> u32 {
+        let Light {
+            first,
+            length,
+            high,
+            low,
+        } = light;
+        ihex_sys::set_up_light(first, length, high, low, known)
+    }
+
+    fn light(
+        &self,
+        text: &[u8],
+        light: Light,
+        page: &mut [u8],
+        marks: &mut [u8],
+        (known, color): (&mut u32, &mut u8),
+        (line, start): (&mut usize, &mut u8),
+        (a, b, c): (&mut u64, &mut u64, &mut u64),
+    ) -> u32 {
+        let Light {
+            first,
+            length,
+            high,
+            low,
+        } = light;
+        ihex_sys::light(
+            text, first, length, high, low, page, marks, known, color, line, start, a, b, c,
+        )
+    }
+
     fn page_file_length(&self, first: u32, page: &[u8], marks: &[u8], value: &mut u64) -> u32 {
         ihex_sys::page_file_length(first, page, marks, value)
     }
@@ -200,6 +231,27 @@ pub trait Port: Sync {
         (a, b, c): (&mut u64, &mut u64, &mut u64),
     ) -> u32 {
         ihex_sys::load_srecords_table(text, owner, table, pool, marks, line, start, a, b, c)
+    }
+
+    fn light_srecords(
+        &self,
+        text: &[u8],
+        light: Light,
+        page: &mut [u8],
+        marks: &mut [u8],
+        (known, color): (&mut u32, &mut u8),
+        (line, start): (&mut usize, &mut u8),
+        (a, b, c): (&mut u64, &mut u64, &mut u64),
+    ) -> u32 {
+        let Light {
+            first,
+            length,
+            high,
+            low,
+        } = light;
+        ihex_sys::light_srecords(
+            text, first, length, high, low, page, marks, known, color, line, start, a, b, c,
+        )
     }
 }
 

@@ -76,6 +76,15 @@ pub struct SEntry {
     pub len: usize,
 }
 
+/// A light as the C entry points take it, but for the count that it knows.
+#[derive(Clone, Copy, PartialEq, Eq, Debug)]
+pub struct Light {
+    pub first: u32,
+    pub length: usize,
+    pub high: usize,
+    pub low: usize,
+}
+
 /// So many bytes of a pool from a position on, if they lie in it.
 pub fn part(pool: &[u8], at: usize, len: usize) -> Option<&[u8]> {
     pool.get(at..at.checked_add(len)?)

@@ -2,6 +2,7 @@
 
 use std::io;
 
+use crate::inputs::lights::OnePageCase;
 use crate::inputs::replay::Given;
 use crate::models::replay::answer;
 use crate::subjects::program::Program;
@@ -25,8 +26,16 @@ fn filling<'a>(case: &str, answer: &'a str) -> Option<&'a str> {
     Some(held).filter(|_| length == out)
 }
 
+/// What the last dump of a light alone leaves.
+fn left_by_last(mut light: OnePageCase) -> String {
+    light.texts.drain(..light.texts.len() - 1);
+    let alone = answer(&Given::Light(light));
+    let held = alone.split_once(" | ").map(|(_, held)| held);
+    held.unwrap_or("").into()
+}
+
 /// Answers of `replay` that are wrong: in what, and what is told.
-const ANSWERS: [(&str, Change); 8] = [
+const ANSWERS: [(&str, Change); 13] = [
     ("tells an offset from F000 on one digit off", |_, answer| {
         answer.replace("D F", "D E")
     }),
@@ -66,6 +75,36 @@ const ANSWERS: [(&str, Change); 8] = [
     ("writes into an output that is too short", |_, answer| {
         answer.replace("! 15 | DD", "! 15 | 3A")
     }),
+    ("tells green for the known count", |_, answer| {
+        answer.replace("stale ", "green ")
+    }),
+    ("tells 0 where no count is known", |_, answer| {
+        answer.replace(" - ", " 0000 ")
+    }),
+    (
+        "tells the page of a light that is not set up",
+        |_, answer| answer.replace("! 24", "! 24 |  | "),
+    ),
+    ("tells no known count of a broken dump", |_, answer| {
+        let told = |part: &str| match part.strip_prefix("broken ") {
+            Some(rest) if !rest.starts_with('-') => format!("broken -{}", &rest[4..]),
+            _ => part.into(),
+        };
+        answer
+            .split("; ")
+            .map(told)
+            .collect::<Vec<String>>()
+            .join("; ")
+    }),
+    (
+        "has a page of its own for each dump",
+        |case, answer| match (Given::of(case), answer.split_once(" | ")) {
+            (Some(Given::Light(light)), Some((said, _))) => {
+                format!("{said} | {}", left_by_last(light))
+            }
+            _ => answer.into(),
+        },
+    ),
 ];
 
 /// Every such program: in what it is wrong, and the program.
