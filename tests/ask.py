@@ -11,7 +11,7 @@ import subprocess
 import tempfile
 
 import model
-from programs import DEV_FULL, ROOT, end, helps, in_shell, in_words, over_rust, ran, told
+from programs import DEV_FULL, ROOT, end, helps, in_shell, in_words, over_rust, ran, samples, told
 
 SCRIPT = './ask'
 END = b':00000001FF\n'
@@ -89,7 +89,7 @@ for word in ['', '0x', 'x', '00000000A', '0x00000000A', '100000000', '+A', '-A',
 
 # ---- the files of samples/, and what the model makes of others
 
-for name in sorted(os.listdir(os.path.join(ROOT, 'samples'))):
+for name in samples():
     path = os.path.join('samples', name)
     with open(os.path.join(ROOT, path), 'rb') as f:
         sample = f.read()

@@ -30,6 +30,11 @@ def command(name):
     return words.decode().splitlines()
 
 
+def samples():
+    """The names of the files in samples/."""
+    return sorted(entry.name for entry in os.scandir(os.path.join(ROOT, 'samples')) if entry.is_file())
+
+
 def told(name, ok, why=''):
     global passed, failed
     if ok:

@@ -10,7 +10,7 @@ import random
 import subprocess
 
 import model
-from programs import DEV_FULL, ROOT, end, helps, in_shell, in_words, over_rust, ran, terminal, told
+from programs import DEV_FULL, ROOT, end, helps, in_shell, in_words, over_rust, ran, samples, terminal, told
 
 SCRIPT = ['./salvage']
 END = b':00000001FF\n'
@@ -54,7 +54,7 @@ ran('a damaged end record', SCRIPT, 1, END, b"line 1: invalid checksum 'FF', exp
 
 # ---- the files of samples/, and what the model makes of others
 
-for name in sorted(entry.name for entry in os.scandir(os.path.join(ROOT, 'samples')) if entry.is_file()):
+for name in samples():
     with open(os.path.join(ROOT, 'samples', name), 'rb') as f:
         sample = f.read()
     clean, dropped = model.salvaged(sample)
