@@ -1,5 +1,5 @@
--- A line is judged as the line that what is kept of it stands for. Beyond 521 bytes the judge asks only for the colon, whether all else are digits, and
--- how many of them lead; a zero in the place of a digit changes none of it, nor does any byte behind one that is no digit.
+-- A line is judged as the line that what is kept of it stands for, by every judge that asks of a longer line only for its first 521 bytes, whether all
+-- after the first are digits, and how many of them lead; a zero in the place of a digit changes none of it, nor does any byte after one that is not a digit.
 -- Assumes nothing.
 use Prim.Native.Nat.{ℕ, zero, suc, _+_, _-_, _≤_, _<_}
 use mathlib.Core.Path.{_≡_, refl, sym, ap, ap₂, _∙_}
@@ -20,11 +20,12 @@ use Rattle.digits.proofs.Leading.{leading-on, leading-in}
 use Rattle.chunks.specs.Claims.{Left-out-counted, Nothing-behind-counted}
 use Rattle.chunks.specs.Begun.{Kept, none-kept, push, brief, behind-digits, stands-for}
 
--- a line over 521 bytes: 1, 2 or 4
-abbrev pub too-long : ℕ → List ℕ → Said
-too-long c ds = if eqb c 58 then (if all-digits ds then wrong record-too-long else invalid ds) else wrong missing-start-code
+-- what is said of a first byte and a row after it: `good` if the row is of digits alone
+abbrev pub by-digits : (start c : ℕ) (ds : List ℕ) (good : Said) → Said
+by-digits start c ds good = if eqb c start then (if all-digits ds then good else invalid ds) else wrong missing-start-code
 
-pub judge-over : (c : ℕ) (ds : List ℕ) → 520 < length ds → judge (c ∷ ds) ≡ too-long c ds
+-- a line over 521 bytes: 1, 2 or 4
+pub judge-over : (c : ℕ) (ds : List ℕ) → 520 < length ds → judge (c ∷ ds) ≡ by-digits 58 c ds (wrong record-too-long)
 unfolding judge judge-digits
 judge-over c ds h = let short : 10 ≤ length ds = omega arith in rw (le-ltb (length ds) 10 short, lt-ltb 520 (length ds) h)
 
@@ -40,11 +41,20 @@ pub record Judged-alike (ds es : List ℕ) : Type 0 where
   pub all : all-digits ds ≡ all-digits es
   pub place : named (suc (leading ds)) ≡ named (suc (leading es))
 
-judged-alike : (c : ℕ) (ds es : List ℕ) → 520 < length ds → 520 < length es → Judged-alike ds es → judge (c ∷ ds) ≡ judge (c ∷ es)
-judged-alike c ds es h k a =
-    judge-over c ds h
-    ∙ ap₂ (λ (t : Bool) (p : ℕ). if eqb c 58 then (if t then wrong record-too-long else wrong (contains-invalid-characters p)) else wrong missing-start-code) (a .all) (a .place)
-    ∙ sym (judge-over c es k)
+-- a judge of lines over 521 bytes by their first byte, by whether all else are digits, and by how many lead; of digits alone, by the first 520
+pub record Judges-long (J : List ℕ → Said) : Type 0 where
+  pub start : ℕ
+  pub long : (front : List ℕ) → Said
+  pub over : (c : ℕ) (front ds : List ℕ) → length front ≡ 520 → 0 < length ds → J (c ∷ (front ++ ds)) ≡ by-digits start c (front ++ ds) (long front)
+
+-- Intel's is one
+unfoldable pub intel-long : Judges-long judge
+intel-long =
+    record {
+      start = 58;
+      long = λ front. wrong record-too-long;
+      over = λ c front ds h k. judge-over c (front ++ ds) (omega (arith, length-append front ds));
+    }
 
 -- the same front, and behind it rows that as many digits lead, as far as places are named from there
 alike-behind : (front ds es : List ℕ) → all-digits ds ≡ all-digits es
@@ -114,27 +124,6 @@ module _ (x : ℕ) (front : List ℕ) (h : length front ≡ 520) where
       let l : length ((x ∷ front) ++ (y ∷ [])) ≡ 522 = length-append (x ∷ front) (y ∷ []) ∙ omega arith in
       rw (l, getD-at front y [] 0 520 h, take-at front (y ∷ []) 520 h)
 
-  onto-full : (y n c : ℕ) (l : List ℕ) → judge (stands-for (push (full y n) c) ++ l) ≡ judge (stands-for (full y n) ++ (c ∷ l))
-  onto-full y n c l = ap (λ (k : Kept). judge (stands-for k ++ l)) (full-push y n c) ∙ go (is-digit y) refl
-    where
-      shape : (y n : ℕ) (l : List ℕ) → stands-for (full y n) ++ l ≡ x ∷ (front ++ (replicate n 48 ++ (y ∷ l)))
-      shape y n l =
-          ap (λ (s : List ℕ). s ++ l) (full-stands y n)
-          ∙ ap (λ (s : List ℕ). x ∷ s) (append-assoc front (replicate n 48 ++ (y ∷ [])) l ∙ ap (λ (s : List ℕ). front ++ s) (append-assoc (replicate n 48) (y ∷ []) l))
-
-      over : (y n : ℕ) (l : List ℕ) → 520 < length (front ++ (replicate n 48 ++ (y ∷ l)))
-      over y n l = omega (arith, length-append front (replicate n 48 ++ (y ∷ l)), length-append (replicate n 48) (y ∷ l))
-
-      go : (t : Bool) → is-digit y ≡ t → judge (stands-for (if t then full c (named (suc n)) else full y n) ++ l) ≡ judge (stands-for (full y n) ++ (c ∷ l))
-      go true e =
-          ap judge (shape c (named (suc n)) l)
-          ∙ judged-alike x _ _ (over c (named (suc n)) l) (over y n (c ∷ l)) (counted-in front n y c l h e)
-          ∙ sym (ap judge (shape y n (c ∷ l)))
-      go false e =
-          ap judge (shape y n l)
-          ∙ judged-alike x _ _ (over y n l) (over y n (c ∷ l)) (passed-by front n y c l e)
-          ∙ sym (ap judge (shape y n (c ∷ l)))
-
 -- 522 bytes, taken apart
 pub record Full (bytes : List ℕ) : Type 0 where
   pub first : ℕ
@@ -154,14 +143,6 @@ taken-apart (x ∷ ds) h =
       whole = ap (λ (l : List ℕ). x ∷ l) (split-at ds 520 0 (omega arith) ∙ rw none);
       long = length-take-le 520 ds (omega arith);
     }
-
-step-judged : (k : Kept) (c : ℕ) (l : List ℕ) → length (k .bytes) ≡ 522 → judge (stands-for (push k c) ++ l) ≡ judge (stands-for k ++ (c ∷ l))
-step-judged k c l h =
-    let f = taken-apart (k .bytes) h in
-    let e : k ≡ full (f .first) (f .front) (f .long) (f .last) (k .skipped) = ap (λ (b : List ℕ). record { bytes = b; skipped = k .skipped }) (f .whole) in
-    ap (λ (k : Kept). judge (stands-for (push k c) ++ l)) e
-    ∙ onto-full (f .first) (f .front) (f .long) (f .last) (k .skipped) c l
-    ∙ sym (ap (λ (k : Kept). judge (stands-for k ++ (c ∷ l))) e)
 
 -- ---- how much is kept
 
@@ -188,10 +169,6 @@ still-full k c h = rw h (go (is-digit (getD (k .bytes) 521 0)))
     go true = length-append (take 521 (k .bytes)) (c ∷ []) ∙ omega (arith, length-take-le 521 (k .bytes) (omega arith))
     go false = h
 
-pub judged-full : (l : List ℕ) (k : Kept) → length (k .bytes) ≡ 522 → judge (stands-for (foldl push k l)) ≡ judge (stands-for k ++ l)
-judged-full [] k h = rw append-nil
-judged-full (c ∷ l) k h = judged-full l (push k c) (still-full k c h) ∙ step-judged k c l h
-
 -- a line of at most 522 bytes is kept as it is
 pub short-kept : (l : List ℕ) (k : Kept) → length (k .bytes) + length l < 523 → foldl push k l ≡ record { bytes = k .bytes ++ l; skipped = k .skipped }
 short-kept [] k h = ap (λ (b : List ℕ). record { bytes = b; skipped = k .skipped }) (sym (append-nil (k .bytes)))
@@ -216,17 +193,68 @@ pub foldl-on : (a b : List ℕ) (k : Kept) → foldl push k (a ++ b) ≡ foldl p
 foldl-on [] b k = refl
 foldl-on (c ∷ a) b k = foldl-on a b (push k c)
 
+-- ---- a judge of long rows by what they share
+
+module _ (J : List ℕ → Said) (by : Judges-long J) where
+  alike : (c : ℕ) (front ds es : List ℕ) → length front ≡ 520 → 0 < length ds → 0 < length es → Judged-alike (front ++ ds) (front ++ es) → J (c ∷ (front ++ ds)) ≡ J (c ∷ (front ++ es))
+  alike c front ds es h k l a =
+      by .over c front ds h k
+      ∙ ap₂ (λ (t : Bool) (p : ℕ). if eqb c (by .start) then (if t then by .long front else wrong (contains-invalid-characters p)) else wrong missing-start-code) (a .all) (a .place)
+      ∙ sym (by .over c front es h l)
+
+  module _ (x : ℕ) (front : List ℕ) (h : length front ≡ 520) where
+    onto-full : (y n c : ℕ) (l : List ℕ) → J (stands-for (push (full x front h y n) c) ++ l) ≡ J (stands-for (full x front h y n) ++ (c ∷ l))
+    onto-full y n c l = ap (λ (k : Kept). J (stands-for k ++ l)) (full-push x front h y n c) ∙ go (is-digit y) refl
+      where
+        shape : (y n : ℕ) (l : List ℕ) → stands-for (full x front h y n) ++ l ≡ x ∷ (front ++ (replicate n 48 ++ (y ∷ l)))
+        shape y n l =
+            ap (λ (s : List ℕ). s ++ l) (full-stands x front h y n)
+            ∙ ap (λ (s : List ℕ). x ∷ s) (append-assoc front (replicate n 48 ++ (y ∷ [])) l ∙ ap (λ (s : List ℕ). front ++ s) (append-assoc (replicate n 48) (y ∷ []) l))
+
+        more : (y n : ℕ) (l : List ℕ) → 0 < length (replicate n 48 ++ (y ∷ l))
+        more y n l = omega (arith, length-append (replicate n 48) (y ∷ l))
+
+        go : (t : Bool) → is-digit y ≡ t → J (stands-for (if t then full x front h c (named (suc n)) else full x front h y n) ++ l) ≡ J (stands-for (full x front h y n) ++ (c ∷ l))
+        go true e =
+            ap J (shape c (named (suc n)) l)
+            ∙ alike x front _ _ h (more c (named (suc n)) l) (more y n (c ∷ l)) (counted-in front n y c l h e)
+            ∙ sym (ap J (shape y n (c ∷ l)))
+        go false e =
+            ap J (shape y n l)
+            ∙ alike x front _ _ h (more y n l) (more y n (c ∷ l)) (passed-by front n y c l e)
+            ∙ sym (ap J (shape y n (c ∷ l)))
+
+  step-judged : (k : Kept) (c : ℕ) (l : List ℕ) → length (k .bytes) ≡ 522 → J (stands-for (push k c) ++ l) ≡ J (stands-for k ++ (c ∷ l))
+  step-judged k c l h =
+      let f = taken-apart (k .bytes) h in
+      let e : k ≡ full (f .first) (f .front) (f .long) (f .last) (k .skipped) = ap (λ (b : List ℕ). record { bytes = b; skipped = k .skipped }) (f .whole) in
+      ap (λ (k : Kept). J (stands-for (push k c) ++ l)) e
+      ∙ onto-full (f .first) (f .front) (f .long) (f .last) (k .skipped) c l
+      ∙ sym (ap (λ (k : Kept). J (stands-for k ++ (c ∷ l))) e)
+
+  full-judged : (l : List ℕ) (k : Kept) → length (k .bytes) ≡ 522 → J (stands-for (foldl push k l)) ≡ J (stands-for k ++ l)
+  full-judged [] k h = rw append-nil
+  full-judged (c ∷ l) k h = full-judged l (push k c) (still-full k c h) ∙ step-judged k c l h
+
+  pub brief-judged : (l : List ℕ) → J (stands-for (brief l)) ≡ J l
+  brief-judged l =
+      split (length l) 522
+      (λ h. ap (λ (k : Kept). J (stands-for k)) (brief-short l (omega arith)) ∙ ap J (stands-itself l))
+      (λ h.
+      let n : length (take 522 l) ≡ 522 = length-take-le 522 l (omega arith) in
+      ap (λ (t : List ℕ). J (stands-for (brief t))) (sym (take-append-drop 522 l))
+      ∙ ap (λ (k : Kept). J (stands-for k)) (foldl-on (take 522 l) (drop 522 l) none-kept ∙ ap (λ (k : Kept). foldl push k (drop 522 l)) (brief-short (take 522 l) (omega arith)))
+      ∙ full-judged (drop 522 l) (record { bytes = take 522 l; skipped = 0 }) n
+      ∙ ap (λ (t : List ℕ). J (t ++ drop 522 l)) (stands-itself (take 522 l))
+      ∙ ap J (take-append-drop 522 l))
+
+-- Intel's
+
+pub judged-full : (l : List ℕ) (k : Kept) → length (k .bytes) ≡ 522 → judge (stands-for (foldl push k l)) ≡ judge (stands-for k ++ l)
+judged-full = full-judged judge intel-long
+
 pub judge-brief : (l : List ℕ) → judge (stands-for (brief l)) ≡ judge l
-judge-brief l =
-    split (length l) 522
-    (λ h. ap (λ (k : Kept). judge (stands-for k)) (brief-short l (omega arith)) ∙ ap judge (stands-itself l))
-    (λ h.
-    let n : length (take 522 l) ≡ 522 = length-take-le 522 l (omega arith) in
-    ap (λ (t : List ℕ). judge (stands-for (brief t))) (sym (take-append-drop 522 l))
-    ∙ ap (λ (k : Kept). judge (stands-for k)) (foldl-on (take 522 l) (drop 522 l) none-kept ∙ ap (λ (k : Kept). foldl push k (drop 522 l)) (brief-short (take 522 l) (omega arith)))
-    ∙ judged-full (drop 522 l) (record { bytes = take 522 l; skipped = 0 }) n
-    ∙ ap (λ (t : List ℕ). judge (t ++ drop 522 l)) (stands-itself (take 522 l))
-    ∙ ap judge (take-append-drop 522 l))
+judge-brief = brief-judged judge intel-long
 
 -- ---- what is left out
 

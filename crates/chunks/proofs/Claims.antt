@@ -25,14 +25,17 @@ use Rattle.reader.proofs.Texts.{rows, lines-few}
 use Rattle.chunks.specs.declared.Chunks.{Chunks}
 use Rattle.chunks.specs.declared.Place.{Place}
 use Rattle.chunks.specs.declared.Place.the-variants.{Nowhere, InChunk, InCarry}
+use Rattle.chunks.specs.declared.LineReply.{LineReply}
+use Rattle.chunks.specs.declared.LineStep.{LineStep}
 use Rattle.chunks.specs.declared.ChunkReply.{ChunkReply}
 use Rattle.chunks.specs.declared.ChunkReply.the-variants.{Read, Refused, UsedUp, Done, CarryTooSmall}
 use Rattle.chunks.specs.declared.ChunkStep.{ChunkStep}
 use Rattle.chunks.specs.Begun.{nothing, look}
 use Rattle.chunks.specs.Next.{Word, tells, used-up, word-of, new-chunks, Outcome, next-outcome, finish-outcome}
 use Rattle.chunks.specs.Rows.{joined, Seen, seen-with, Heard, Hears, Stepped, Nth, numbered, showing}
-use Rattle.chunks.specs.Claims.{Examples, Judged-as-kept, Any-cuts, Any-cuts-by, givens-of, Same-row, Shown-there, Shows-the-line, Alike, without-pools, Nothing-else, New-unique, Next-unique, Finish-unique, Shown-unique}
+use Rattle.chunks.specs.Claims.{Examples, Judged-as-kept, Any-cuts, Any-cuts-by, givens-of, Same-row, Shown-there, Shows-the-line, Alike, without-pools, Nothing-else, Reads-what-is-found, New-unique, Next-unique, Finish-unique, Next-line-unique, Last-line-unique, Shown-unique}
 use Rattle.chunks.proofs.Brief.{judge-brief}
+use Rattle.chunks.proofs.Reading.{next-reads, finish-reads}
 use Rattle.chunks.proofs.Pieces.{pieces, pieces-lines}
 use Rattle.chunks.proofs.Rows.{from-place, unseen, rows-met}
 use Rattle.chunks.proofs.Kept.{kept-rows, showing-replies, said-numbered, lines-stand, shows-right, Shown-right}
@@ -116,6 +119,11 @@ nothing-else options k head carry₁ carry₂ chunks₁ chunks₂ calls₁ calls
     ∙ row-alike options k head (joined chunks₁) (joined chunks₂) calls₁ calls₂ alike t₁ t₂ stop
     ∙ ap without-pools (sym (any-cuts options carry₂ chunks₂ calls₂ seen₂ big₂ fed₂))
 
+-- ---- a line that was found
+
+pub reads-what-is-found : Reads-what-is-found
+reads-what-is-found s chunk carry pool at step r carry′ pool′ = (next-reads s chunk carry pool at step r carry′ pool′, finish-reads s carry pool at step r carry′ pool′)
+
 -- ---- one outcome each
 
 as-reply : Answer → ChunkReply
@@ -172,6 +180,15 @@ finish-unique s carry pool at r₁ r₂ carry₁ carry₂ pool₁ pool₂ x y = 
   x .carry ∙ sym (y .carry),
   x .left ∙ sym (y .left),
 )
+
+line-step-is : (r₁ r₂ : LineStep) → r₁ .reply ≡ r₂ .reply → r₁ .state ≡ r₂ .state → r₁ ≡ r₂
+line-step-is r₁ r₂ e f = ap₂ (λ (x : LineReply) (y : Chunks). record { reply = x; state = y }) e f
+
+pub next-line-unique : Next-line-unique
+next-line-unique s chunk carry r₁ r₂ carry₁ carry₂ x y = (line-step-is r₁ r₂ (x .answer ∙ sym (y .answer)) (x .state ∙ sym (y .state)), x .carry ∙ sym (y .carry))
+
+pub last-line-unique : Last-line-unique
+last-line-unique s carry r₁ r₂ carry₁ carry₂ x y = (line-step-is r₁ r₂ (x .answer ∙ sym (y .answer)) (x .state ∙ sym (y .state)), x .carry ∙ sym (y .carry))
 
 pub new-unique : New-unique
 new-unique options r r′ x y = x .answer ∙ sym (y .answer)

@@ -1,7 +1,8 @@
--- The outcomes of `next` and `finish` by their first tests.
+-- The outcomes of `next`, `finish`, `next_line` and `last_line` by their first tests.
 -- Assumes nothing.
 use Prim.Native.Nat.{ℕ, zero, suc, _≤_, _<_}
 use mathlib.Core.Path.{_≡_, refl, sym, ap, _∙_}
+use mathlib.Core.Logic.{_≢_}
 use mathlib.Core.Bool.{Bool, true, false, _||_}
 use mathlib.Core.Option.{none, some}
 use mathlib.Core.List.{List, [], _∷_}
@@ -12,35 +13,19 @@ use lib.Seq.{length-take-le, take-length}
 use borrow.Author.Tests.{lt-ltb, le-ltb, ltb-true, ltb-false}
 use Rattle.digits.specs.Common.{if_then_else_}
 use Rattle.record.specs.Refusals.{carry-too-small}
-use Rattle.record.specs.Line.{judge}
 use Rattle.digits.proofs.Tests.{if-true, if-false, or-true, or-false}
-use Rattle.reader.specs.declared.Answer.{Answer}
-use Rattle.reader.specs.Told.{refuses, done, told}
-use Rattle.reader.specs.Answer.{Reads, answered}
+use Rattle.reader.specs.Told.{refuses, done}
 use Rattle.reader.specs.Lines.{CR}
 use Rattle.chunks.specs.declared.Chunks.{Chunks}
-use Rattle.chunks.specs.declared.Place.{Place}
-use Rattle.chunks.specs.declared.Place.the-variants.{Nowhere, InCarry}
-use Rattle.chunks.specs.declared.ChunkReply.{ChunkReply}
-use Rattle.chunks.specs.declared.ChunkReply.the-variants.{Done, CarryTooSmall}
-use Rattle.chunks.specs.declared.ChunkStep.{ChunkStep}
-use Rattle.chunks.specs.Begun.{Kept, nothing, is-empty, stands-for, with-CR, Sought, seek, look}
-use Rattle.chunks.specs.Next.{tells, word-of, is-record, kept-in, left-out, begun, over, number-behind, place, at-place, in-carry, Outcome, unchanged, answered-line, of-sought, too-small, next-outcome, finish-outcome, Meets}
-use Rattle.chunks.specs.Helpers.{held, has-line, Grown, seek-at, Settles, Plain, Within}
+use Rattle.chunks.specs.declared.Place.the-variants.{Nowhere}
+use Rattle.chunks.specs.declared.LineReply.{LineReply}
+use Rattle.chunks.specs.declared.LineReply.the-variants.{InCarry, Done, CarryTooSmall}
+use Rattle.chunks.specs.declared.LineStep.{LineStep}
+use Rattle.chunks.specs.Begun.{Kept, none-kept, nothing, is-empty, with-CR, Sought, seek, look}
+use Rattle.chunks.specs.Next.{tells, left-out, begun, past-line, over, number-behind, in-carry, Outcome, unchanged, answered-line, of-sought, too-small, next-outcome, finish-outcome}
+use Rattle.chunks.specs.Line.{kept-at, Inside, line-place, Line-outcome, idle, found-line, of-found, next-line-outcome, last-line-outcome, Finds, NextLine, LastLine}
+use Rattle.chunks.specs.Helpers.{held, has-line, Grown, seek-at, Within}
 use Rattle.chunks.proofs.Waiting.{push-some}
-use Rattle.chunks.proofs.Outcomes.{met, full-kept, record-kept}
-
-same-met : (s : Chunks) (reply : ChunkReply) (carry pool : List ℕ) (r : ChunkStep) → Plain reply s r → (chunk : List ℕ) → Meets (unchanged (word-of reply) s carry pool) chunk r carry pool
-unfolding unchanged
-same-met s reply carry pool r e chunk =
-    record {
-      answer = ap word-of (e .reply-is);
-      state = e .state-is;
-      lies = e .lies-is;
-      shows = ap (λ (p : Place). at-place p chunk carry) (e .lies-is);
-      carry = take-length carry;
-      left = refl;
-    }
 
 -- ---- the first tests
 
@@ -70,13 +55,6 @@ module _ (s : Chunks) (chunk carry pool : List ℕ) (at : ℕ) where
   unfolding next-outcome
   next-on t d = if-false _ _ _ t ∙ if-false _ _ _ d
 
-  module _ (r : ChunkStep) where
-    pub next-small : too-small s carry ≡ true → Plain CarryTooSmall s r → Meets (next-outcome s chunk carry pool at) chunk r carry pool
-    next-small t e = rw (next-18 t) (same-met s CarryTooSmall carry pool r e chunk)
-
-    pub next-done : too-small s carry ≡ false → s .finished ≡ true → Plain Done s r → Meets (next-outcome s chunk carry pool at) chunk r carry pool
-    next-done t d e = rw (next-over t d) (same-met s Done carry pool r e chunk)
-
 -- "finish" with nothing begun
 abbrev pub nothing-left : Chunks → (pool : List ℕ) → Outcome
 nothing-left s pool = record { word = tells done; state = over s; lies = Nowhere; shows = []; carried = []; pool = pool }
@@ -95,12 +73,69 @@ module _ (s : Chunks) (carry pool : List ℕ) (at : ℕ) where
   unfolding finish-outcome
   finish-on t d b e = if-false _ _ _ t ∙ if-false _ _ _ d ∙ rw e
 
-  module _ (r : ChunkStep) where
-    pub finish-small : too-small s carry ≡ true → Plain CarryTooSmall s r → Meets (finish-outcome s carry pool at) [] r carry pool
-    finish-small t e = rw (finish-18 t) (same-met s CarryTooSmall carry pool r e [])
+-- ---- the same of a search
 
-    pub finish-done : too-small s carry ≡ false → s .finished ≡ true → Plain Done s r → Meets (finish-outcome s carry pool at) [] r carry pool
-    finish-done t d e = rw (finish-over t d) (same-met s Done carry pool r e [])
+-- nothing happened
+idle-found : (reply : LineReply) (s : Chunks) (chunk carry : List ℕ) (r : LineStep) → kept-at reply chunk carry ≡ none-kept → Inside reply chunk carry → r ≡ record { reply = reply; state = s }
+    → Finds (idle reply s carry) chunk r carry
+unfolding idle
+idle-found reply s chunk carry r k i e = rw e (record { answer = refl; state = refl; line = k; inside = i; carry = take-length carry })
+
+module _ (s : Chunks) (chunk carry : List ℕ) where
+  pub line-18 : too-small s carry ≡ true → next-line-outcome s chunk carry ≡ idle CarryTooSmall s carry
+  unfolding next-line-outcome
+  line-18 t = if-true _ _ _ t
+
+  pub line-over : too-small s carry ≡ false → s .finished ≡ true → next-line-outcome s chunk carry ≡ idle Done s carry
+  unfolding next-line-outcome
+  line-over t d = if-false _ _ _ t ∙ if-true _ _ _ d
+
+  pub line-on : too-small s carry ≡ false → s .finished ≡ false → next-line-outcome s chunk carry ≡ of-found s chunk (look (s .empties) (begun s carry) (drop (s .position) chunk))
+  unfolding next-line-outcome
+  line-on t d = if-false _ _ _ t ∙ if-false _ _ _ d
+
+  module _ (r : LineStep) where
+    pub line-small : too-small s carry ≡ true → r ≡ record { reply = CarryTooSmall; state = s } → NextLine s chunk carry r carry
+    line-small t e = rw (line-18 t) (idle-found CarryTooSmall s chunk carry r refl tt e)
+
+    pub line-done : too-small s carry ≡ false → s .finished ≡ true → r ≡ record { reply = Done; state = s } → NextLine s chunk carry r carry
+    line-done t d e = rw (line-over t d) (idle-found Done s chunk carry r refl tt e)
+
+-- "last_line" with nothing begun
+abbrev pub no-last : Chunks → Line-outcome
+no-last s = record { reply = Done; state = over s; kept = none-kept; carried = [] }
+
+module _ (s : Chunks) (carry : List ℕ) where
+  pub last-18 : too-small s carry ≡ true → last-line-outcome s carry ≡ idle CarryTooSmall s carry
+  unfolding last-line-outcome
+  last-18 t = if-true _ _ _ t
+
+  pub last-over : too-small s carry ≡ false → s .finished ≡ true → last-line-outcome s carry ≡ idle Done s carry
+  unfolding last-line-outcome
+  last-over t d = if-false _ _ _ t ∙ if-true _ _ _ d
+
+  pub last-on : too-small s carry ≡ false → s .finished ≡ false → (b : Bool) → is-empty (with-CR (begun s carry) .bytes) ≡ b
+      → last-line-outcome s carry ≡ (if b then no-last s else found-line s [] none (s .empties) (with-CR (begun s carry)) 0 true)
+  unfolding last-line-outcome
+  last-on t d b e = if-false _ _ _ t ∙ if-false _ _ _ d ∙ rw e
+
+  module _ (r : LineStep) where
+    pub last-small : too-small s carry ≡ true → r ≡ record { reply = CarryTooSmall; state = s } → LastLine s carry r carry
+    last-small t e = rw (last-18 t) (idle-found CarryTooSmall s [] carry r refl tt e)
+
+    pub last-done : too-small s carry ≡ false → s .finished ≡ true → r ≡ record { reply = Done; state = s } → LastLine s carry r carry
+    last-done t d e = rw (last-over t d) (idle-found Done s [] carry r refl tt e)
+
+  -- a reply that is neither a line nor "done" is 18
+  pub last-other : (r : LineStep) (carry′ : List ℕ) → LastLine s carry r carry′ → ((n k : ℕ) → r .reply ≢ InCarry n k) → r .reply ≢ Done → r .reply ≡ CarryTooSmall
+  unfolding idle found-line line-place
+  last-other r carry′ f no-line not-done = go (too-small s carry) refl (s .finished) refl (is-empty (with-CR (begun s carry) .bytes)) refl
+    where
+      go : (t : Bool) → too-small s carry ≡ t → (d : Bool) → s .finished ≡ d → (b : Bool) → is-empty (with-CR (begun s carry) .bytes) ≡ b → r .reply ≡ CarryTooSmall
+      go true t d e b n = f .answer ∙ ap (λ (o : Line-outcome). o .reply) (last-18 t)
+      go false t true e b n = absurd (not-done (f .answer ∙ ap (λ (o : Line-outcome). o .reply) (last-over t e)))
+      go false t false e true n = absurd (not-done (f .answer ∙ ap (λ (o : Line-outcome). o .reply) (last-on t e true n)))
+      go false t false e false n = absurd (no-line _ _ (f .answer ∙ ap (λ (o : Line-outcome). o .reply) (last-on t e false n)))
 
 -- ---- what is looked for
 
@@ -131,44 +166,28 @@ look-fresh empties n k cr carry text z y e = rw (z, y, e)
 pub none-out : (s : Chunks) → s .used ≡ 0 → left-out s ≡ 0
 none-out s z = rw (lt-ltb (s .used) 522 (omega arith))
 
-module _ (s : Chunks) (chunk carry pool : List ℕ) (at position : ℕ) (r : ChunkStep) (carry′ pool′ : List ℕ)
+module _ (s : Chunks) (chunk carry : List ℕ) (position : ℕ) (r : LineStep) (carry′ : List ℕ)
     (big : 522 ≤ length carry) (small : s .used ≤ 522) (on : s .finished ≡ false) (w : Within (s .position) (length chunk) position) where
-  goes : (f : Sought) → look (s .empties) (begun s carry) (drop position chunk) ≡ f
-      → Meets (of-sought s (take (s .used) carry) chunk pool at f) chunk r carry′ pool′ → Meets (next-outcome s chunk carry pool at) chunk r carry′ pool′
+  goes : (f : Sought) → look (s .empties) (begun s carry) (drop position chunk) ≡ f → Finds (of-found s chunk f) chunk r carry′ → NextLine s chunk carry r carry′
   goes f e m =
-      rw (next-on s chunk carry pool at (big-enough s carry big small) on
-      ∙ ap (λ (t : List ℕ). of-sought s (take (s .used) carry) chunk pool at (look (s .empties) (begun s carry) t)) (sym (within-drop chunk (s .position) position w))
-      ∙ ap (of-sought s (take (s .used) carry) chunk pool at) e) m
+      rw (line-on s chunk carry (big-enough s carry big small) on
+      ∙ ap (λ (t : List ℕ). of-found s chunk (look (s .empties) (begun s carry) t)) (sym (within-drop chunk (s .position) position w))
+      ∙ ap (of-found s chunk) e) m
 
-  next-kept : 0 < s .used
-      → Meets (of-sought s (take (s .used) carry) chunk pool at (seek none (s .empties) (begun s carry) (drop position chunk))) chunk r carry′ pool′ → Meets (next-outcome s chunk carry pool at) chunk r carry′ pool′
-  next-kept h m = goes (seek none (s .empties) (begun s carry) (drop position chunk)) (look-kept (s .empties) (s .used) (left-out s) (s .cr) carry (drop position chunk) h (omega arith)) m
-
-  next-cr : s .used ≡ 0 → s .cr ≡ true
-      → Meets (of-sought s (take (s .used) carry) chunk pool at (seek none (s .empties) (begun s carry) (drop position chunk))) chunk r carry′ pool′ → Meets (next-outcome s chunk carry pool at) chunk r carry′ pool′
-  next-cr z e m = goes (seek none (s .empties) (begun s carry) (drop position chunk)) (look-cr (s .empties) (s .used) (left-out s) (s .cr) carry (drop position chunk) z e) m
-
-  next-none : s .used ≡ 0 → s .cr ≡ false
-      → Meets (of-sought s [] chunk pool at (seek-at chunk position (s .empties))) chunk r carry′ pool′ → Meets (next-outcome s chunk carry pool at) chunk r carry′ pool′
-  next-none z e m =
-      goes (seek-at chunk position (s .empties)) (look-fresh (s .empties) (s .used) (left-out s) (s .cr) carry (drop position chunk) z (none-out s z) e)
-      (rw (ap (λ (n : ℕ). take n carry) z) m)
-
-  pub next-begun : has-line s ≡ true
-      → Meets (of-sought s (take (s .used) carry) chunk pool at (seek none (s .empties) (begun s carry) (drop position chunk))) chunk r carry′ pool′ → Meets (next-outcome s chunk carry pool at) chunk r carry′ pool′
-  next-begun e m = go (ltb 0 (s .used)) refl e
+  pub line-begun : has-line s ≡ true → Finds (of-found s chunk (seek none (s .empties) (begun s carry) (drop position chunk))) chunk r carry′ → NextLine s chunk carry r carry′
+  line-begun e m = goes (seek none (s .empties) (begun s carry) (drop position chunk)) (go (ltb 0 (s .used)) refl e) m
     where
-      go : (t : Bool) → ltb 0 (s .used) ≡ t → (t || s .cr) ≡ true → Meets (next-outcome s chunk carry pool at) chunk r carry′ pool′
-      go true u e = next-kept (ltb-true 0 (s .used) u) m
-      go false u e = next-cr (omega (arith, ltb-false 0 (s .used) u)) e m
+      go : (t : Bool) → ltb 0 (s .used) ≡ t → (t || s .cr) ≡ true → look (s .empties) (begun s carry) (drop position chunk) ≡ seek none (s .empties) (begun s carry) (drop position chunk)
+      go true u e = look-kept (s .empties) (s .used) (left-out s) (s .cr) carry (drop position chunk) (ltb-true 0 (s .used) u) (omega arith)
+      go false u e = look-cr (s .empties) (s .used) (left-out s) (s .cr) carry (drop position chunk) (omega (arith, ltb-false 0 (s .used) u)) e
 
-  pub next-fresh : has-line s ≡ false
-      → Meets (of-sought s [] chunk pool at (seek-at chunk position (s .empties))) chunk r carry′ pool′ → Meets (next-outcome s chunk carry pool at) chunk r carry′ pool′
-  next-fresh e m =
+  pub line-fresh : has-line s ≡ false → Finds (of-found s chunk (seek-at chunk position (s .empties))) chunk r carry′ → NextLine s chunk carry r carry′
+  line-fresh e m =
       let (u, w) = or-false (ltb 0 (s .used)) (s .cr) e in
-      next-none (omega (arith, ltb-false 0 (s .used) u)) w m
+      let z : s .used ≡ 0 = omega (arith, ltb-false 0 (s .used) u) in
+      goes (seek-at chunk position (s .empties)) (look-fresh (s .empties) (s .used) (left-out s) (s .cr) carry (drop position chunk) z (none-out s z) w) m
 
--- ---- finish
+-- ---- the last line
 
 pub some-line : (n : ℕ) (l : List ℕ) → (n ≡ 0 → ⊥) → 0 < length l → is-empty (take n l) ≡ false
 unfolding is-empty
@@ -176,35 +195,22 @@ some-line zero l z h = absurd (z refl)
 some-line (suc n) [] z h = absurd (omega arith)
 some-line (suc n) (c ∷ l) z h = refl
 
-module _ (s : Chunks) (carry pool : List ℕ) (at n m : ℕ) (carry′ : List ℕ) (big : 522 ≤ length carry) (small : s .used ≤ 522) (on : s .finished ≡ false)
+module _ (s : Chunks) (carry : List ℕ) (n m : ℕ) (carry′ : List ℕ) (big : 522 ≤ length carry) (small : s .used ≤ 522) (on : s .finished ≡ false)
     (g : Grown carry (s .used) (with-CR (begun s carry)) n m carry′) where
-  pub finish-none : (state : Chunks) (r : ChunkStep) → n ≡ 0 → state ≡ over s → Plain Done state r → Meets (finish-outcome s carry pool at) [] r carry′ pool
+  pub last-none : (state : Chunks) (r : LineStep) → n ≡ 0 → state ≡ over s → r ≡ record { reply = Done; state = state } → LastLine s carry r carry′
   unfolding is-empty
-  finish-none state r z b e =
+  last-none state r z b e =
       let k : with-CR (begun s carry) .bytes ≡ [] = ap (λ (k : Kept). k .bytes) (sym (g .holds)) ∙ ap (λ (m : ℕ). take m carry′) z in
-      rw (finish-on s carry pool at (big-enough s carry big small) on true (ap is-empty k))
-      (record {
-        answer = ap word-of (e .reply-is);
-        state = e .state-is ∙ b;
-        lies = e .lies-is;
-        shows = ap (λ (p : Place). at-place p [] carry′) (e .lies-is);
-        carry = refl;
-        left = refl;
-      })
+      rw (last-on s carry (big-enough s carry big small) on true (ap is-empty k), e) (record { answer = refl; state = b; line = refl; inside = tt; carry = refl })
 
-  pub finish-line : (a : Answer) (line : ℕ) (r : ChunkStep) (pool′ : List ℕ) → (n ≡ 0 → ⊥) → length carry′ ≡ length carry
-      → Reads (judge (stands-for (kept-in carry′ n m))) pool at a pool′ → line ≡ number-behind s (s .empties) → Settles s (told a) 0 line true (InCarry n) r
-      → Meets (finish-outcome s carry pool at) [] r carry′ pool′
-  unfolding place in-carry is-empty
-  finish-line a line r pool′ z same reads number settles =
+  pub last-found : (r : LineStep) → (n ≡ 0 → ⊥) → length carry′ ≡ length carry → r ≡ record { reply = InCarry n m; state = past-line s 0 (number-behind s (s .empties)) true }
+      → LastLine s carry r carry′
+  unfolding found-line line-place in-carry is-empty
+  last-found r z same e =
       let size : length (take n carry′) ≡ n = length-take-le n carry′ (omega (arith, g .within)) in
-      let used : length (take (s .used) carry) ≡ s .used = length-take-le (s .used) carry (omega arith) in
-      rw (finish-on s carry pool at (big-enough s carry big small) on false (ap (λ (k : Kept). is-empty (k .bytes)) (sym (g .holds)) ∙ some-line n carry′ z (omega arith))
-      ∙ ap (λ (k : Kept). answered-line s (take (s .used) carry) [] pool at none (s .empties) k 0 true) (sym (g .holds)))
-      (met s (take (s .used) carry) [] pool at none (s .empties) (kept-in carry′ n m) 0 true line (InCarry n) a r carry′ pool′ reads settles number
-      (λ e. ap InCarry (sym size ∙ ap length (sym (stood e)))) (λ e. sym (stood e))
-      (λ f. rw used (g .earlier (omega (arith, full-kept (kept-in carry′ n m) (length pool) at f))))
-      (rw size))
-    where
-      stood : is-record (answered (judge (stands-for (kept-in carry′ n m))) (length pool) at) ≡ true → stands-for (kept-in carry′ n m) ≡ take n carry′
-      stood e = record-kept (kept-in carry′ n m) (length pool) at e
+      rw (
+        last-on s carry (big-enough s carry big small) on false (ap (λ (k : Kept). is-empty (k .bytes)) (sym (g .holds)) ∙ some-line n carry′ z (omega arith))
+            ∙ ap (λ (k : Kept). found-line s [] none (s .empties) k 0 true) (sym (g .holds)),
+        e,
+      )
+      (record { answer = ap (λ (x : ℕ). InCarry x m) (sym size); state = refl; line = refl; inside = (g .within, omega (arith, g .within)); carry = rw size })

@@ -171,6 +171,7 @@ module _ (chunk : List ℕ) (position empties from passed : ℕ) (line : List �
         line =
             ended-so e ∙ ends-some (some (drop from chunk)) passed (first-line (drop from chunk)) (drop (from + n) chunk) (omega arith)
             ∙ ap (λ (k : List ℕ). ended (some (drop from chunk)) passed (brief k) (drop (from + n) chunk)) p;
+        size = l;
         inside = omega (arith, first-line-length (drop from chunk), length-drop from chunk);
         beyond = turn-inside;
       }

@@ -24,7 +24,7 @@ use Rattle.chunks.specs.Rows.{Seen, Nth, nth, numbered, seen-for, showin
 use Rattle.chunks.specs.Claims.{givens-of, nth-line}
 use Rattle.chunks.proofs.Brief.{judge-brief}
 use Rattle.chunks.proofs.Outcomes.{full-no-record}
-use Rattle.chunks.proofs.Paths.{as-it-is}
+use Rattle.chunks.proofs.Reading.{as-it-is}
 use Rattle.chunks.proofs.Pieces.{M, briefs}
 use Rattle.chunks.proofs.Rows.{answer-to, show-full, show-line}
 

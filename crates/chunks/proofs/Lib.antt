@@ -4,9 +4,11 @@ pub mod Carry
 pub mod Pass
 pub mod Waiting
 pub mod InPlace
+pub mod Front
 pub mod Outcomes
 pub mod Paths
 pub mod FirstTests
+pub mod Reading
 pub mod Pieces
 pub mod Rows
 pub mod Kept

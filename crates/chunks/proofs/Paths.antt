@@ -11,22 +11,14 @@ use lib.Dec.{eqb}
 use lib.ListN.{length, getD, take, drop, length-drop, drop-of-length-le}
 use lib.Seq.{length-take-le, drop-cons}
 use borrow.Author.Tests.{eqb-true, eqb-false}
-use Rattle.record.specs.Line.{judge}
-use Rattle.digits.proofs.Parts.{part-is, part-length}
-use Rattle.reader.specs.declared.Answer.{Answer}
-use Rattle.reader.specs.Told.{told}
-use Rattle.reader.specs.Answer.{Reads, answered}
 use Rattle.chunks.specs.declared.Chunks.{Chunks}
-use Rattle.chunks.specs.declared.Place.{Place}
-use Rattle.chunks.specs.declared.Place.the-variants.{InChunk, InCarry}
-use Rattle.chunks.specs.declared.ChunkReply.the-variants.{UsedUp}
-use Rattle.chunks.specs.declared.ChunkStep.{ChunkStep}
-use Rattle.chunks.specs.Begun.{Begun, nothing, is-empty, brief, stands-for, counted, Sought, ended, unended, seek}
-use Rattle.chunks.specs.Next.{word-of, is-record, number-behind, kept-in, begun, place, at-place, in-carry, of-sought, Meets}
-use Rattle.chunks.specs.Helpers.{held, Grown, Up-to-LF, seek-at, WholeLine, OpenLine, Settles, Plain}
-use Rattle.chunks.proofs.Brief.{judge-brief, brief-short, stands-itself}
+use Rattle.chunks.specs.declared.LineReply.the-variants.{InChunk, InCarry, UsedUp}
+use Rattle.chunks.specs.declared.LineStep.{LineStep}
+use Rattle.chunks.specs.Begun.{Begun, nothing, is-empty, counted, Sought, ended, unended, seek}
+use Rattle.chunks.specs.Next.{number-behind, past-line, kept-in, begun, in-carry}
+use Rattle.chunks.specs.Line.{line-place, found-line, of-found, Finds}
+use Rattle.chunks.specs.Helpers.{held, Up-to-LF, seek-at, WholeLine, OpenLine}
 use Rattle.chunks.proofs.InPlace.{settled, at-LF}
-use Rattle.chunks.proofs.Outcomes.{met, record-short, full-kept, record-kept}
 
 -- ---- what was found
 
@@ -52,32 +44,25 @@ abbrev pub open-state : Chunks → (empties used skipped : ℕ) (cr : Bool) → 
 open-state s empties used skipped cr =
     record { position = 0; line = s .line; empties = empties; used = used; skipped = skipped; cr = cr; finished = false; options = s .options }
 
-used-up-met : (s : Chunks) (used chunk pool : List ℕ) (at : ℕ) (f : Sought) (empties n k : ℕ) (w : Bool) (r : ChunkStep) (carry′ : List ℕ)
-    → f ≡ unended empties (held carry′ n k w) → n ≤ length carry′ → Plain UsedUp (open-state s empties n k w) r → Meets (of-sought s used chunk pool at f) chunk r carry′ pool
-unfolding of-sought
-used-up-met s used chunk pool at f empties n k w r carry′ e h l =
+used-up-found : (s : Chunks) (chunk : List ℕ) (f : Sought) (empties n k : ℕ) (w : Bool) (r : LineStep) (carry′ : List ℕ)
+    → f ≡ unended empties (held carry′ n k w) → n ≤ length carry′ → r ≡ record { reply = UsedUp; state = open-state s empties n k w } → Finds (of-found s chunk f) chunk r carry′
+unfolding of-found
+used-up-found s chunk f empties n k w r carry′ e h l =
     let size : length (take n carry′) ≡ n = length-take-le n carry′ h in
-    rw e (record {
-      answer = ap word-of (l .reply-is);
-      state = l .state-is ∙ rw size;
-      lies = l .lies-is;
-      shows = ap (λ (p : Place). at-place p chunk carry′) (l .lies-is);
-      carry = rw size;
-      left = refl;
-    })
+    rw (e, l) (record { answer = refl; state = rw size; line = refl; inside = tt; carry = rw size })
 
-pub older-open : (s : Chunks) (chunk : List ℕ) (position : ℕ) (carry pool : List ℕ) (at position′ n k : ℕ) (w : Bool) (r : ChunkStep) (carry′ : List ℕ)
-    → Up-to-LF chunk position (begun s carry) position′ (held carry′ n k w) → position′ ≡ length chunk → n ≤ length carry′ → Plain UsedUp (open-state s (s .empties) n k w) r
-    → Meets (of-sought s (take (s .used) carry) chunk pool at (seek none (s .empties) (begun s carry) (drop position chunk))) chunk r carry′ pool
-older-open s chunk position carry pool at position′ n k w r carry′ p e h l =
-    used-up-met s (take (s .used) carry) chunk pool at (seek none (s .empties) (begun s carry) (drop position chunk)) (s .empties) n k w r carry′
+pub older-open : (s : Chunks) (chunk : List ℕ) (position : ℕ) (carry : List ℕ) (position′ n k : ℕ) (w : Bool) (r : LineStep) (carry′ : List ℕ)
+    → Up-to-LF chunk position (begun s carry) position′ (held carry′ n k w) → position′ ≡ length chunk → n ≤ length carry′ → r ≡ record { reply = UsedUp; state = open-state s (s .empties) n k w }
+    → Finds (of-found s chunk (seek none (s .empties) (begun s carry) (drop position chunk))) chunk r carry′
+older-open s chunk position carry position′ n k w r carry′ p e h l =
+    used-up-found s chunk (seek none (s .empties) (begun s carry) (drop position chunk)) (s .empties) n k w r carry′
     (passed-all chunk position (begun s carry) position′ (held carry′ n k w) none (s .empties) p e) h l
 
-pub fresh-open : (s : Chunks) (chunk : List ℕ) (position empties from empties′ : ℕ) (carry pool : List ℕ) (at position′ n k : ℕ) (w : Bool) (r : ChunkStep) (carry′ : List ℕ)
-    → OpenLine chunk position empties from empties′ → Up-to-LF chunk from (held carry 0 0 false) position′ (held carry′ n k w) → n ≤ length carry′ → Plain UsedUp (open-state s empties′ n k w) r
-    → Meets (of-sought s [] chunk pool at (seek-at chunk position empties)) chunk r carry′ pool
-fresh-open s chunk position empties from empties′ carry pool at position′ n k w r carry′ o p h l =
-    used-up-met s [] chunk pool at (seek-at chunk position empties) empties′ n k w r carry′
+pub fresh-open : (s : Chunks) (chunk : List ℕ) (position empties from empties′ : ℕ) (carry : List ℕ) (position′ n k : ℕ) (w : Bool) (r : LineStep) (carry′ : List ℕ)
+    → OpenLine chunk position empties from empties′ → Up-to-LF chunk from (held carry 0 0 false) position′ (held carry′ n k w) → n ≤ length carry′
+    → r ≡ record { reply = UsedUp; state = open-state s empties′ n k w } → Finds (of-found s chunk (seek-at chunk position empties)) chunk r carry′
+fresh-open s chunk position empties from empties′ carry position′ n k w r carry′ o p h l =
+    used-up-found s chunk (seek-at chunk position empties) empties′ n k w r carry′
     (o .goes-on ∙ passed-all chunk from nothing position′ (held carry′ n k w) (some (drop from chunk)) empties′ p (all (eqb position′ (length chunk)) refl)) h l
   where
     all : (t : Bool) → eqb position′ (length chunk) ≡ t → position′ ≡ length chunk
@@ -88,34 +73,13 @@ fresh-open s chunk position empties from empties′ carry pool at position′ n 
 
 -- ---- a line in the chunk
 
--- a record's line is kept as it is
-pub as-it-is : (l : List ℕ) (n at : ℕ) → is-record (answered (judge (stands-for (brief l))) n at) ≡ true → stands-for (brief l) ≡ l
-as-it-is l n at rec =
-    let short : length l < 522 = record-short l n at (rw (judge-brief l) at rec) in
-    ap stands-for (brief-short l (omega arith)) ∙ stands-itself l
-
--- the place of a record's line
-placed : (chunk : List ℕ) (from len n at : ℕ) → from + len ≤ length chunk
-    → is-record (answered (judge (stands-for (brief (take len (drop from chunk))))) n at) ≡ true
-    → InChunk from len ≡ place chunk (some (drop from chunk)) (stands-for (brief (take len (drop from chunk))))
-unfolding place
-placed chunk from len n at h rec =
-    let f : length chunk - length (drop from chunk) ≡ from = omega (arith, length-drop from chunk) in
-    let b : stands-for (brief (take len (drop from chunk))) ≡ take len (drop from chunk) = as-it-is (take len (drop from chunk)) n at rec in
-    ap₂ InChunk (sym f) (sym (ap length b ∙ part-length chunk from len h))
-
-pub fresh-line : (s : Chunks) (chunk : List ℕ) (position empties from len next empties′ : ℕ) (pool : List ℕ) (at : ℕ) (a : Answer) (line : ℕ) (r : ChunkStep) (carry′ pool′ : List ℕ)
-    → WholeLine chunk position empties from len next empties′
-    → Reads (judge (take (from + len - from) (drop from chunk))) pool at a pool′ → line ≡ number-behind s empties′ → Settles s (told a) next line false (InChunk from len) r
-    → Meets (of-sought s [] chunk pool at (seek-at chunk position empties)) chunk r carry′ pool′
-unfolding of-sought in-carry
-fresh-line s chunk position empties from len next empties′ pool at a line r carry′ pool′ c reads number settles =
-    let l : List ℕ = take len (drop from chunk) in
+pub fresh-line : (s : Chunks) (chunk : List ℕ) (position empties from len next empties′ : ℕ) (r : LineStep) (carry′ : List ℕ) → WholeLine chunk position empties from len next empties′
+    → r ≡ record { reply = InChunk from len; state = past-line s next (number-behind s empties′) false } → Finds (of-found s chunk (seek-at chunk position empties)) chunk r carry′
+unfolding of-found found-line line-place in-carry
+fresh-line s chunk position empties from len next empties′ r carry′ c l =
     let e : length chunk - length (drop next chunk) ≡ next = omega (arith, length-drop next chunk, c .beyond) in
-    let rd : Reads (judge (stands-for (brief l))) pool at a pool′ = rw (judge-brief l) (rw (part-is chunk from len) at reads) in
-    rw (c .line, e)
-    (met s [] chunk pool at (some (drop from chunk)) empties′ (brief l) next false line (InChunk from len) a r carry′ pool′ rd settles number
-    (λ rec. placed chunk from len (length pool) at (c .inside) rec) (λ rec. sym (as-it-is l (length pool) at rec)) (λ _. refl) refl)
+    let f : length chunk - length (drop from chunk) ≡ from = omega (arith, length-drop from chunk, c .inside) in
+    rw (c .line, l, e) (record { answer = ap₂ InChunk (sym f) (c .size); state = refl; line = refl; inside = c .inside; carry = refl })
 
 -- ---- an older line
 
@@ -126,32 +90,24 @@ some-ended start empties zero k carry rest z h = absurd (z refl)
 some-ended start empties (suc n) k [] rest z h = absurd (omega arith)
 some-ended start empties (suc n) k (c ∷ carry) rest z h = refl
 
-module _ (s : Chunks) (chunk : List ℕ) (position : ℕ) (carry pool : List ℕ) (at position′ n k : ℕ) (w : Bool) (carry′ : List ℕ)
-    (p : Up-to-LF chunk position (begun s carry) position′ (held carry′ n k w)) (g : Grown carry (s .used) (kept-in carry′ n k) n k carry′) (ne : position′ ≡ length chunk → ⊥) where
-  pub older-line : (a : Answer) (line : ℕ) (r : ChunkStep) (pool′ : List ℕ) → (n ≡ 0 → ⊥) → s .used ≤ length carry → n ≤ length carry′
-      → Reads (judge (stands-for (kept-in carry′ n k))) pool at a pool′ → line ≡ number-behind s (s .empties) → Settles s (told a) (position′ + 1) line false (InCarry n) r
-      → Meets (of-sought s (take (s .used) carry) chunk pool at (seek none (s .empties) (begun s carry) (drop position chunk))) chunk r carry′ pool′
-  unfolding of-sought place in-carry
-  older-line a line r pool′ z hu hn reads number settles =
+module _ (s : Chunks) (chunk : List ℕ) (position : ℕ) (carry : List ℕ) (position′ n k : ℕ) (w : Bool) (carry′ : List ℕ)
+    (p : Up-to-LF chunk position (begun s carry) position′ (held carry′ n k w)) (ne : position′ ≡ length chunk → ⊥) where
+  pub older-line : (r : LineStep) → (n ≡ 0 → ⊥) → n ≤ 522 → n ≤ length carry′
+      → r ≡ record { reply = InCarry n k; state = past-line s (position′ + 1) (number-behind s (s .empties)) false }
+      → Finds (of-found s chunk (seek none (s .empties) (begun s carry) (drop position chunk))) chunk r carry′
+  unfolding of-found found-line line-place in-carry
+  older-line r z few hn l =
       let size : length (take n carry′) ≡ n = length-take-le n carry′ hn in
-      let used : length (take (s .used) carry) ≡ s .used = length-take-le (s .used) carry hu in
       let e : length chunk - length (drop (position′ + 1) chunk) ≡ position′ + 1 = omega (arith, length-drop (position′ + 1) chunk, p .inside) in
-      rw (passed-feed chunk position (begun s carry) position′ (held carry′ n k w) none (s .empties) p ne ∙ some-ended none (s .empties) n k carry′ (drop (position′ + 1) chunk) z hn, e)
-      (met s (take (s .used) carry) chunk pool at none (s .empties) (kept-in carry′ n k) (position′ + 1) false line (InCarry n) a r carry′ pool′ reads settles number
-      (λ rec. ap InCarry (sym size ∙ ap length (sym (record-kept (kept-in carry′ n k) (length pool) at rec)))) (λ rec. sym (record-kept (kept-in carry′ n k) (length pool) at rec))
-      (λ f. rw used (g .earlier (omega (arith, full-kept (kept-in carry′ n k) (length pool) at f))))
-      (rw size))
+      rw (passed-feed chunk position (begun s carry) position′ (held carry′ n k w) none (s .empties) p ne ∙ some-ended none (s .empties) n k carry′ (drop (position′ + 1) chunk) z hn, l, e)
+      (record { answer = ap (λ (x : ℕ). InCarry x k) (sym size); state = refl; line = refl; inside = (few, hn); carry = rw size })
 
   -- an empty line ended: the next one begins in the chunk
   ended-empty : n ≡ 0 → seek none (s .empties) (begun s carry) (drop position chunk) ≡ seek-at chunk (position′ + 1) (counted (s .empties))
   unfolding settled is-empty
   ended-empty z = passed-feed chunk position (begun s carry) position′ (held carry′ n k w) none (s .empties) p ne ∙ rw z
 
-  pub older-empty : (empties : ℕ) (r : ChunkStep) (carry″ pool′ : List ℕ) → n ≡ 0 → empties ≡ counted (s .empties)
-      → Meets (of-sought s [] chunk pool at (seek-at chunk (position′ + 1) empties)) chunk r carry″ pool′
-      → Meets (of-sought s (take (s .used) carry) chunk pool at (seek none (s .empties) (begun s carry) (drop position chunk))) chunk r carry″ pool′
-  older-empty empties r carry″ pool′ z e m =
-      let none-used : s .used ≡ 0 = omega (arith, g .more) in
-      let u : take (s .used) carry ≡ [] = ap (λ (k : ℕ). take k carry) none-used in
-      let f : seek none (s .empties) (begun s carry) (drop position chunk) ≡ seek-at chunk (position′ + 1) empties = ended-empty z ∙ ap (seek-at chunk (position′ + 1)) (sym e) in
-      rw (ap₂ (λ (f : Sought) (k : List ℕ). of-sought s k chunk pool at f) f u) m
+  pub older-empty : (empties : ℕ) (r : LineStep) (carry″ : List ℕ) → n ≡ 0 → empties ≡ counted (s .empties)
+      → Finds (of-found s chunk (seek-at chunk (position′ + 1) empties)) chunk r carry″
+      → Finds (of-found s chunk (seek none (s .empties) (begun s carry) (drop position chunk))) chunk r carry″
+  older-empty empties r carry″ z e m = rw (ended-empty z ∙ ap (seek-at chunk (position′ + 1)) (sym e)) m

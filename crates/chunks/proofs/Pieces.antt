@@ -35,7 +35,7 @@ twice x = omega arith
 -- ---- pieces
 
 -- a line before others, as what is kept of it stands for, unless it is empty; m lines stand ahead of it
-unfoldable before : (m : ℕ) → Kept → List Nth → List Nth
+unfoldable pub before : (m : ℕ) → Kept → List Nth → List Nth
 before m k ls = if is-empty (k .bytes) then ls else nth (suc m % M) (stands-for k) ∷ ls
 
 -- the lines of a text that goes on with a begun line, to the text's end

@@ -21,9 +21,12 @@ use Rattle.reader.specs.Text.{is-full, new-state}
 use Rattle.reader.specs.Calls.{Call, Given, Calls}
 use Rattle.chunks.specs.declared.Chunks.{Chunks}
 use Rattle.chunks.specs.declared.Place.{Place}
+use Rattle.chunks.specs.declared.LineStep.{LineStep}
 use Rattle.chunks.specs.declared.ChunkStep.{ChunkStep}
 use Rattle.chunks.specs.Begun.{Kept, nothing, brief, stands-for, ended, unended, look}
 use Rattle.chunks.specs.Next.{tells, word-of, is-record, new-chunks, at-place, Outcome, unchanged, next-outcome, finish-outcome, NextChunk, Finish, NewChunks, Shown}
+use Rattle.chunks.specs.Line.{next-line-outcome, last-line-outcome, NextLine, LastLine}
+use Rattle.chunks.specs.Helpers.{ReadsLine}
 use Rattle.chunks.specs.Rows.{joined, Seen, Heard, Fed-by, Projects, Fed, numbered, showing}
 
 -- a line that is kept as it is
@@ -212,6 +215,15 @@ Moves =
     → is-full t ≡ false → t ≢ done → t ≢ refuses carry-too-small
     → (s .position < next-outcome s chunk carry pool at .state .position) × (next-outcome s chunk carry pool at .state .position ≤ length chunk)
 
+-- ---- a line that was found
+
+-- `next` answers the line that `next_line` finds, read where it lies and settled, and `finish` the one that `last_line` finds
+abbrev pub Reads-what-is-found : Type 0
+Reads-what-is-found =
+    (s : Chunks) (chunk carry pool : List ℕ) (at : ℕ) (step : LineStep) (r : ChunkStep) (carry′ pool′ : List ℕ)
+    → (NextLine s chunk carry step carry′ → ReadsLine s (step .reply) (step .state) chunk carry′ pool at false r pool′ → NextChunk s chunk carry pool at r carry′ pool′)
+    × (LastLine s carry step carry′ → ReadsLine s (step .reply) (step .state) [] carry′ pool at true r pool′ → Finish s carry pool at r carry′ pool′)
+
 -- ---- one outcome each
 
 abbrev pub New-unique : Type 0
@@ -229,6 +241,16 @@ Finish-unique =
     (s : Chunks) (carry pool : List ℕ) (at : ℕ) (r₁ r₂ : ChunkStep) (carry₁ carry₂ pool₁ pool₂ : List ℕ)
     → Finish s carry pool at r₁ carry₁ pool₁ → Finish s carry pool at r₂ carry₂ pool₂
     → let n = length (finish-outcome s carry pool at .carried) in (r₁ ≡ r₂) × (take n carry₁ ≡ take n carry₂) × (pool₁ ≡ pool₂)
+
+abbrev pub Next-line-unique : Type 0
+Next-line-unique =
+    (s : Chunks) (chunk carry : List ℕ) (r₁ r₂ : LineStep) (carry₁ carry₂ : List ℕ) → NextLine s chunk carry r₁ carry₁ → NextLine s chunk carry r₂ carry₂
+    → let n = length (next-line-outcome s chunk carry .carried) in (r₁ ≡ r₂) × (take n carry₁ ≡ take n carry₂)
+
+abbrev pub Last-line-unique : Type 0
+Last-line-unique =
+    (s : Chunks) (carry : List ℕ) (r₁ r₂ : LineStep) (carry₁ carry₂ : List ℕ) → LastLine s carry r₁ carry₁ → LastLine s carry r₂ carry₂
+    → let n = length (last-line-outcome s carry .carried) in (r₁ ≡ r₂) × (take n carry₁ ≡ take n carry₂)
 
 abbrev pub Shown-unique : Type 0
 Shown-unique =

@@ -11,17 +11,23 @@ use lib.ListN.{length, take, drop, getD}
 use Rattle.digits.specs.Common.{if_then_else_}
 use Rattle.record.specs.Refusals.{Refusal, refusal, contains-invalid-characters}
 use Rattle.digits.specs.Reading.{named}
-use Rattle.reader.specs.Told.{Told, gives, refuses, done}
-use Rattle.reader.specs.Lines.{LF, CR}
+use Rattle.record.specs.Line.{judge}
+use Rattle.reader.specs.declared.Answer.{Answer}
+use Rattle.reader.specs.Told.{Told, gives, refuses, done, told}
+use Rattle.reader.specs.Answer.{Reads}
+use Rattle.reader.specs.Lines.{LF, CR, first-line}
 use Rattle.reader.specs.Text.{is-full, ends-row}
 use Rattle.chunks.specs.declared.Chunks.{Chunks}
 use Rattle.chunks.specs.declared.Place.{Place}
-use Rattle.chunks.specs.declared.Place.the-variants.{Nowhere}
+use Rattle.chunks.specs.declared.Place.the-variants.{Nowhere, InChunk, InCarry}
+use Rattle.chunks.specs.declared.LineReply.{LineReply}
+use Rattle.chunks.specs.declared.LineReply.the-variants as found
 use Rattle.chunks.specs.declared.ChunkReply.{ChunkReply}
+use Rattle.chunks.specs.declared.ChunkReply.the-variants.{UsedUp, Done, CarryTooSmall}
 use Rattle.chunks.specs.declared.ChunkStep.{ChunkStep}
 use Rattle.chunks.specs.declared.Cut.{Cut}
 use Rattle.chunks.specs.declared.Cut.the-variants.{Whole, Open}
-use Rattle.chunks.specs.Begun.{Kept, Begun, nothing, brief, Sought, ended, seek}
+use Rattle.chunks.specs.Begun.{Kept, Begun, nothing, brief, stands-for, Sought, ended, seek}
 use Rattle.chunks.specs.Next.{tells, word-of, is-record, kept-in, past-line}
 
 -- what a carry keeps, and a CR that waits
@@ -57,6 +63,7 @@ seek-at chunk position empties = seek (some (drop position chunk)) empties nothi
 -- the first line from a position on that ends in the chunk and has a byte
 pub record WholeLine (chunk : List ℕ) (position empties from len next empties′ : ℕ) : Type 0 where
   pub line : seek-at chunk position empties ≡ ended (some (drop from chunk)) empties′ (brief (take len (drop from chunk))) (drop next chunk)
+  pub size : len ≡ length (first-line (drop from chunk))
   pub inside : from + len ≤ length chunk
   pub beyond : next ≤ length chunk
 
@@ -94,6 +101,16 @@ pub record Plain (reply : ChunkReply) (s : Chunks) (r : ChunkStep) : Type 0 wher
   pub reply-is : r .reply ≡ reply
   pub state-is : r .state ≡ s
   pub lies-is : r .lies ≡ Nowhere
+
+-- what is done with the reply of a search: a line is read where it lies and settled; any other reply is handed on
+abbrev pub ReadsLine : Chunks → LineReply → (state : Chunks) (chunk carry pool : List ℕ) (at : ℕ) (last : Bool) → ChunkStep → (pool′ : List ℕ) → Type 0
+ReadsLine s (found.InChunk from len) state chunk carry pool at last r pool′ =
+    (a : Answer) × Reads (judge (take len (drop from chunk))) pool at a pool′ × Settles s (told a) (state .position) (state .line) last (InChunk from len) r
+ReadsLine s (found.InCarry len skipped) state chunk carry pool at last r pool′ =
+    (a : Answer) × Reads (judge (stands-for (kept-in carry len skipped))) pool at a pool′ × Settles s (told a) (state .position) (state .line) last (InCarry len) r
+ReadsLine s found.UsedUp state chunk carry pool at last r pool′ = Plain UsedUp state r × (pool′ ≡ pool)
+ReadsLine s found.Done state chunk carry pool at last r pool′ = Plain Done state r × (pool′ ≡ pool)
+ReadsLine s found.CarryTooSmall state chunk carry pool at last r pool′ = Plain CarryTooSmall state r × (pool′ ≡ pool)
 
 -- a place of n, or behind the last
 pub record Within (place n r : ℕ) : Type 0 where

@@ -7,10 +7,9 @@ use record::char_counts::MOST_KEPT;
 use record::chars;
 ghost use mathlib.Core.Path.{_≡_};
 ghost use mathlib.Core.Bool.{false, _||_};
-ghost use mathlib.Core.List.{[]};
 ghost use mathlib.Core.Option.{none};
 ghost use Prim.Native.Nat.{suc, _+_, _≤_};
-ghost use lib.ListN.{length, take, drop};
+ghost use lib.ListN.{length, drop};
 ghost use lib.Seq.{paste};
 ghost use Rattle.digits.specs.Digits.{is-digit};
 ghost use Rattle.record.specs.Line.{judge};
@@ -19,7 +18,8 @@ ghost use Rattle.reader.specs.Told.{refusal-of, told};
 ghost use Rattle.reader.specs.Answer.{Reads};
 ghost use Rattle.reader.specs.Text.{default-options};
 ghost use Rattle.chunks.specs.Begun.{seek, stands-for, push as pushed, with-CR, add as added};
-ghost use Rattle.chunks.specs.Next.{kept-in, left-out, begun, past-line, over, number-behind, of-sought, Meets, NextChunk, Finish, NewChunks, PartOf, Shown};
+ghost use Rattle.chunks.specs.Next.{kept-in, left-out, begun, past-line, over, number-behind, NextChunk, Finish, NewChunks, PartOf, Shown};
+ghost use Rattle.chunks.specs.Line.{of-found, Finds, NextLine, LastLine};
 ghost use Rattle.chunks.specs.Helpers.{held, has-line, Grown, Up-to-LF, ends-in-CR, seek-at, CutAt, place-in-line, refusal-in-line, told-in-line, Settles, Plain, Within};
 
 // The last place of the carry that a line uses, and the same as a refusal names it.
@@ -71,6 +71,22 @@ pub struct ChunkStep {
     pub reply: ChunkReply,
     pub state: Chunks,
     pub lies: Place,
+}
+
+// What a search for the next line answers: where the line lies, or why there is none. Of a line in the carry so many digits were left
+// out before its last byte.
+pub enum LineReply {
+    InChunk { from: usize, len: usize },
+    InCarry { len: usize, skipped: u16 },
+    UsedUp,
+    Done,
+    CarryTooSmall,
+}
+
+// The reply, and where the reader stands then: after a line, as after one that was answered and does not stop the reader.
+pub struct LineStep {
+    pub reply: LineReply,
+    pub state: Chunks,
 }
 
 // How much of a line the carry holds, and how much was left out.
@@ -435,6 +451,13 @@ fn read_kept(bytes: &[u8], skipped: u16, pool: &mut [u8], at: usize) -> Answer
     answer_in_line(reader::read_record(bytes, pool, at), skipped)
 }
 
+// A reply that names no line, with a state.
+fn idle(reply: LineReply, state: Chunks) -> LineStep
+    ensures { λ r. ⌜ r ≡ record { reply = reply; state = state } ⌝ }
+{
+    LineStep { reply, state }
+}
+
 // The reply to a line that was answered, and the state behind it; PoolFull does not use the line up.
 fn settle(
     s: Chunks,
@@ -470,8 +493,8 @@ fn settle(
 }
 
 // The chunk is used up, and the carry holds a line that is begun.
-fn used_up(s: Chunks, empties: usize, used: usize, skipped: u16, cr: bool) -> ChunkStep
-    ensures { λ r. ⌜ Plain ChunkReply.UsedUp (record { position = 0; line = s .line; empties = empties; used = used; skipped = skipped; cr = cr; finished = false; options = s .options }) r ⌝ }
+fn used_up(s: Chunks, empties: usize, used: usize, skipped: u16, cr: bool) -> LineStep
+    ensures { λ r. ⌜ r ≡ record { reply = LineReply.UsedUp; state = record { position = 0; line = s .line; empties = empties; used = used; skipped = skipped; cr = cr; finished = false; options = s .options } } ⌝ }
 {
     let options = s.options;
     let state = Chunks {
@@ -484,21 +507,26 @@ fn used_up(s: Chunks, empties: usize, used: usize, skipped: u16, cr: bool) -> Ch
         finished: false,
         options,
     };
-    plain(ChunkReply::UsedUp, state)
+    LineStep {
+        reply: LineReply::UsedUp,
+        state,
+    }
 }
 
-// Nothing is begun: the first line from a position on is judged where it lies; one that does not end in the chunk goes into the carry.
-fn fresh(
-    s: Chunks,
-    chunk: &[u8],
-    position: usize,
-    empties: usize,
-    carry: &mut [u8],
-    pool: &mut [u8],
-    at: usize,
-) -> ChunkStep
+// A line was found, with so many empty lines before it.
+fn found(s: Chunks, reply: LineReply, position: usize, empties: usize, last: bool) -> LineStep
+    ensures { λ r. ⌜ r ≡ record { reply = reply; state = past-line s position (number-behind s empties) last } ⌝ }
+{
+    LineStep {
+        reply,
+        state: past_line(s, position, number_behind(s, empties), last),
+    }
+}
+
+// Nothing is begun: the first line from a position on is found where it lies; one that does not end in the chunk goes into the carry.
+fn fresh(s: Chunks, chunk: &[u8], position: usize, empties: usize, carry: &mut [u8]) -> LineStep
     requires { ⌜ (position ≤ length (now chunk)) × (522 ≤ length (now carry)) ⌝ }
-    ensures { λ r. ⌜ Meets (of-sought s [] (now (chunk .entry)) (now (pool .entry)) at (seek-at (now (chunk .entry)) position empties)) (now (chunk .entry)) r (now (carry .exit)) (now (pool .exit)) ⌝ }
+    ensures { λ r. ⌜ Finds (of-found s (now (chunk .entry)) (seek-at (now (chunk .entry)) position empties)) (now (chunk .entry)) r (now (carry .exit)) ⌝ }
 {
     match find(chunk, position, empties) {
         Cut::Open { from, empties: n } => {
@@ -510,18 +538,7 @@ fn fresh(
             len,
             next,
             empties: n,
-        } => {
-            let to = from + len;
-            let answer = reader::read_record(&chunk[from..to], pool, at);
-            settle(
-                s,
-                answer,
-                next,
-                number_behind(s, n),
-                false,
-                Place::InChunk { from, len },
-            )
-        }
+        } => found(s, LineReply::InChunk { from, len }, next, n, false),
     }
 }
 
@@ -535,17 +552,10 @@ fn left_out(s: Chunks) -> u16
     s.skipped
 }
 
-// A line is begun: it is gathered in the carry and judged there. An empty one, whose CR was cut from its LF, is passed.
-fn older(
-    s: Chunks,
-    chunk: &[u8],
-    position: usize,
-    carry: &mut [u8],
-    pool: &mut [u8],
-    at: usize,
-) -> ChunkStep
+// A line is begun: it is gathered in the carry and found there. An empty one, whose CR was cut from its LF, is passed.
+fn older(s: Chunks, chunk: &[u8], position: usize, carry: &mut [u8]) -> LineStep
     requires { ⌜ (position ≤ length (now chunk)) × (s .used ≤ 522) × (522 ≤ length (now carry)) ⌝ }
-    ensures { λ r. ⌜ Meets (of-sought s (take (s .used) (now (carry .entry))) (now (chunk .entry)) (now (pool .entry)) at (seek none (s .empties) (begun s (now (carry .entry))) (drop position (now (chunk .entry))))) (now (chunk .entry)) r (now (carry .exit)) (now (pool .exit)) ⌝ }
+    ensures { λ r. ⌜ Finds (of-found s (now (chunk .entry)) (seek none (s .empties) (begun s (now (carry .entry))) (drop position (now (chunk .entry))))) (now (chunk .entry)) r (now (carry .exit)) ⌝ }
 {
     let g = gather(chunk, position, carry, s.used, left_out(s), s.cr);
     let feed = g.position;
@@ -556,17 +566,13 @@ fn older(
     let next = feed + 1;
     if used == 0 {
         let empties = std::num::wrapping_add_usize(s.empties, 1);
-        return fresh(s, chunk, next, empties, carry, pool, at);
+        return fresh(s, chunk, next, empties, carry);
     }
-    let answer = read_kept(&carry[..used], g.skipped, pool, at);
-    settle(
-        s,
-        answer,
-        next,
-        number_behind(s, s.empties),
-        false,
-        Place::InCarry { len: used },
-    )
+    let reply = LineReply::InCarry {
+        len: used,
+        skipped: g.skipped,
+    };
+    found(s, reply, next, s.empties, false)
 }
 
 // Whether a line is begun: bytes of it, or a CR that waits.
@@ -630,52 +636,110 @@ impl Chunks {
         }
     }
 
+    // The next line that ends in the chunk, from where the state stands in it: a line that has a byte. It lies in the chunk, or in the
+    // carry if it was begun in an earlier chunk.
+    pub fn next_line(self, chunk: &[u8], carry: &mut [u8]) -> LineStep
+        ensures { λ r. ⌜ NextLine self (now (chunk .entry)) (now (carry .entry)) r (now (carry .exit)) ⌝ }
+    {
+        if carry.len() < MOST_KEPT {
+            return idle(LineReply::CarryTooSmall, self);
+        }
+        if self.used > MOST_KEPT {
+            return idle(LineReply::CarryTooSmall, self);
+        }
+        if self.finished {
+            return idle(LineReply::Done, self);
+        }
+        let position = within(self.position, chunk.len());
+        if has_line(self) {
+            return older(self, chunk, position, carry);
+        }
+        fresh(self, chunk, position, self.empties, carry)
+    }
+
+    // Ends the text: what is begun is its last line. It lies in the carry.
+    pub fn last_line(self, carry: &mut [u8]) -> LineStep
+        ensures { λ r. ⌜ LastLine self (now (carry .entry)) r (now (carry .exit)) ⌝ }
+    {
+        if carry.len() < MOST_KEPT {
+            return idle(LineReply::CarryTooSmall, self);
+        }
+        if self.used > MOST_KEPT {
+            return idle(LineReply::CarryTooSmall, self);
+        }
+        if self.finished {
+            return idle(LineReply::Done, self);
+        }
+        let taken = with_cr(carry, self.used, left_out(self), self.cr);
+        let used = taken.used;
+        if used == 0 {
+            return idle(LineReply::Done, over(self));
+        }
+        let reply = LineReply::InCarry {
+            len: used,
+            skipped: taken.skipped,
+        };
+        found(self, reply, 0, self.empties, true)
+    }
+
     // The next answer that the chunk holds, from where the state stands in it. The payload of a data record goes into the pool at a position.
     pub fn next(self, chunk: &[u8], carry: &mut [u8], pool: &mut [u8], at: usize) -> ChunkStep
         ensures { λ r. ⌜ NextChunk self (now (chunk .entry)) (now (carry .entry)) (now (pool .entry)) at r (now (carry .exit)) (now (pool .exit)) ⌝ }
     {
-        if carry.len() < MOST_KEPT {
-            return plain(ChunkReply::CarryTooSmall, self);
+        let step = self.next_line(chunk, carry);
+        let reply = step.reply;
+        let state = step.state;
+        match reply {
+            LineReply::InChunk { from, len } => {
+                let to = from + len;
+                let answer = reader::read_record(&chunk[from..to], pool, at);
+                settle(
+                    self,
+                    answer,
+                    state.position,
+                    state.line,
+                    false,
+                    Place::InChunk { from, len },
+                )
+            }
+            LineReply::InCarry { len, skipped } => {
+                let answer = read_kept(&carry[..len], skipped, pool, at);
+                settle(
+                    self,
+                    answer,
+                    state.position,
+                    state.line,
+                    false,
+                    Place::InCarry { len },
+                )
+            }
+            LineReply::UsedUp => plain(ChunkReply::UsedUp, state),
+            LineReply::Done => plain(ChunkReply::Done, state),
+            LineReply::CarryTooSmall => plain(ChunkReply::CarryTooSmall, state),
         }
-        if self.used > MOST_KEPT {
-            return plain(ChunkReply::CarryTooSmall, self);
-        }
-        if self.finished {
-            return plain(ChunkReply::Done, self);
-        }
-        let position = within(self.position, chunk.len());
-        if has_line(self) {
-            return older(self, chunk, position, carry, pool, at);
-        }
-        fresh(self, chunk, position, self.empties, carry, pool, at)
     }
 
     // Ends the text: what is begun is its last line.
     pub fn finish(self, carry: &mut [u8], pool: &mut [u8], at: usize) -> ChunkStep
         ensures { λ r. ⌜ Finish self (now (carry .entry)) (now (pool .entry)) at r (now (carry .exit)) (now (pool .exit)) ⌝ }
     {
-        if carry.len() < MOST_KEPT {
-            return plain(ChunkReply::CarryTooSmall, self);
+        let step = self.last_line(carry);
+        let reply = step.reply;
+        let state = step.state;
+        match reply {
+            LineReply::InCarry { len, skipped } => {
+                let answer = read_kept(&carry[..len], skipped, pool, at);
+                settle(
+                    self,
+                    answer,
+                    state.position,
+                    state.line,
+                    true,
+                    Place::InCarry { len },
+                )
+            }
+            LineReply::Done => plain(ChunkReply::Done, state),
+            _ => plain(ChunkReply::CarryTooSmall, state),
         }
-        if self.used > MOST_KEPT {
-            return plain(ChunkReply::CarryTooSmall, self);
-        }
-        if self.finished {
-            return plain(ChunkReply::Done, self);
-        }
-        let taken = with_cr(carry, self.used, left_out(self), self.cr);
-        let used = taken.used;
-        if used == 0 {
-            return plain(ChunkReply::Done, over(self));
-        }
-        let answer = read_kept(&carry[..used], taken.skipped, pool, at);
-        settle(
-            self,
-            answer,
-            0,
-            number_behind(self, self.empties),
-            true,
-            Place::InCarry { len: used },
-        )
     }
 }

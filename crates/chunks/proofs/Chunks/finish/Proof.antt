@@ -1,75 +1,83 @@
--- `chunks::Chunks::finish` meets its contract: 18, "done", nothing begun, or the line that is begun read as the last.
+-- `chunks::Chunks::finish` meets its contract: the last line is read in the carry and settled, and any other reply is handed on.
 -- Assumes nothing.
-use mathlib.Core.Path.{sym}
+use Prim.Native.Nat.{ℕ, _≤_}
+use mathlib.Core.Path.{refl, sym, subst}
+use mathlib.Core.List.{List, [], _∷_}
 use native.Mathlib.Omega.{arith}
 use borrow.Author.Needs.{needs}
+use types.Run.{OneOf, miss}
+use denote.Enum.Declared.{tagOf}
 use denote.Ref.{now}
-use lib.ListN.{length-take}
+use lib.ListN.{length, length-take}
 use lib.Seq.{length-take-le}
-use Rattle.chunks.proofs.FirstTests.{small-carry, much-used, big-enough, finish-small, finish-done, finish-none, finish-line}
+use Rattle.chunks.specs.declared.LineReply.{LineReply}
+use Rattle.chunks.specs.Line.{Inside}
+use Rattle.chunks.proofs.LineReply.{the-type}
+use Rattle.chunks.proofs.FirstTests.{last-other}
+use Rattle.chunks.proofs.Reading.{finish-reads}
 use Rattle.chunks.proofs.Chunks.finish.Statement.{statement}
 use Rattle.chunks.proofs.Chunks.finish.Tie as tie
 
+in-carry : (c : tie.After-reply) → (c .reply .given .0 .0 ≤ 522) × (c .reply .given .0 .0 ≤ length (c .before .before .before .before .before .last-line .last .1 .0))
+in-carry c =
+    let l = c .before .before .before .before .before .last-line in
+    subst (λ (x : LineReply). Inside x [] (l .last .1 .0)) (c .reply .given .1) (l .ensures .inside)
+
+slice-reshare-prefix-read-kept : tie.Need-slice-reshare-prefix-read-kept
+slice-reshare-prefix-read-kept c = in-carry (c .before) .1
+
+slice-aggregate-read-kept : tie.Need-slice-aggregate-read-kept
+slice-aggregate-read-kept c = sym (length-take-le (c .before .before .reply .given .0 .0) (c .before .before .before .before .before .before .before .last-line .last .1 .0) (in-carry (c .before .before) .1))
+
+read-kept-requires : tie.Need-read-kept-requires
+read-kept-requires c κs = simp length-take (omega (arith, in-carry (c .before .before .before) .0))
+
 returns : tie.Need-returns
 returns c =
-    let a = c .before .before .before .before .args in
-    finish-small (a .self) (now (a .carry)) (now (a .pool)) (a .at) (c .plain .result) (small-carry (a .self) (now (a .carry)) (search needs)) (c .plain .ensures)
+    let a = c .before .before .before .before .before .before .before .before .before .before .before .before .before .before .before .before .args in
+    let l = c .before .before .before .before .before .before .before .before .before .before .before .before .last-line in
+    let q = c .before .before .before .read-kept in
+    finish-reads (a .self) (now (a .carry)) (now (a .pool)) (a .at) (l .result) (c .settle .result) (l .last .1 .0) (q .last .1 .1 .0) (l .ensures)
+    (rw (c .before .before .before .before .before .before .before .reply .given .1) (q .result, q .ensures, c .settle .ensures))
 
 returns-2 : tie.Need-returns-2
 returns-2 c =
-    let a = c .before .before .before .before .before .before .args in
-    finish-small (a .self) (now (a .carry)) (now (a .pool)) (a .at) (c .plain2 .result) (much-used (a .self) (now (a .carry)) (search needs)) (c .plain2 .ensures)
+    let a = c .before .before .before .before .before .before .before .before .before .before .args in
+    let l = c .before .before .before .before .before .before .last-line in
+    finish-reads (a .self) (now (a .carry)) (now (a .pool)) (a .at) (l .result) (c .plain .result) (l .last .1 .0) (now (a .pool)) (l .ensures)
+    (rw (c .before .enum-told .given .1) (c .plain .ensures, refl))
+
+-- the replies that are neither a line in the carry nor "done"
+abbrev others : List ℕ
+others = 0 ∷ 2 ∷ 4 ∷ []
 
 returns-3 : tie.Need-returns-3
 returns-3 c =
-    let a = c .before .before .before .before .before .before .before .args in
-    finish-done (a .self) (now (a .carry)) (now (a .pool)) (a .at) (c .plain3 .result) (big-enough (a .self) (now (a .carry)) (search needs) (search needs)) (c .before .if3 .taken) (c .plain3 .ensures)
-
-returns-4 : tie.Need-returns-4
-returns-4 c =
-    let a = c .before .before .before .before .before .before .before .before .before .before .before .before .before .before .args in
-    let w = c .before .before .before .before .before .with-cr in
-    let l = c .before .before .before .before .before .before .left-out in
-    finish-none (a .self) (now (a .carry)) (now (a .pool)) (a .at) (w .result .used) (w .result .skipped) (w .last .0) (c .before .before .before .before .before .before .before .before .before .before .before .if1 .left) (c .before .before .before .before .before .before .before .before .before .if2 .left) (c .before .before .before .before .before .before .before .before .if3 .left) (rw (l .ensures) at (w .ensures)) (c .before .over .result) (c .plain4 .result) (c .before .before .if4 .taken) (c .before .over .ensures) (c .plain4 .ensures)
-
-slice-aggregate-read-kept : tie.Need-slice-aggregate-read-kept
-slice-aggregate-read-kept c =
-    let w = c .before .before .before .before .with-cr in
-    sym (length-take-le (w .result .used) (w .last .0) (omega (arith, w .ensures .within, w .kept .0)))
-
-read-kept-requires : tie.Need-read-kept-requires
-read-kept-requires c κs = simp length-take (omega (arith, c .before .before .before .before .before .with-cr .ensures .within))
-
-returns-5 : tie.Need-returns-5
-returns-5 c =
-    let a = c .before .before .before .before .before .before .before .before .before .before .before .before .before .before .before .before .before .before .before .args in
-    let w = c .before .before .before .before .before .before .before .before .before .before .with-cr in
-    let l = c .before .before .before .before .before .before .before .before .before .before .before .left-out in
-    let q = c .before .before .before .before .read-kept in
-    let n = c .before .number-behind in
-    finish-line (a .self) (now (a .carry)) (now (a .pool)) (a .at) (w .result .used) (w .result .skipped) (w .last .0) (c .before .before .before .before .before .before .before .before .before .before .before .before .before .before .before .before .if1 .left) (c .before .before .before .before .before .before .before .before .before .before .before .before .before .before .if2 .left) (c .before .before .before .before .before .before .before .before .before .before .before .before .before .if3 .left) (rw (l .ensures) at (w .ensures)) (q .result) (n .result) (c .settle .result) (q .last .1 .1 .0) (c .before .before .before .before .before .before .before .if4 .left) (w .kept .0) (q .ensures) (n .ensures) (c .settle .ensures)
+    let a = c .before .before .before .before .before .before .before .before .before .args in
+    let l = c .before .before .before .before .before .last-line in
+    let h : OneOf others (tagOf the-type (l .result .reply)) = c .before .match .keys3 in
+    finish-reads (a .self) (now (a .carry)) (now (a .pool)) (a .at) (l .result) (c .plain2 .result) (l .last .1 .0) (now (a .pool)) (l .ensures)
+    (rw (last-other (a .self) (now (a .carry)) (l .result) (l .last .1 .0) (l .ensures)
+    (λ n k e. miss others 1 tt (subst (λ (x : LineReply). OneOf others (tagOf the-type x)) e h)) (λ e. miss others 3 tt (subst (λ (x : LineReply). OneOf others (tagOf the-type x)) e h)))
+    (c .plain2 .ensures, refl))
 
 pub finish-spec : {M : Type 1} → statement M
 finish-spec =
     tie.close
     (tie.spec
     (λ c κs. search needs)
-    returns
-    (λ c κs. search needs)
-    returns-2
-    (λ c κs. search needs)
-    returns-3
-    (λ c κs. search needs)
-    (λ c κs. search needs)
-    (λ c κs. search needs)
-    (λ c κs. search needs)
     (λ c. search needs)
-    returns-4
-    (λ c. search needs)
+    slice-reshare-prefix-read-kept
     slice-aggregate-read-kept
     read-kept-requires
     (λ c κs. search needs)
+    (λ c. search needs)
+    (λ c κs. search needs)
     (λ c κs. search needs)
     (λ c. search needs)
     (λ c. search needs)
-    returns-5)
+    returns
+    (λ c. search needs)
+    returns-2
+    (λ c. search needs)
+    returns-3)

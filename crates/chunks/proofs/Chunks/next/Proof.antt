@@ -1,60 +1,114 @@
--- `chunks::Chunks::next` meets its contract: 18, "done", a line that is begun, or the first line from the position on.
+-- `chunks::Chunks::next` meets its contract: the line that was found is read where it lies and settled, and any other reply is handed on.
 -- Assumes nothing.
-use mathlib.Core.Path.{sym, _∙_}
+use Prim.Native.Nat.{_+_, _≤_}
+use mathlib.Core.Path.{refl, sym, subst}
+use native.Mathlib.Omega.{arith}
 use borrow.Author.Needs.{needs}
 use denote.Ref.{now}
-use Rattle.chunks.proofs.FirstTests.{small-carry, much-used, big-enough, next-small, next-done, next-begun, next-fresh}
+use lib.ListN.{length, length-take}
+use lib.Seq.{length-take-le}
+use Rattle.digits.proofs.Parts.{part-is}
+use Rattle.chunks.specs.declared.LineReply.{LineReply}
+use Rattle.chunks.specs.Line.{Inside}
+use Rattle.chunks.proofs.Reading.{next-reads}
 use Rattle.chunks.proofs.Chunks.next.Statement.{statement}
 use Rattle.chunks.proofs.Chunks.next.Tie as tie
 
+in-chunk : (c : tie.After-reply) → c .reply .given .0 .0 + c .reply .given .0 .1 .0 ≤ length (now (c .before .before .before .before .before .before .before .before .before .before .args .chunk))
+in-chunk c =
+    let l = c .before .before .before .before .before .next-line in
+    subst (λ (x : LineReply). Inside x (now (c .before .before .before .before .before .before .before .before .before .before .args .chunk)) (l .last .1 .1 .0)) (c .reply .given .1) (l .ensures .inside)
+
+in-carry : (c : tie.After-reply2) → (c .reply2 .given .0 .0 ≤ 522) × (c .reply2 .given .0 .0 ≤ length (c .before .before .before .before .before .next-line .last .1 .1 .0))
+in-carry c =
+    let l = c .before .before .before .before .before .next-line in
+    subst (λ (x : LineReply). Inside x (now (c .before .before .before .before .before .before .before .before .before .before .args .chunk)) (l .last .1 .1 .0)) (c .reply2 .given .1) (l .ensures .inside)
+
+add-to : tie.Need-add-to
+add-to c = omega (arith, in-chunk (c .before))
+
+part-read-record-end : tie.Need-part-read-record-end
+part-read-record-end c = in-chunk (c .before)
+
+slice-reshare-prefix-read-kept : tie.Need-slice-reshare-prefix-read-kept
+slice-reshare-prefix-read-kept c = in-carry (c .before) .1
+
+slice-aggregate-read-kept : tie.Need-slice-aggregate-read-kept
+slice-aggregate-read-kept c = sym (length-take-le (c .before .before .reply2 .given .0 .0) (c .before .before .before .before .before .before .before .next-line .last .1 .1 .0) (in-carry (c .before .before) .1))
+
+read-kept-requires : tie.Need-read-kept-requires
+read-kept-requires c κs = simp length-take (omega (arith, in-carry (c .before .before .before) .0))
+
 returns : tie.Need-returns
 returns c =
-    let a = c .before .before .before .before .before .args in
-    next-small (a .self) (now (a .chunk)) (now (a .carry)) (now (a .pool)) (a .at) (c .plain .result) (small-carry (a .self) (now (a .carry)) (search needs)) (c .plain .ensures)
+    let a = c .before .before .before .before .before .before .before .before .before .before .before .before .before .before .before .before .before .args in
+    let l = c .before .before .before .before .before .before .before .before .before .before .before .before .next-line in
+    let g = c .before .before .before .before .before .before .before .reply .given in
+    let q = c .before .before .before .read-record in
+    next-reads (a .self) (now (a .chunk)) (now (a .carry)) (now (a .pool)) (a .at) (l .result) (c .settle .result) (l .last .1 .1 .0) (q .last .1 .0) (l .ensures)
+    (rw (g .1) (q .result, rw (part-is (now (a .chunk)) (g .0 .0) (g .0 .1 .0)) at (q .ensures), c .settle .ensures))
 
 returns-2 : tie.Need-returns-2
 returns-2 c =
-    let a = c .before .before .before .before .before .before .before .args in
-    next-small (a .self) (now (a .chunk)) (now (a .carry)) (now (a .pool)) (a .at) (c .plain2 .result) (much-used (a .self) (now (a .carry)) (search needs)) (c .plain2 .ensures)
+    let a = c .before .before .before .before .before .before .before .before .before .before .before .before .before .before .before .before .before .args in
+    let l = c .before .before .before .before .before .before .before .before .before .before .before .before .next-line in
+    let q = c .before .before .before .read-kept in
+    next-reads (a .self) (now (a .chunk)) (now (a .carry)) (now (a .pool)) (a .at) (l .result) (c .settle2 .result) (l .last .1 .1 .0) (q .last .1 .1 .0) (l .ensures)
+    (rw (c .before .before .before .before .before .before .before .reply2 .given .1) (q .result, q .ensures, c .settle2 .ensures))
 
 returns-3 : tie.Need-returns-3
 returns-3 c =
-    let a = c .before .before .before .before .before .before .before .before .args in
-    next-done (a .self) (now (a .chunk)) (now (a .carry)) (now (a .pool)) (a .at) (c .plain3 .result) (big-enough (a .self) (now (a .carry)) (search needs) (search needs)) (c .before .if3 .taken) (c .plain3 .ensures)
+    let a = c .before .before .before .before .before .before .before .before .before .before .before .args in
+    let l = c .before .before .before .before .before .before .next-line in
+    next-reads (a .self) (now (a .chunk)) (now (a .carry)) (now (a .pool)) (a .at) (l .result) (c .plain .result) (l .last .1 .1 .0) (now (a .pool)) (l .ensures)
+    (rw (c .before .enum-told .given .1) (c .plain .ensures, refl))
 
 returns-4 : tie.Need-returns-4
 returns-4 c =
-    let a = c .before .before .before .before .before .before .before .before .before .before .before .before .before .before .before .before .before .args in
-    let o = c .before .before .before .before .older in
-    let l = c .before .before .before .before .before .before .before .before .has-line in
-    let w = c .before .before .before .before .before .before .before .before .before .within in
-    next-begun (a .self) (now (a .chunk)) (now (a .carry)) (now (a .pool)) (a .at) (w .result) (o .result) (o .last .1 .1 .1 .0) (o .last .1 .1 .1 .1 .0) (c .before .before .before .before .before .before .before .before .before .before .before .before .before .if1 .left) (c .before .before .before .before .before .before .before .before .before .before .before .if2 .left) (c .before .before .before .before .before .before .before .before .before .before .if3 .left) (w .ensures) (sym (l .ensures) ∙ c .before .before .before .before .before .before .before .if4 .taken) (o .ensures)
+    let a = c .before .before .before .before .before .before .before .before .before .before .before .args in
+    let l = c .before .before .before .before .before .before .next-line in
+    next-reads (a .self) (now (a .chunk)) (now (a .carry)) (now (a .pool)) (a .at) (l .result) (c .plain2 .result) (l .last .1 .1 .0) (now (a .pool)) (l .ensures)
+    (rw (c .before .enum-told2 .given .1) (c .plain2 .ensures, refl))
 
 returns-5 : tie.Need-returns-5
 returns-5 c =
-    let a = c .before .before .before .before .before .before .before .before .before .before .before .before .before .before .before .before .before .args in
-    let f = c .before .before .before .before .fresh in
-    let l = c .before .before .before .before .before .before .before .before .has-line in
-    let w = c .before .before .before .before .before .before .before .before .before .within in
-    next-fresh (a .self) (now (a .chunk)) (now (a .carry)) (now (a .pool)) (a .at) (w .result) (f .result) (f .last .1 .1 .1 .1 .0) (f .last .1 .1 .1 .1 .1 .0) (c .before .before .before .before .before .before .before .before .before .before .before .before .before .if1 .left) (c .before .before .before .before .before .before .before .before .before .before .before .if2 .left) (c .before .before .before .before .before .before .before .before .before .before .if3 .left) (w .ensures) (sym (l .ensures) ∙ c .before .before .before .before .before .before .before .if4 .left) (f .ensures)
+    let a = c .before .before .before .before .before .before .before .before .before .before .before .args in
+    let l = c .before .before .before .before .before .before .next-line in
+    next-reads (a .self) (now (a .chunk)) (now (a .carry)) (now (a .pool)) (a .at) (l .result) (c .plain3 .result) (l .last .1 .1 .0) (now (a .pool)) (l .ensures)
+    (rw (c .before .enum-told3 .given .1) (c .plain3 .ensures, refl))
 
 pub next-spec : {M : Type 1} → statement M
 next-spec =
     tie.close
     (tie.spec
     (λ c κs. search needs)
-    returns
-    (λ c κs. search needs)
-    returns-2
-    (λ c κs. search needs)
-    returns-3
-    (λ c κs. search needs)
+    (λ c. search needs)
+    add-to
+    (λ c. search needs)
+    (λ c. search needs)
+    part-read-record-end
     (λ c κs. search needs)
     (λ c κs. search needs)
     (λ c. search needs)
+    slice-reshare-prefix-read-kept
+    slice-aggregate-read-kept
+    read-kept-requires
+    (λ c κs. search needs)
+    (λ c. search needs)
+    (λ c κs. search needs)
+    (λ c. search needs)
+    (λ c κs. search needs)
+    (λ c. search needs)
+    (λ c κs. search needs)
+    (λ c. search needs)
+    (λ c. search needs)
+    returns
+    (λ c. search needs)
+    (λ c. search needs)
+    returns-2
+    (λ c. search needs)
+    returns-3
     (λ c. search needs)
     returns-4
-    (λ c κs. search needs)
-    (λ c. search needs)
     (λ c. search needs)
     returns-5)
