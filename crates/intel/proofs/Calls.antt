@@ -1,5 +1,5 @@
 -- What a call of the reader's `next` tells a walk that lends it a pool with room for every record: the first of what is left to be
--- said, and that the record which comes back means it.
+-- said, and that the record which comes back means it. And what a call of `read_record` tells of its line.
 -- Assumes nothing.
 use mathlib.Core.Path.{_≡_, refl, sym, ap, _∙_, subst}
 use Prim.Native.Nat.{ℕ, _+_, _-_, _^_, _≤_, _<_}
@@ -24,7 +24,7 @@ use Rattle.reader.specs.declared.ReaderOptions.{ReaderOptions}
 use Rattle.reader.specs.declared.State.{State}
 use Rattle.reader.specs.declared.Replied.{Replied}
 use Rattle.reader.specs.Told.{Told, gives, refuses, done, refusal-of, told}
-use Rattle.reader.specs.Answer.{given, kept, answered, poured}
+use Rattle.reader.specs.Answer.{given, kept, answered, poured, ReadRecord}
 use Rattle.reader.specs.Lines.{Found, a-line, no-line, next-line}
 use Rattle.reader.specs.Row.{Numbered, on, is-end, stops}
 use Rattle.reader.specs.Text.{default-options, new-state, told-reply, is-full, ends-row, behind, next-number, Outcome, of-found, outcome, Next}
@@ -67,6 +67,13 @@ module _ (pool : List ℕ) (room : length pool ≡ 255) where
   rec-means (extended-linear n) s = refl
   rec-means (start-linear n) s = refl
 
+  -- no other record tells the same
+  rec-only : (m : Meaning) → Sayable m → (x : Record) → told (answer.Read x) ≡ given m (length pool) 0 → x ≡ rec-of m
+  rec-only m s x e = again (told-apart (answer.Read x) (answer.Read (rec-of m)) (e ∙ sym (rec-told m s)))
+    where
+      again : {a b : Record} → answer.Read a ≡ answer.Read b → a ≡ b
+      again e = cc
+
 rec-lies : (pool : List ℕ) → length pool ≡ 255 → (m : Meaning) → Sayable m → Lies-in (rec-of m) pool
 unfolding rec-of
 rec-lies pool room (data-at offset bytes) s = (omega (arith, s .1), simp length-take (omega (arith, s .1)))
@@ -84,6 +91,49 @@ short-record (ExtendedSegmentAddress n) pool l = tt
 short-record (StartSegmentAddress cs ip) pool l = tt
 short-record (ExtendedLinearAddress n) pool l = tt
 short-record (StartLinearAddress n) pool l = tt
+
+-- ---- one line, read into a pool with room for every record
+
+-- a record was read, and its payload lies in this pool
+pub record Read-as (line pool′ : List ℕ) (x : Record) : Type 0 where
+  pub kind : ℕ
+  pub address : ℕ
+  pub payload : List ℕ
+  pub is-said : judge line ≡ says kind address payload
+  pub means : meant x pool′ ≡ meaning kind address payload
+  pub lies : length pool′ ≡ 255 → Lies-in x pool′
+
+module _ (line pool pool′ : List ℕ) (room : length pool ≡ 255) where
+  pub line-read : (x : Record) → ReadRecord line pool 0 (answer.Read x) pool′ → Read-as line pool′ x
+  unfolding answered poured
+  line-read x reads = go (judge line) refl (reads .answer) (reads .left)
+    where
+      go : (said : Said) → judge line ≡ said → told (answer.Read x) ≡ answered said (length pool) 0 → pool′ ≡ poured said pool 0 → Read-as line pool′ x
+      go (wrong w) j t l = let z : _≡_ {A = ℕ} 0 1 = cc in absurd (omega arith)
+      go (says kind address payload) j t l =
+          let m = meaning kind address payload in
+          let sm : Sayable m = said-is-sayable line kind address payload j in
+          let x-is : x ≡ rec-of m = rec-only pool room m sm x t in
+          record {
+            kind = kind;
+            address = address;
+            payload = payload;
+            is-said = j;
+            means = ap (meant x) l ∙ ap (λ (y : Record). meant y (kept m pool 0)) x-is ∙ rec-means pool room m sm;
+            lies = λ k. subst (λ (y : Record). Lies-in y pool′) (sym x-is) (rec-lies pool′ k m sm);
+          }
+
+  pub line-refused : (e : ReaderError) → ReadRecord line pool 0 (answer.Refused e) pool′ → judge line ≡ wrong (refusal-of e)
+  unfolding answered
+  line-refused e reads = go (judge line) refl (reads .answer)
+    where
+      go : (said : Said) → judge line ≡ said → refuses (refusal-of e) ≡ answered said (length pool) 0 → judge line ≡ wrong (refusal-of e)
+      go (wrong w) j t = let w-is : w ≡ refusal-of e = cc in j ∙ ap wrong w-is
+      go (says kind address payload) j t =
+          let h = rec-told pool room (meaning kind address payload) (said-is-sayable line kind address payload j) in
+          let c = t ∙ sym h in
+          let z : _≡_ {A = ℕ} 0 1 = cc in
+          absurd (omega arith)
 
 -- ---- a call
 
@@ -214,7 +264,7 @@ module _ {opts : ReaderOptions} (s : State) (text pool : List ℕ) (r : Replied)
           let sm : Sayable m = said-is-sayable line kind address payload j in
           let h = heard s text pool 0 c n (says kind address payload) more u in
           let nf : is-full (given m (length pool) 0) ≡ false = fits line (says kind address payload) j in
-          let x-is : x ≡ rec-of m = again (told-apart (answer.Read x) (answer.Read (rec-of m)) (tells ∙ h .tells ∙ sym (rec-told pool room m sm))) in
+          let x-is : x ≡ rec-of m = rec-only pool room m sm x (tells ∙ h .tells) in
           let n-is : r .state .line ≡ n = ap (λ (y : State). y .line) (next .state) ∙ h .line nf in
           record {
             kind = kind;
@@ -230,9 +280,6 @@ module _ {opts : ReaderOptions} (s : State) (text pool : List ℕ) (r : Replied)
             countable = subst (λ (y : State). Countable y text) (sym (next .state)) (h .countable);
           }
         where
-          again : {a b : Record} → answer.Read a ≡ answer.Read b → a ≡ b
-          again e = cc
-
           ends : (kind address : ℕ) (payload : List ℕ) → is-full (given (meaning kind address payload) (length pool) 0) ≡ false
               → ends-row (s .options) (given (meaning kind address payload) (length pool) 0) ≡ is-end (meaning kind address payload) && opts .«stop_after_eof»
           ends kind address payload nf =

@@ -5,6 +5,7 @@ pub mod Runs
 pub mod Meeting
 pub mod Passes
 pub mod Loads
+pub mod Taking
 pub mod Segments
 pub mod Stored
 pub mod Apart

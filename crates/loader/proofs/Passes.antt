@@ -1,7 +1,7 @@
 -- The two passes, a call at a time: the decision on what is left stays the whole decision, and what is left, painted on page and
 -- marks as they are, stays all of it painted on them as they were.
 -- Assumes nothing.
-use mathlib.Core.Path.{_≡_, refl, sym, ap, ap₂, _∙_}
+use mathlib.Core.Path.{_≡_, refl, sym, ap, ap₂, _∙_, subst}
 use Prim.Native.Nat.{ℕ, _+_, _^_, _<_}
 use native.Mathlib.Omega.{arith}
 use mathlib.Core.Bool.{Bool, true, false}
@@ -14,7 +14,6 @@ use Rattle.record.specs.Meaning.{Meaning, data-at, end-of-file, extended-segmen
 use Rattle.record.specs.Record.{meant}
 use Rattle.record.specs.declared.Record.{Record}
 use Rattle.reader.specs.declared.ReaderError.{ReaderError}
-use Rattle.reader.specs.declared.State.{State}
 use Rattle.reader.specs.declared.Replied.{Replied}
 use Rattle.reader.specs.Told.{refusal-of}
 use Rattle.reader.specs.Lines.{lines}
@@ -29,16 +28,20 @@ use Rattle.loader.specs.declared.Base.{Base as CodeBase}
 use Rattle.loader.specs.declared.Base.the-variants.{Segment}
 use Rattle.steps.specs.declared.Start.the-variants.{Unstated}
 use Rattle.steps.specs.declared.Tally.{Tally as CodeTally}
-use Rattle.loader.specs.declared.Turn.{Turn}
+use Rattle.steps.specs.declared.Loading.{Loading}
+use Rattle.steps.proofs.Taken.{Acts, acts-are}
+use Rattle.loader.specs.declared.Taken.{Taken}
+use Rattle.loader.specs.declared.Taken.the-variants as taken
 use Rattle.loader.specs.declared.Turn.the-variants.{On, Stop}
 use Rattle.loader.specs.declared.Walk.{Walk}
 use Rattle.intel.specs.Placing.{Base, base-behind, does, act, base-after, along, steps-of}
 use Rattle.steps.specs.Told.{tallied}
 use Rattle.window.specs.Load.{Same-painting}
-use Rattle.loader.specs.Helpers.{based, stated-by, Behind, ahead-of, Few, Met, Judged, Written-on}
+use Rattle.loader.specs.Helpers.{based, stated-by, Behind, told-taken, states, ahead-of, Few, Met, Judged, Written-on}
 use Rattle.intel.specs.Records.{left, does-on, Under-way}
 use Rattle.intel.proofs.Rows.{steps-along}
 use Rattle.intel.proofs.Calls.{One, more-unread, fewer-unread}
+use Rattle.loader.proofs.Meeting.{passes}
 
 -- ---- the beginning
 
@@ -91,19 +94,35 @@ module _ (text : List ℕ) (w : Walk) (pool : List ℕ) (r : Replied) (pool′ :
   pub countable-records : (tally : CodeTally) (x : Record) → Here x → Few text w tally → length text < 2 ^ 64 → tally .records + 1 < 2 ^ 64
   countable-records tally x one few h = omega (arith, few, ap length (one .first))
 
-  pub judged-record : (inside : ℕ → Bool) (tally : CodeTally) (x : Record) → Here x → Few text w tally → (t : Turn)
-      → Met inside (record { state = r .state; base = w .base }) tally (meant x pool′) t → Judged inside text w tally t
-  judged-record inside tally x one few (On tally′ w′) p =
-      let less : length (unread (w′ .state) text) < length (unread (w .state) text) = rw (p .state) (shorter x one) in
+  -- what a record came to is what its step comes to, whatever steps follow
+  acts : (inside : ℕ → Bool) (tally : CodeTally) (x : Record) (t : Taken) (later : List Step) → let base = based (w .base) in let m = meant x pool′ in
+      Met inside (r .state .line) (w .base) tally m t → Acts inside (r .state .line) (base-behind base m) (tallied tally) [] (does base m) later (told-taken t (states base m t))
+  acts inside tally x t later e =
+      let base = based (w .base) in
+      let m = meant x pool′ in
+      subst (Acts inside (r .state .line) (base-behind base m) (tallied tally) [] (does base m) later) (e .comes-to) (acts-are inside (r .state .line) (base-behind base m) (does base m) (tallied tally) [] later)
+
+  pub judged-on : (inside : ℕ → Bool) (tally : CodeTally) (x : Record) → Here x → Few text w tally → (b : CodeBase) (tally′ : CodeTally)
+      → Met inside (r .state .line) (w .base) tally (meant x pool′) (taken.On b tally′) → Judged inside text w tally (On tally′ (record { state = r .state; base = b }))
+  judged-on inside tally x one few b tally′ e =
+      let n = r .state .line in
+      let base = based (w .base) in
+      let m = meant x pool′ in
+      let (goes, count) = passes inside n base (tallied tally) (record { state = based b; tally = tallied tally′; stated = stated-by base m }) m (e .comes-to) in
+      let (b-is, same, put) = acts inside tally x (taken.On b tally′) (left (based b) (unread (r .state) text)) e in
       record {
-        under-way = record { options = rw (p .state) (one .options); countable = rw (p .state) (one .countable) };
-        few = omega (arith, p .counted);
-        same = p .same (ahead-of w′ text) ∙ ap (decision inside (tallied tally))
-            (ap₂ (λ (b : Base) (l : List Numbered). does-on (r .state .line) (based (w .base)) (meant x pool′) ++ left b l) (p .base) (ap (λ (y : State). unread y text) (p .state) ∙ sym (unread-more x one (p .goes-on))) ∙ sym (ahead-step x one));
-        less = less;
+        under-way = record { options = one .options; countable = one .countable };
+        few = omega (arith, count, shorter x one);
+        same = sym same ∙ ap (decision inside (tallied tally)) (ap₂ (λ (y : Base) (l : List Numbered). does-on n base m ++ left y l) b-is (sym (unread-more x one goes)) ∙ sym (ahead-step x one));
+        less = shorter x one;
       }
-  judged-record inside tally x one few (Stop l) h =
-      h (left (base-behind (based (w .base)) (meant x pool′)) (one .more)) ∙ ap (λ (s : List Step). verdict (decision inside (tallied tally) s)) (sym (ahead-step x one))
+
+  pub judged-stop : (inside : ℕ → Bool) (tally : CodeTally) (x : Record) → Here x → (l : Loading)
+      → Met inside (r .state .line) (w .base) tally (meant x pool′) (taken.Stop l) → Judged inside text w tally (Stop l)
+  unfolding verdict
+  judged-stop inside tally x one l e =
+      let later = left (base-behind (based (w .base)) (meant x pool′)) (one .more) in
+      sym (ap verdict (ap (decision inside (tallied tally)) (ahead-step x one) ∙ acts inside tally x (taken.Stop l) later e .0))
 
   pub judged-refused : (inside : ℕ → Bool) (tally : CodeTally) (e : ReaderError) (more : List Numbered) → unread (w .state) text ≡ on (r .state .line) (wrong (refusal-of e)) ∷ more
       → refused (refusal-of e) (r .state .line) ≡ verdict (decision inside (tallied tally) (ahead-of w text))

@@ -15,7 +15,9 @@ use Rattle.digits.specs.Reading.{named}
 use Rattle.reader.specs.Lines.{LF, through}
 use Rattle.reader.specs.Claims.{Offends}
 use Rattle.marks.specs.Marks.{mark-at}
+use Rattle.marks.specs.Claims.{Bytes}
 use Rattle.steps.specs.declared.Loading.{Loading}
+use Rattle.steps.specs.declared.Tally.{Tally as CodeTally}
 use Rattle.steps.specs.Steps.{Placement, cs-with-ip, Tally, Verdict, accepted, refused, by}
 use Rattle.steps.specs.Sites.{Owed-at}
 use Rattle.steps.specs.Account.{Among}
@@ -26,7 +28,10 @@ use Rattle.window.specs.Reasons as reasons
 pub use Rattle.window.specs.Loads.{Alike}
 use Rattle.intel.specs.Placing.{intel, placements}
 use Rattle.intel.specs.Lines.{account, line-refusals}
+use Rattle.loader.specs.declared.Base.{Base}
+use Rattle.loader.specs.declared.Taken.{Taken}
 use Rattle.loader.specs.Load.{stopping, load, Load}
+use Rattle.loader.specs.Taking.{TakeLine}
 
 -- ---- two loads
 
@@ -114,6 +119,12 @@ abbrev pub Load-unique : Type 0
 Load-unique =
     (text : List ℕ) (first : ℕ) (page marks : List ℕ) (r r′ : Loading) (p p′ m m′ : List ℕ)
     → Load text first page marks r p m → Load text first page marks r′ p′ m′ → (r ≡ r′) × (p ≡ p′) × (m ≡ m′)
+
+-- so it is with a line that is taken, of marks that are bytes
+abbrev pub Take-line-unique : Type 0
+Take-line-unique =
+    (line : List ℕ) (n : ℕ) (base : Base) (tally : CodeTally) (first : ℕ) (page marks : List ℕ) (r r′ : Taken) (p p′ m m′ : List ℕ) → Bytes marks
+    → TakeLine line n base tally first page marks r p m → TakeLine line n base tally first page marks r′ p′ m′ → (r ≡ r′) × (p ≡ p′) × (m ≡ m′)
 
 -- ---- examples
 

@@ -1,29 +1,31 @@
 -- What the loader's private functions promise each other.
 -- Assumes nothing.
-use Prim.Native.Nat.{ℕ, suc, _+_, _≤_, _<_}
+use Prim.Native.Nat.{ℕ, _+_, _≤_, _<_}
 use mathlib.Core.Path.{_≡_}
-use mathlib.Core.Bool.{Bool, false}
+use mathlib.Core.Bool.{Bool}
 use mathlib.Core.Option.{Option, some}
-use mathlib.Core.List.{List, [], _++_}
+use mathlib.Core.List.{List, [], _∷_}
 use lib.ListN.{length}
 use Rattle.record.specs.Meaning.{Meaning}
 use Rattle.record.specs.Record.{meant}
 use Rattle.record.specs.declared.Record.{Record}
-use Rattle.reader.specs.Row.{is-end}
 use Rattle.reader.specs.Along.{unread}
-use Rattle.steps.specs.Steps.{Start, Step, Turn as Came, on, stop, at-start, decision, verdict, stated}
+use Rattle.steps.specs.Steps.{Placement, Start, starts, Step, decision, verdict, stated}
+use Rattle.steps.specs.Taken.{Went, on, stopped, acted}
 use Rattle.loader.specs.declared.Base.{Base as CodeBase}
 use Rattle.loader.specs.declared.Base.the-variants.{Segment, Linear}
 use Rattle.steps.specs.declared.Start.{Start as CodeStart}
 use Rattle.steps.specs.declared.Tally.{Tally as CodeTally}
+use Rattle.loader.specs.declared.Taken.{Taken}
+use Rattle.loader.specs.declared.Taken.the-variants as taken
 use Rattle.loader.specs.declared.Walk.{Walk}
 use Rattle.loader.specs.declared.Turn.{Turn}
 use Rattle.loader.specs.declared.Turn.the-variants.{On, Stop}
 use Rattle.loader.specs.declared.Further.{Further}
 use Rattle.loader.specs.declared.Further.the-variants as further
-use Rattle.intel.specs.Placing.{Base, segment, linear, base-behind}
+use Rattle.intel.specs.Placing.{Base, segment, linear, base-behind, does}
 unfoldable pub use Rattle.intel.specs.Placing.{stated-by}
-use Rattle.intel.specs.Records.{Lies-in, left, does-on, Under-way}
+use Rattle.intel.specs.Records.{Lies-in, left, Under-way}
 use Rattle.steps.specs.Told.{told-start, tallied, told-loading}
 use Rattle.window.specs.Load.{Same-painting}
 
@@ -37,6 +39,28 @@ based (Linear number) = linear number
 pub record Behind (base : CodeBase) (x : Record) (r : CodeBase) : Type 0 where
   pub base-is : (pool : List ℕ) → based r ≡ base-behind (based base) (meant x pool)
 
+-- what a line came to, with what it stated, as the definitions have it
+abbrev pub told-taken : Taken → (stated : List Placement) → Went Base
+told-taken (taken.On base tally) ps = on (record { state = based base; tally = tallied tally; stated = ps })
+told-taken (taken.Stop l) ps = stopped (told-loading l) ps
+
+-- what a record has stated then: nothing if it has stopped the load
+abbrev pub states : Base → Meaning → Taken → List Placement
+states base m (taken.On after tally) = stated-by base m
+states base m (taken.Stop l) = []
+
+-- a record on line n came to this
+pub record Met (inside : ℕ → Bool) (n : ℕ) (base : CodeBase) (tally : CodeTally) (m : Meaning) (t : Taken) : Type 0 where
+  pub comes-to : acted inside n (base-behind (based base) m) (tallied tally) [] (does (based base) m) ≡ told-taken t (states (based base) m t)
+
+-- so it is, wherever the record's payload lies
+abbrev pub Meets : (inside : ℕ → Bool) (n : ℕ) (base : CodeBase) (tally : CodeTally) (x : Record) → Taken → Type 0
+Meets inside n base tally x t = (pool : List ℕ) → Lies-in x pool → Met inside n base tally (meant x pool) t
+
+-- what a start comes to that a record on line n states, with the base after it: it is kept or refused
+pub record MeetsStart (n : ℕ) (base : CodeBase) (tally : CodeTally) (stated : CodeStart) (t : Taken) : Type 0 where
+  pub comes-to : (inside : ℕ → Bool) (s : Start) → told-start stated ≡ some s → acted inside n (based base) (tallied tally) [] (starts s ∷ []) ≡ told-taken t []
+
 -- ---- the first pass
 
 -- the steps that a walk has still before it
@@ -46,32 +70,6 @@ ahead-of w text = left (based (w .base)) (unread (w .state) text)
 -- so many data records were met, and there are still few enough to be counted
 abbrev pub Few : (text : List ℕ) → Walk → CodeTally → Type 0
 Few text w tally = tally .records + length (unread (w .state) text) ≤ length text
-
--- a turn as the definitions have it
-abbrev pub told-turn : Turn → Came
-told-turn (On tally w) = on (tallied tally)
-told-turn (Stop l) = stop (told-loading l)
-
--- a record that was read, whatever steps follow it: it passes, or it decides
-pub record Passed (inside : ℕ → Bool) (w : Walk) (tally : CodeTally) (m : Meaning) (w′ : Walk) (tally′ : CodeTally) : Type 0 where
-  pub state : w′ .state ≡ w .state
-  pub base : based (w′ .base) ≡ base-behind (based (w .base)) m
-  pub goes-on : is-end m ≡ false
-  pub counted : tally′ .records ≤ suc (tally .records)
-  pub same : (rest : List Step) → decision inside (tallied tally′) rest ≡ decision inside (tallied tally) (does-on (w .state .line) (based (w .base)) m ++ rest)
-
-abbrev pub Met : (inside : ℕ → Bool) (w : Walk) (tally : CodeTally) (m : Meaning) → Turn → Type 0
-Met inside w tally m (On tally′ w′) = Passed inside w tally m w′ tally′
-Met inside w tally m (Stop l) = (rest : List Step) → told-loading l ≡ verdict (decision inside (tallied tally) (does-on (w .state .line) (based (w .base)) m ++ rest))
-
--- so it is, wherever the record's payload lies
-abbrev pub Meets : (inside : ℕ → Bool) (w : Walk) (tally : CodeTally) (x : Record) → Turn → Type 0
-Meets inside w tally x t = (pool : List ℕ) → Lies-in x pool → Met inside w tally (meant x pool) t
-
--- what a start comes to that a record states: it is kept or refused, and the walk goes on from there
-pub record MeetsStart (there : Walk) (tally : CodeTally) (stated : CodeStart) (t : Turn) : Type 0 where
-  pub comes-to : (s : Start) → told-start stated ≡ some s → told-turn t ≡ at-start (there .state .line) s (tallied tally)
-  pub stays : (tally′ : CodeTally) (w′ : Walk) → t ≡ On tally′ w′ → w′ ≡ there
 
 -- a line was judged: the decision on what is left is the decision on what was left, or it is returned
 pub record Onward (inside : ℕ → Bool) (text : List ℕ) (w : Walk) (tally : CodeTally) (w′ : Walk) (tally′ : CodeTally) : Type 0 where

@@ -1,4 +1,5 @@
 // A text loaded into a page with marks: the whole text is judged first, then it is written.
+use reader::Answer;
 use reader::ReaderError;
 use reader::Reply;
 use reader::State;
@@ -22,16 +23,26 @@ ghost use Rattle.window.specs.Tables.{LoadTable};
 ghost use Rattle.window.specs.Contracts.{Surveyed, Painted};
 ghost use Rattle.intel.specs.Placing.{intel, byte-address, placed, placements, steps-of};
 ghost use Rattle.loader.specs.Load.{Load};
+ghost use Rattle.loader.specs.Taking.{TakeLine};
 ghost use Rattle.loader.specs.Helpers.{based, stated-by, Behind, Few, MeetsStart, Meets, Judged, Wrote};
 ghost use Rattle.intel.specs.Records.{Short, Lies-in, Under-way};
 
 // How many bytes a segment has.
 const SEGMENT: usize = 65536;
 
+// The most data records that a tally can count.
+const MOST_RECORDS: usize = 18446744073709551615;
+
 // The number of the latest type 02 or 04 record; before any, segment 0.
-enum Base {
+pub enum Base {
     Segment(u16),
     Linear(u16),
+}
+
+// What a line comes to: the base and the tally after it, or the answer of the load.
+pub enum Taken {
+    On(Base, Tally),
+    Stop(Loading),
 }
 
 // Where a pass stands in a text, and the base in force there.
@@ -152,59 +163,66 @@ fn put(
     }
 }
 
-// What a start comes to in the first pass: it is kept if it is the first or the same again, and else it is refused.
-fn judge_start(there: Walk, tally: Tally, stated: Start) -> Turn
-    ensures { λ r. ⌜ MeetsStart there tally stated r ⌝ }
+// What a start comes to, on the line with this number: it is kept if it is the first or the same again, and else it is refused.
+fn judge_start(number: usize, base: Base, tally: Tally, stated: Start) -> Taken
+    ensures { λ r. ⌜ MeetsStart number base tally stated r ⌝ }
 {
     let first = tally.start;
     if stated.differs_from(first) {
-        let state = there.state;
-        return Turn::Stop(Loading::Refused(LoaderError::StartConflict, state.line));
+        return Taken::Stop(Loading::Refused(LoaderError::StartConflict, number));
     }
-    Turn::On(
+    Taken::On(
+        base,
         Tally {
             records: tally.records,
             start: stated,
         },
-        there,
     )
 }
 
-// What a record comes to in the first pass. The walk stands after the record's line, with the base before it.
-fn judge_record(owner: usize, rows: &[usize], w: Walk, tally: Tally, given: Record) -> Turn
+// What a record comes to, on the line with this number, with the base and the tally before it. Nothing is written.
+fn judge_record(
+    owner: usize,
+    rows: &[usize],
+    number: usize,
+    base: Base,
+    tally: Tally,
+    given: Record,
+) -> Taken
     requires { ⌜ Short given × (tally .records + 1 < 2 ^ 64) ⌝ }
-    ensures { λ r. ⌜ Meets (inside-of owner (rows-in (now (rows .entry)))) w tally given r ⌝ }
+    ensures { λ r. ⌜ Meets (inside-of owner (rows-in (now (rows .entry)))) number base tally given r ⌝ }
 {
-    let state = w.state;
-    let base = w.base;
     let start = tally.start;
-    let there = Walk {
-        state,
-        base: base_behind(base, given),
-    };
+    let after = base_behind(base, given);
     match given {
         Record::Data { offset, at: _, len } => match survey(base, offset, len, owner, rows) {
-            Reach::Inside => Turn::On(
+            Reach::Inside => Taken::On(
+                after,
                 Tally {
                     records: tally.records + 1,
                     start,
                 },
-                there,
             ),
             Reach::Outside(i) => {
                 let address = byte_address(base, offset, i);
-                Turn::Stop(Loading::Refused(LoaderError::OutsideWindow(address), state.line))
+                Taken::Stop(Loading::Refused(LoaderError::OutsideWindow(address), number))
             }
         },
-        Record::EndOfFile => Turn::Stop(Loading::Accepted(tally)),
-        Record::ExtendedSegmentAddress(_) => Turn::On(tally, there),
+        Record::EndOfFile => Taken::Stop(Loading::Accepted(tally)),
+        Record::ExtendedSegmentAddress(_) => Taken::On(after, tally),
         Record::StartSegmentAddress { cs, ip } => judge_start(
-            there,
+            number,
+            after,
             tally,
             Start::Segment { cs, ip },
         ),
-        Record::ExtendedLinearAddress(_) => Turn::On(tally, there),
-        Record::StartLinearAddress(address) => judge_start(there, tally, Start::Linear(address)),
+        Record::ExtendedLinearAddress(_) => Taken::On(after, tally),
+        Record::StartLinearAddress(address) => judge_start(
+            number,
+            after,
+            tally,
+            Start::Linear(address),
+        ),
     }
 }
 
@@ -226,13 +244,16 @@ fn judge_next(
     let behind = step.state;
     let reply = step.reply;
     match reply {
-        Reply::Read(given) => {
-            let there = Walk {
-                state: behind,
-                base,
-            };
-            judge_record(owner, rows, there, tally, given)
-        }
+        Reply::Read(given) => match judge_record(owner, rows, behind.line, base, tally, given) {
+            Taken::On(after, t) => Turn::On(
+                t,
+                Walk {
+                    state: behind,
+                    base: after,
+                },
+            ),
+            Taken::Stop(answer) => Turn::Stop(answer),
+        },
         Reply::Refused(e) => Turn::Stop(Loading::Refused(LoaderError::Line(e), behind.line)),
         Reply::Done => Turn::Stop(Loading::Refused(LoaderError::MissingEndOfFileRecord, 0)),
     }
@@ -340,6 +361,37 @@ fn write_text(text: &[u8], owner: usize, rows: &[usize], page: &mut [u8], marks:
             }
             Further::End => return,
         }
+    }
+}
+
+// Takes one line of a text into a page with marks: judged as the loader judges it, with the number that a refusal names, from the base and the tally that the lines before it left. If it lets the load go on, what it states is stored and marked. A window that is refused, and a tally that can count no more, are 16, with line 0.
+pub fn take_line(
+    line: &[u8],
+    number: usize,
+    base: Base,
+    tally: Tally,
+    first: u32,
+    page: &mut [u8],
+    marks: &mut [u8],
+) -> Taken
+    ensures { λ r. ⌜ TakeLine (now (line .entry)) number base tally first (now (page .entry)) (now (marks .entry)) r (now (page .exit)) (now (marks .exit)) ⌝ }
+{
+    if window::is_unfit(first, page.len(), marks.len()) || tally.records == MOST_RECORDS {
+        return Taken::Stop(Loading::Refused(LoaderError::BadWindow, 0));
+    }
+    let rows = [owners::FIRST, first as usize, page.len(), 0];
+    let mut pool = [0u8; payload_sizes::MOST_DATA];
+    match reader::read_record(line, &mut pool, 0) {
+        Answer::Read(given) => {
+            match judge_record(owners::FIRST, &rows, number, base, tally, given) {
+                Taken::On(after, t) => {
+                    write_record(&pool, owners::FIRST, &rows, base, given, page, marks);
+                    Taken::On(after, t)
+                }
+                Taken::Stop(answer) => Taken::Stop(answer),
+            }
+        }
+        Answer::Refused(e) => Taken::Stop(Loading::Refused(LoaderError::Line(e), number)),
     }
 }
 

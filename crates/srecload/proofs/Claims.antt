@@ -3,8 +3,8 @@
 use mathlib.Core.Path.{_≡_, refl, sym, ap, _∙_, subst}
 use Prim.Native.Nat.{ℕ}
 use native.Mathlib.Omega.{arith}
-use mathlib.Core.Bool.{Bool}
-use mathlib.Core.Option.{some}
+use mathlib.Core.Bool.{Bool, true, false}
+use mathlib.Core.Option.{Option, none, some}
 use mathlib.Core.List.{List, []}
 use Rattle.digits.specs.Digits.{number-after}
 use Rattle.digits.specs.Reading.{named}
@@ -12,6 +12,8 @@ use lib.ListN.{length}
 use Rattle.record.specs.Refusals.{Refusal, number-of, contains-invalid-characters, missing-end-of-file-record, bad-window, outside-window, count-mismatch, bad-table}
 use Rattle.record.specs.Line.{Said, says, wrong}
 use Rattle.reader.specs.Lines.{lines}
+use Rattle.marks.specs.Claims.{Bytes}
+use Rattle.marks.proofs.Claims.{same-bits}
 use Rattle.srec.specs.Line.{judge}
 use Rattle.srec.specs.Format.{Width, type-0, type-1, type-2, type-3, type-5, type-7, type-8, type-9, Format}
 use Rattle.srec.specs.Faults.{Fault, no-start, no-digit, no-type, type-unknown, short, long, odd, sum-differs, length-differs, size-differs}
@@ -20,14 +22,21 @@ use Rattle.srec.proofs.Claims.{admits, names-the-offender}
 use Rattle.steps.specs.Steps.{Placement, nothing-yet, Verdict, refused, stated}
 use Rattle.steps.specs.Source as source
 use Rattle.steps.specs.Account.{Decided, Among}
+use Rattle.steps.specs.Taken.{Standing}
+use Rattle.steps.specs.Told.{told-loading}
+use Rattle.steps.proofs.Told.{told-apart}
+use Rattle.window.specs.Contracts.{Painted}
 use Rattle.window.specs.Reasons.{bad-one, no-end, at-line}
 use Rattle.window.specs.Load.{stopping-by-window, load-window}
 use Rattle.window.specs.Window.{within}
 use Rattle.window.specs.Claims.{Window}
 use Rattle.window.specs.Table.{inside-of, Bad-table}
 use Rattle.window.proofs.Reasons.{load-reasons, table-reasons, why-among}
+use Rattle.srecload.specs.declared.Taken.{Taken}
+use Rattle.srecload.specs.declared.Taken.the-variants.{On, Stop}
 use Rattle.srecload.specs.Placing.{S-meaning, s-meaning, s-records}
-use Rattle.srecload.specs.Claims.{said-record, Means, of-header, of-data, of-count, of-end, Records-by-format, data-records, Stops, the-end, no-record, first-outside, count-differs, account, Why, Reasons, Reasons-by-table, Offends, Load-names-the-offender, line-refusals, Total-by-table, Lines-give, Total, Examples}
+use Rattle.srecload.specs.Taking.{told-taken, closed}
+use Rattle.srecload.specs.Claims.{said-record, Means, of-header, of-data, of-count, of-end, Records-by-format, data-records, Stops, the-end, no-record, first-outside, count-differs, account, Why, Reasons, Reasons-by-table, Offends, Load-names-the-offender, line-refusals, Total-by-table, Lines-give, Total, Take-line-unique, Examples}
 use Rattle.srecload.proofs.Meeting.{means-header, means-data, means-count, means-end}
 use Rattle.srecload.proofs.Reasons.{counted-none, walked}
 
@@ -133,3 +142,33 @@ load-names-the-offender text first page marks r n e two = go (reasons text first
     go (bad-one w) q = let is : bad-window ≡ r = cc in absurd (omega (arith, ap number-of is))
     go (no-end w all) q = let is : missing-end-of-file-record ≡ r = cc in absurd (omega (arith, ap number-of is))
     go (at-line k v w d) q = named-by d q two
+
+-- ---- one line by itself
+
+-- what is told says which answer it was, and what was stated
+told-once : (r r′ : Taken) (ps ps′ : List Placement) → told-taken r ps ≡ told-taken r′ ps′ → (r ≡ r′) × (ps ≡ ps′)
+told-once (On n) (On n′) ps ps′ e =
+    let at : ℕ → List Placement → Standing Unit = λ k qs. record { state = tt; tally = record { records = k; start = none }; stated = qs } in
+    let s : at n ps ≡ at n′ ps′ = cc in
+    (ap (λ (st : Standing Unit). On (st .tally .records)) s, ap (λ (st : Standing Unit). st .stated) s)
+told-once (On n) (Stop l) ps ps′ e = let z : _≡_ {A = ℕ} 0 1 = cc in absurd (omega arith)
+told-once (Stop l) (On n) ps ps′ e = let z : _≡_ {A = ℕ} 0 1 = cc in absurd (omega arith)
+told-once (Stop l) (Stop l′) ps ps′ e = let v : told-loading l ≡ told-loading l′ = cc in (ap Stop (told-apart l l′ v), cc)
+
+-- placements are painted in one way
+painted-once : (site : ℕ → Option ℕ) (ps : List Placement) (page marks p p′ m m′ : List ℕ) → Bytes marks
+    → Painted site ps page marks p m → Painted site ps page marks p′ m′ → (p ≡ p′) × (m ≡ m′)
+painted-once site ps page marks p p′ m m′ b x y =
+    (x .page ∙ sym (y .page), same-bits m m′ (x .row .bytes b) (y .row .bytes b) (x .row .same-length ∙ sym (y .row .same-length)) (x .marks ∙ sym (y .marks)))
+
+pub take-line-unique : Take-line-unique
+take-line-unique line number seen first page marks r r′ p p′ m m′ b x y = go (closed seen first (length page) (length marks)) refl
+  where
+    go : (c : Bool) → closed seen first (length page) (length marks) ≡ c → (r ≡ r′) × (p ≡ p′) × (m ≡ m′)
+    go true e = let (a, u, v) = x .refused e in let (a′, u′, v′) = y .refused e in (a ∙ sym a′, u ∙ sym u′, v ∙ sym v′)
+    go false e =
+        let s = x .taken e in
+        let t = y .taken e in
+        let (same, ps) = told-once r r′ (s .stated) (t .stated) (sym (s .comes-to) ∙ t .comes-to) in
+        let (pages, rows) = painted-once _ (s .stated) page marks p p′ m m′ b (s .paints) (rw (sym ps) at (t .paints)) in
+        (same, pages, rows)

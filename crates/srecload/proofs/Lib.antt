@@ -2,6 +2,7 @@ pub mod Runs
 pub mod Reading
 pub mod Meeting
 pub mod Writing
+pub mod Taking
 pub mod Demand3
 pub mod OneReason
 pub mod Reasons

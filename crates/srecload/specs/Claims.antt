@@ -18,6 +18,7 @@ use Rattle.srec.specs.Line.{judge}
 use Rattle.srec.specs.Format.{Format}
 use Rattle.srec.specs.Faults.{First-offender}
 use Rattle.marks.specs.Marks.{row-length, mark-at}
+use Rattle.marks.specs.Claims.{Bytes}
 use Rattle.steps.specs.declared.Loading.{Loading}
 use Rattle.steps.specs.Steps.{Placement, linear-address, Tally, Verdict, accepted, refused, by}
 use Rattle.steps.specs.Sites.{Loaded, Owed-at}
@@ -28,8 +29,10 @@ use Rattle.window.specs.Loads.{Alike, Unpacks-to}
 use Rattle.window.specs.Loads as loads
 use Rattle.window.specs.Reasons.{Load-reasons, Load-one-reason, Table-reasons, Table-one-reason}
 use Rattle.window.specs.Reasons as reasons
+use Rattle.srecload.specs.declared.Taken.{Taken}
 use Rattle.srecload.specs.Placing.{S-meaning, s-header, s-data, s-count, s-end, s-meaning, s-placed, s-states, s-records}
 use Rattle.srecload.specs.Load.{stopping, placements, load, LoadSRecords}
+use Rattle.srecload.specs.Taking.{TakeLine}
 
 -- ---- two loads
 
@@ -205,6 +208,12 @@ abbrev pub Load-srecords-table-unique : Type 0
 Load-srecords-table-unique =
     (owner : ℕ) (rows : List Row) (text pool marks : List ℕ) (r r′ : Loading) (p p′ m m′ : List ℕ)
     → LoadTable s-records owner rows text pool marks r p m → LoadTable s-records owner rows text pool marks r′ p′ m′ → (r ≡ r′) × (p ≡ p′) × (m ≡ m′)
+
+-- nor that of `take_line`, if the marks are bytes
+abbrev pub Take-line-unique : Type 0
+Take-line-unique =
+    (line : List ℕ) (number seen first : ℕ) (page marks : List ℕ) (r r′ : Taken) (p p′ m m′ : List ℕ) → Bytes marks
+    → TakeLine line number seen first page marks r p m → TakeLine line number seen first page marks r′ p′ m′ → (r ≡ r′) × (p ≡ p′) × (m ≡ m′)
 
 -- ---- examples
 

@@ -9,17 +9,20 @@ use lib.ListN.{length, take, drop}
 use Rattle.reader.specs.Lines.{lines}
 use Rattle.srec.specs.declared.SRecord.{SRecord}
 use Rattle.srec.specs.Record.{digit-of}
-use Rattle.steps.specs.Steps.{places, counts, Step, step, Tally, decision, verdict, stated}
+use Rattle.steps.specs.Steps.{Placement, places, counts, Step, step, Tally, decision, verdict, stated}
 use Rattle.steps.specs.Source.{steps}
+use Rattle.steps.specs.Taken.{acted}
 use Rattle.steps.specs.Told.{told-loading}
 use Rattle.window.specs.Contracts.{Painted}
 use Rattle.window.specs.Load.{Same-painting}
 use Rattle.srecload.specs.declared.Walk.{Walk}
 use Rattle.srecload.specs.declared.Turn.{Turn}
 use Rattle.srecload.specs.declared.Turn.the-variants.{On, Stop}
+use Rattle.srecload.specs.declared.Taken.{Taken}
 use Rattle.srecload.specs.declared.Further.{Further}
 use Rattle.srecload.specs.declared.Further.the-variants as further
 use Rattle.srecload.specs.Placing.{S-meaning, s-meaning, s-placed, s-does, s-records, line-steps}
+use Rattle.srecload.specs.Taking.{told-taken}
 
 -- ---- one record
 
@@ -112,3 +115,10 @@ pub record Written-on (site : ℕ → Option ℕ) (text : List ℕ) (w : Walk) (
 abbrev pub Wrote : (site : ℕ → Option ℕ) (text : List ℕ) (w : Walk) (page₀ marks₀ : List ℕ) → Further → (page′ marks′ : List ℕ) → Type 0
 Wrote site text w page₀ marks₀ (further.On w′) page′ marks′ = Written-on site text w page₀ marks₀ w′ page′ marks′
 Wrote site text w page₀ marks₀ further.End page′ marks′ = (stated (ahead-of w text) ≡ []) × (page′ ≡ page₀) × (marks′ ≡ marks₀)
+
+-- ---- one line by itself
+
+-- a record was taken as record of line n: it came to what the answer tells, and what it stated is painted
+abbrev pub Took-record : (inside : ℕ → Bool) (site : ℕ → Option ℕ) (n seen : ℕ) → SRecord → (pool page₀ marks₀ : List ℕ) → Taken → (page′ marks′ : List ℕ) → Type 0
+Took-record inside site n seen x pool page₀ marks₀ r page′ marks′ =
+    (ps : List Placement) × (acted inside n tt (so-far seen) [] (s-does (meant-in x pool)) ≡ told-taken r ps) × Painted site ps page₀ marks₀ page′ marks′

@@ -18,13 +18,17 @@ ghost use Rattle.window.specs.Tables.{LoadTable};
 ghost use Rattle.window.specs.Contracts.{Surveyed, Painted};
 ghost use Rattle.srecload.specs.Placing.{s-records, s-address, s-placed, line-steps};
 ghost use Rattle.srecload.specs.Load.{placements, steps-of, LoadSRecords};
-ghost use Rattle.srecload.specs.Helpers.{Lies-in, MeetsData, MeetsCount, Meets, Met, Under-way, Judged, Wrote-record, Wrote-line, Wrote};
+ghost use Rattle.srecload.specs.Taking.{TakeLine};
+ghost use Rattle.srecload.specs.Helpers.{Lies-in, MeetsData, MeetsCount, Meets, Met, Under-way, Judged, Wrote-record, Wrote-line, Wrote, Took-record};
 
 // How many addresses there are.
 const ADDRESSES: u64 = 4294967296;
 
 // The most bytes of data that a record has.
 const MOST_DATA: usize = 252;
+
+// The largest number of a `usize`.
+const MOST: usize = 18446744073709551615;
 
 // Where a pass stands in a text: after so many lines, at a position.
 struct Walk {
@@ -300,6 +304,60 @@ fn write_text(text: &[u8], owner: usize, rows: &[usize], page: &mut [u8], marks:
             }
             Further::End => return,
         }
+    }
+}
+
+// What a line comes to: how many data records there are after it, or the answer of the load.
+pub enum Taken {
+    On(usize),
+    Stop(Loading),
+}
+
+// Takes a record: if it lets the load go on, what it states is stored and marked.
+fn take_record(
+    pool: &[u8],
+    rows: &[usize],
+    number: usize,
+    seen: usize,
+    given: SRecord,
+    page: &mut [u8],
+    marks: &mut [u8],
+) -> Taken
+    requires { ⌜ Lies-in given (now pool) × (seen + 1 < 2 ^ 64) × Sound (length (now page)) (rows-in (now rows)) ⌝ }
+    ensures { λ r. ⌜ Took-record (inside-of 1 (rows-in (now (rows .entry)))) (site-of 1 (rows-in (now (rows .entry)))) number seen given (now (pool .entry)) (now (page .entry)) (now (marks .entry)) r (now (page .exit)) (now (marks .exit)) ⌝ }
+{
+    let there = Walk {
+        position: 0,
+        line: number,
+    };
+    match judge_record(owners::FIRST, rows, there, seen, given) {
+        Turn::On(n, _) => {
+            write_record(pool, owners::FIRST, rows, given, page, marks);
+            Taken::On(n)
+        }
+        Turn::Stop(answer) => Taken::Stop(answer),
+    }
+}
+
+// Takes one line of S-records into a page with marks: judged as the loader judges it, with the number that a refusal names, after so many data records. If it lets the load go on, what it states is stored and marked. A window that is refused, and a count that can grow no more, are 16, with line 0.
+pub fn take_line(
+    line: &[u8],
+    number: usize,
+    seen: usize,
+    first: u32,
+    page: &mut [u8],
+    marks: &mut [u8],
+) -> Taken
+    ensures { λ r. ⌜ TakeLine (now (line .entry)) number seen first (now (page .entry)) (now (marks .entry)) r (now (page .exit)) (now (marks .exit)) ⌝ }
+{
+    if window::is_unfit(first, page.len(), marks.len()) || seen == MOST {
+        return Taken::Stop(Loading::Refused(LoaderError::BadWindow, 0));
+    }
+    let rows = [owners::FIRST, first as usize, page.len(), 0];
+    let mut pool = [0u8; MOST_DATA];
+    match srec::read_srecord(line, &mut pool, 0) {
+        SAnswer::Read(given) => take_record(&pool, &rows, number, seen, given, page, marks),
+        SAnswer::Refused(e) => Taken::Stop(Loading::Refused(LoaderError::Line(e), number)),
     }
 }
 

@@ -12,3 +12,4 @@ pub mod Firsts
 pub mod Puts
 pub mod Owners
 pub mod Ask
+pub mod Taken

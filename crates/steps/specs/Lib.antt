@@ -10,3 +10,4 @@ pub mod Puts
 pub mod Account
 pub mod Owners
 pub mod Ask
+pub mod Taken

@@ -24,7 +24,7 @@ one-row : (first size : ℕ) → rows-in (alone first size) ≡ row 1 first size
 unfolding rows-in
 one-row first size = refl
 
-inside-is : (first size : ℕ) → inside-of 1 (rows-in (alone first size)) ≡ within first size
+pub inside-is : (first size : ℕ) → inside-of 1 (rows-in (alone first size)) ≡ within first size
 inside-is first size = rw (one-row first size) (λ k a. inside-same 1 first size 0 a k)
 
 site-is : (first size : ℕ) → site-of 1 (rows-in (alone first size)) ≡ window first size

@@ -14,3 +14,4 @@ pub mod Finding
 pub mod Through
 pub mod Alone
 pub mod Asks
+pub mod Taking

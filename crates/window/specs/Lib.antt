@@ -7,3 +7,4 @@ pub mod Table
 pub mod Tables
 pub mod Reasons
 pub mod Asks
+pub mod Taking

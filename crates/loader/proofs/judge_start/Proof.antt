@@ -8,13 +8,13 @@ use Rattle.loader.proofs.judge_start.Tie as tie
 
 returns : tie.Need-returns
 returns c =
-    let a = c .before .before .before .args in
-    start-refused (a .there) (a .tally) (a .stated) (sym (c .before .before .differs-from .ensures .answer) ∙ c .before .if1 .taken)
+    let a = c .before .before .args in
+    start-refused (a .number) (a .base) (a .tally) (a .stated) (sym (c .before .differs-from .ensures .answer) ∙ c .if1 .taken)
 
 returns-2 : tie.Need-returns-2
 returns-2 c =
     let a = c .before .before .args in
-    start-kept (a .there) (a .tally) (a .stated) (sym (c .before .differs-from .ensures .answer) ∙ c .if1 .left)
+    start-kept (a .number) (a .base) (a .tally) (a .stated) (sym (c .before .differs-from .ensures .answer) ∙ c .if1 .left)
 
 pub judge-start-spec : {M : Type 1} → statement M
 judge-start-spec =
