@@ -1,0 +1,5 @@
+pub mod Machine
+pub mod Claims
+pub mod Counting
+pub mod Brief
+pub mod InLine

@@ -1,0 +1,4 @@
+pub mod Machine
+pub mod Counting
+pub mod Helpers
+pub mod Claims
