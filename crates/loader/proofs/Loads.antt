@@ -14,17 +14,15 @@ use Rattle.window.specs.Contracts.{Painted}
 use Rattle.steps.specs.declared.Loading.{Loading}
 use Rattle.steps.specs.declared.Start.the-variants.{Unstated}
 use Rattle.steps.specs.declared.Tally.{Tally as CodeTally}
-use Rattle.loader.specs.declared.Turn.{Turn}
-use Rattle.loader.specs.declared.Turn.the-variants.{On, Stop}
 use Rattle.loader.specs.declared.Further.{Further}
 use Rattle.loader.specs.declared.Further.the-variants as further
 use Rattle.loader.specs.declared.Walk.{Walk}
 use Rattle.window.specs.Load.{Same-painting}
 use Rattle.intel.specs.Placing.{placements, steps-of}
 use Rattle.steps.specs.Told.{tallied, told-loading}
-use Rattle.loader.specs.Helpers.{ahead-of, Few, Onward, Judged, Written-on, Wrote}
+use Rattle.loader.specs.Helpers.{ahead-of, Written-on, Wrote}
 use Rattle.window.proofs.Loads.{painting-start, painting-on, painting-end}
-use Rattle.loader.proofs.Passes.{start, start-few, start-ahead}
+use Rattle.loader.proofs.Passes.{Few, Onward, start, start-few, start-ahead}
 use Rattle.intel.proofs.Calls.{start-under-way}
 
 -- ---- the first pass
@@ -40,20 +38,12 @@ module _ (inside : ℕ → Bool) (text pool : List ℕ) where
   judging-start h l w e =
       rw e (record { under-way = start-under-way text h; few = start-few text; room = l; same = ap (decision inside nothing-yet) (start-ahead text) })
 
-  module _ (w : Walk) (tally : CodeTally) (j : Judging inside text pool w tally) (t : Turn) (h : Judged inside text w tally t) where
-    onward : (w′ : Walk) (tally′ : CodeTally) → t ≡ On tally′ w′ → Onward inside text w tally w′ tally′
-    onward w′ tally′ e = subst (Judged inside text w tally) e h
+  module _ (w : Walk) (tally : CodeTally) (j : Judging inside text pool w tally) where
+    pub judging-again : (w′ : Walk) (tally′ : CodeTally) → Onward inside text w tally w′ tally′ → (pool′ : List ℕ) → length pool′ ≡ length pool → Judging inside text pool′ w′ tally′
+    judging-again w′ tally′ o pool′ l = record { under-way = o .under-way; few = o .few; room = l ∙ j .room; same = o .same ∙ j .same }
 
-    pub judging-less : (w′ : Walk) (tally′ : CodeTally) → t ≡ On tally′ w′ → length (unread (w′ .state) text) < length (unread (w .state) text)
-    judging-less w′ tally′ e = onward w′ tally′ e .less
-
-    pub judging-again : (w′ : Walk) (tally′ : CodeTally) → t ≡ On tally′ w′ → (pool′ : List ℕ) → length pool′ ≡ length pool → Judging inside text pool′ w′ tally′
-    judging-again w′ tally′ e pool′ l =
-        let o = onward w′ tally′ e in
-        record { under-way = o .under-way; few = o .few; room = l ∙ j .room; same = o .same ∙ j .same }
-
-    pub judging-end : (l : Loading) → t ≡ Stop l → told-loading l ≡ verdict (decision inside nothing-yet (steps-of text))
-    judging-end l e = subst (Judged inside text w tally) e h ∙ ap verdict (j .same)
+    pub judging-end : (l : Loading) → told-loading l ≡ verdict (decision inside (tallied tally) (ahead-of w text)) → told-loading l ≡ verdict (decision inside nothing-yet (steps-of text))
+    judging-end l e = e ∙ ap verdict (j .same)
 
 -- ---- the second pass
 

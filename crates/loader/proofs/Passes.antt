@@ -2,7 +2,7 @@
 -- marks as they are, stays all of it painted on them as they were.
 -- Assumes nothing.
 use mathlib.Core.Path.{_≡_, refl, sym, ap, ap₂, _∙_, subst}
-use Prim.Native.Nat.{ℕ, _+_, _^_, _<_}
+use Prim.Native.Nat.{ℕ, _+_, _^_, _≤_, _<_}
 use native.Mathlib.Omega.{arith}
 use mathlib.Core.Bool.{Bool, true, false}
 use mathlib.Core.Option.{Option}
@@ -31,17 +31,29 @@ use Rattle.steps.specs.declared.Tally.{Tally as CodeTally}
 use Rattle.steps.specs.declared.Loading.{Loading}
 use Rattle.steps.proofs.Taken.{Acts, acts-are}
 use Rattle.loader.specs.declared.Taken.{Taken}
-use Rattle.loader.specs.declared.Taken.the-variants as taken
-use Rattle.loader.specs.declared.Turn.the-variants.{On, Stop}
+use Rattle.loader.specs.declared.Taken.the-variants.{On, Stop}
 use Rattle.loader.specs.declared.Walk.{Walk}
 use Rattle.intel.specs.Placing.{Base, base-behind, does, act, base-after, along, steps-of}
-use Rattle.steps.specs.Told.{tallied}
+use Rattle.steps.specs.Told.{tallied, told-loading}
 use Rattle.window.specs.Load.{Same-painting}
-use Rattle.loader.specs.Helpers.{based, stated-by, Behind, told-taken, states, ahead-of, Few, Met, Judged, Written-on}
+use Rattle.loader.specs.Helpers.{based, stated-by, Behind, told-taken, states, ahead-of, Met, Written-on}
 use Rattle.intel.specs.Records.{left, does-on, Under-way}
 use Rattle.intel.proofs.Rows.{steps-along}
 use Rattle.intel.proofs.Calls.{One, more-unread, fewer-unread}
 use Rattle.loader.proofs.Meeting.{passes}
+
+-- ---- the first pass goes on
+
+-- so many data records were met, and there are still few enough to be counted
+abbrev pub Few : (text : List ℕ) → Walk → CodeTally → Type 0
+Few text w tally = tally .records + length (unread (w .state) text) ≤ length text
+
+-- a line was judged: the decision on what is left is the decision on what was left
+pub record Onward (inside : ℕ → Bool) (text : List ℕ) (w : Walk) (tally : CodeTally) (w′ : Walk) (tally′ : CodeTally) : Type 0 where
+  pub under-way : Under-way text (w′ .state)
+  pub few : Few text w′ tally′
+  pub same : decision inside (tallied tally′) (ahead-of w′ text) ≡ decision inside (tallied tally) (ahead-of w text)
+  pub less : length (unread (w′ .state) text) < length (unread (w .state) text)
 
 -- ---- the beginning
 
@@ -103,13 +115,13 @@ module _ (text : List ℕ) (w : Walk) (pool : List ℕ) (r : Replied) (pool′ :
       subst (Acts inside (r .state .line) (base-behind base m) (tallied tally) [] (does base m) later) (e .comes-to) (acts-are inside (r .state .line) (base-behind base m) (does base m) (tallied tally) [] later)
 
   pub judged-on : (inside : ℕ → Bool) (tally : CodeTally) (x : Record) → Here x → Few text w tally → (b : CodeBase) (tally′ : CodeTally)
-      → Met inside (r .state .line) (w .base) tally (meant x pool′) (taken.On b tally′) → Judged inside text w tally (On tally′ (record { state = r .state; base = b }))
+      → Met inside (r .state .line) (w .base) tally (meant x pool′) (On b tally′) → Onward inside text w tally (record { state = r .state; base = b }) tally′
   judged-on inside tally x one few b tally′ e =
       let n = r .state .line in
       let base = based (w .base) in
       let m = meant x pool′ in
       let (goes, count) = passes inside n base (tallied tally) (record { state = based b; tally = tallied tally′; stated = stated-by base m }) m (e .comes-to) in
-      let (b-is, same, put) = acts inside tally x (taken.On b tally′) (left (based b) (unread (r .state) text)) e in
+      let (b-is, same, put) = acts inside tally x (On b tally′) (left (based b) (unread (r .state) text)) e in
       record {
         under-way = record { options = one .options; countable = one .countable };
         few = omega (arith, count, shorter x one);
@@ -118,11 +130,11 @@ module _ (text : List ℕ) (w : Walk) (pool : List ℕ) (r : Replied) (pool′ :
       }
 
   pub judged-stop : (inside : ℕ → Bool) (tally : CodeTally) (x : Record) → Here x → (l : Loading)
-      → Met inside (r .state .line) (w .base) tally (meant x pool′) (taken.Stop l) → Judged inside text w tally (Stop l)
+      → Met inside (r .state .line) (w .base) tally (meant x pool′) (Stop l) → told-loading l ≡ verdict (decision inside (tallied tally) (ahead-of w text))
   unfolding verdict
   judged-stop inside tally x one l e =
       let later = left (base-behind (based (w .base)) (meant x pool′)) (one .more) in
-      sym (ap verdict (ap (decision inside (tallied tally)) (ahead-step x one) ∙ acts inside tally x (taken.Stop l) later e .0))
+      sym (ap verdict (ap (decision inside (tallied tally)) (ahead-step x one) ∙ acts inside tally x (Stop l) later e .0))
 
   pub judged-refused : (inside : ℕ → Bool) (tally : CodeTally) (e : ReaderError) (more : List Numbered) → unread (w .state) text ≡ on (r .state .line) (wrong (refusal-of e)) ∷ more
       → refused (refusal-of e) (r .state .line) ≡ verdict (decision inside (tallied tally) (ahead-of w text))

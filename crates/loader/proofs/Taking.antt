@@ -64,13 +64,13 @@ module _ (line : List ℕ) (n : ℕ) (base : CodeBase) (tally : CodeTally) (firs
 
 -- ---- what is told says which answer it was, and what was stated
 
-based-once : (b b′ : CodeBase) → based b ≡ based b′ → b ≡ b′
+pub based-once : (b b′ : CodeBase) → based b ≡ based b′ → b ≡ b′
 based-once (Segment k) (Segment k′) e = let h : 16 * k ≡ 16 * k′ = cc in ap Segment (omega arith)
 based-once (Segment k) (Linear k′) e = let z : _≡_ {A = ℕ} 0 1 = cc in absurd (omega arith)
 based-once (Linear k) (Segment k′) e = let z : _≡_ {A = ℕ} 0 1 = cc in absurd (omega arith)
 based-once (Linear k) (Linear k′) e = let h : 65536 * k ≡ 65536 * k′ = cc in ap Linear (omega arith)
 
-tallied-once : (t t′ : CodeTally) → tallied t ≡ tallied t′ → t ≡ t′
+pub tallied-once : (t t′ : CodeTally) → tallied t ≡ tallied t′ → t ≡ t′
 tallied-once t t′ e = let h : Accepted t ≡ Accepted t′ = told-apart (Accepted t) (Accepted t′) (ap accepted e) in cc
 
 told-once : (r r′ : Taken) (ps ps′ : List Placement) → told-taken r ps ≡ told-taken r′ ps′ → (r ≡ r′) × (ps ≡ ps′)

@@ -1,6 +1,6 @@
--- What the loader's private functions promise each other.
+-- What the loader's private functions promise each other, and what its answers to a line tell.
 -- Assumes nothing.
-use Prim.Native.Nat.{ℕ, _+_, _≤_, _<_}
+use Prim.Native.Nat.{ℕ, _<_}
 use mathlib.Core.Path.{_≡_}
 use mathlib.Core.Bool.{Bool}
 use mathlib.Core.Option.{Option, some}
@@ -10,17 +10,15 @@ use Rattle.record.specs.Meaning.{Meaning}
 use Rattle.record.specs.Record.{meant}
 use Rattle.record.specs.declared.Record.{Record}
 use Rattle.reader.specs.Along.{unread}
-use Rattle.steps.specs.Steps.{Placement, Start, starts, Step, decision, verdict, stated}
+use Rattle.steps.specs.Steps.{Placement, Start, starts, Step, stated}
 use Rattle.steps.specs.Taken.{Went, on, stopped, acted}
 use Rattle.loader.specs.declared.Base.{Base as CodeBase}
 use Rattle.loader.specs.declared.Base.the-variants.{Segment, Linear}
 use Rattle.steps.specs.declared.Start.{Start as CodeStart}
 use Rattle.steps.specs.declared.Tally.{Tally as CodeTally}
 use Rattle.loader.specs.declared.Taken.{Taken}
-use Rattle.loader.specs.declared.Taken.the-variants as taken
+use Rattle.loader.specs.declared.Taken.the-variants.{On, Stop}
 use Rattle.loader.specs.declared.Walk.{Walk}
-use Rattle.loader.specs.declared.Turn.{Turn}
-use Rattle.loader.specs.declared.Turn.the-variants.{On, Stop}
 use Rattle.loader.specs.declared.Further.{Further}
 use Rattle.loader.specs.declared.Further.the-variants as further
 use Rattle.intel.specs.Placing.{Base, segment, linear, base-behind, does}
@@ -41,13 +39,13 @@ pub record Behind (base : CodeBase) (x : Record) (r : CodeBase) : Type 0 where
 
 -- what a line came to, with what it stated, as the definitions have it
 abbrev pub told-taken : Taken → (stated : List Placement) → Went Base
-told-taken (taken.On base tally) ps = on (record { state = based base; tally = tallied tally; stated = ps })
-told-taken (taken.Stop l) ps = stopped (told-loading l) ps
+told-taken (On base tally) ps = on (record { state = based base; tally = tallied tally; stated = ps })
+told-taken (Stop l) ps = stopped (told-loading l) ps
 
 -- what a record has stated then: nothing if it has stopped the load
 abbrev pub states : Base → Meaning → Taken → List Placement
-states base m (taken.On after tally) = stated-by base m
-states base m (taken.Stop l) = []
+states base m (On after tally) = stated-by base m
+states base m (Stop l) = []
 
 -- a record on line n came to this
 pub record Met (inside : ℕ → Bool) (n : ℕ) (base : CodeBase) (tally : CodeTally) (m : Meaning) (t : Taken) : Type 0 where
@@ -61,28 +59,11 @@ Meets inside n base tally x t = (pool : List ℕ) → Lies-in x pool → Met ins
 pub record MeetsStart (n : ℕ) (base : CodeBase) (tally : CodeTally) (stated : CodeStart) (t : Taken) : Type 0 where
   pub comes-to : (inside : ℕ → Bool) (s : Start) → told-start stated ≡ some s → acted inside n (based base) (tallied tally) [] (starts s ∷ []) ≡ told-taken t []
 
--- ---- the first pass
+-- ---- the second pass
 
 -- the steps that a walk has still before it
 abbrev pub ahead-of : Walk → (text : List ℕ) → List Step
 ahead-of w text = left (based (w .base)) (unread (w .state) text)
-
--- so many data records were met, and there are still few enough to be counted
-abbrev pub Few : (text : List ℕ) → Walk → CodeTally → Type 0
-Few text w tally = tally .records + length (unread (w .state) text) ≤ length text
-
--- a line was judged: the decision on what is left is the decision on what was left, or it is returned
-pub record Onward (inside : ℕ → Bool) (text : List ℕ) (w : Walk) (tally : CodeTally) (w′ : Walk) (tally′ : CodeTally) : Type 0 where
-  pub under-way : Under-way text (w′ .state)
-  pub few : Few text w′ tally′
-  pub same : decision inside (tallied tally′) (ahead-of w′ text) ≡ decision inside (tallied tally) (ahead-of w text)
-  pub less : length (unread (w′ .state) text) < length (unread (w .state) text)
-
-abbrev pub Judged : (inside : ℕ → Bool) (text : List ℕ) (w : Walk) (tally : CodeTally) → Turn → Type 0
-Judged inside text w tally (On tally′ w′) = Onward inside text w tally w′ tally′
-Judged inside text w tally (Stop l) = told-loading l ≡ verdict (decision inside (tallied tally) (ahead-of w text))
-
--- ---- the second pass
 
 -- a line was written: the walk goes on, or nothing more is stated
 pub record Written-on (site : ℕ → Option ℕ) (text : List ℕ) (w : Walk) (page₀ marks₀ : List ℕ) (w′ : Walk) (page′ marks′ : List ℕ) : Type 0 where

@@ -1,4 +1,4 @@
-// A text loaded into a page with marks: the whole text is judged first, then it is written.
+// A text loaded into a page with marks: the whole text is judged first, then it is written. One line can be taken by itself.
 use reader::Answer;
 use reader::ReaderError;
 use reader::Reply;
@@ -24,7 +24,7 @@ ghost use Rattle.window.specs.Contracts.{Surveyed, Painted};
 ghost use Rattle.intel.specs.Placing.{intel, byte-address, placed, placements, steps-of};
 ghost use Rattle.loader.specs.Load.{Load};
 ghost use Rattle.loader.specs.Taking.{TakeLine};
-ghost use Rattle.loader.specs.Helpers.{based, stated-by, Behind, Few, MeetsStart, Meets, Judged, Wrote};
+ghost use Rattle.loader.specs.Helpers.{based, stated-by, Behind, MeetsStart, Meets, Wrote};
 ghost use Rattle.intel.specs.Records.{Short, Lies-in, Under-way};
 
 // How many bytes a segment has.
@@ -49,12 +49,6 @@ pub enum Taken {
 struct Walk {
     base: Base,
     state: State,
-}
-
-// What a line comes to in the first pass: the tally so far with the walk after it, or the answer.
-enum Turn {
-    On(Tally, Walk),
-    Stop(Loading),
 }
 
 // What a line comes to in the second pass: the walk after it, or the end.
@@ -226,39 +220,6 @@ fn judge_record(
     }
 }
 
-// What the next line comes to in the first pass.
-fn judge_next(
-    text: &[u8],
-    pool: &mut [u8],
-    owner: usize,
-    rows: &[usize],
-    w: Walk,
-    tally: Tally,
-) -> Turn
-    requires { ⌜ Under-way (now text) (w .state) × Few (now text) w tally × (length (now pool) ≡ 255) ⌝ }
-    ensures { λ r. ⌜ Judged (inside-of owner (rows-in (now (rows .entry)))) (now (text .entry)) w tally r ⌝ }
-{
-    let state = w.state;
-    let base = w.base;
-    let step = state.next(text, pool, 0);
-    let behind = step.state;
-    let reply = step.reply;
-    match reply {
-        Reply::Read(given) => match judge_record(owner, rows, behind.line, base, tally, given) {
-            Taken::On(after, t) => Turn::On(
-                t,
-                Walk {
-                    state: behind,
-                    base: after,
-                },
-            ),
-            Taken::Stop(answer) => Turn::Stop(answer),
-        },
-        Reply::Refused(e) => Turn::Stop(Loading::Refused(LoaderError::Line(e), behind.line)),
-        Reply::Done => Turn::Stop(Loading::Refused(LoaderError::MissingEndOfFileRecord, 0)),
-    }
-}
-
 // At the beginning of a text.
 fn begin() -> Walk
     ensures { λ r. ⌜ r ≡ record { state = new-state default-options; base = Base.Segment 0 } ⌝ }
@@ -280,12 +241,24 @@ fn judge_text(text: &[u8], owner: usize, rows: &[usize]) -> Loading
         start: Start::Unstated,
     };
     loop {
-        match judge_next(text, &mut pool, owner, rows, w, tally) {
-            Turn::On(t, next) => {
-                w = next;
-                tally = t;
-            }
-            Turn::Stop(answer) => return answer,
+        let state = w.state;
+        let base = w.base;
+        let step = state.next(text, &mut pool, 0);
+        let behind = step.state;
+        let reply = step.reply;
+        match reply {
+            Reply::Read(given) => match judge_record(owner, rows, behind.line, base, tally, given) {
+                Taken::On(after, t) => {
+                    w = Walk {
+                        state: behind,
+                        base: after,
+                    };
+                    tally = t;
+                }
+                Taken::Stop(answer) => return answer,
+            },
+            Reply::Refused(e) => return Loading::Refused(LoaderError::Line(e), behind.line),
+            Reply::Done => return Loading::Refused(LoaderError::MissingEndOfFileRecord, 0),
         }
     }
 }
