@@ -20,7 +20,7 @@ use Rattle.reader.specs.Told.{Told, gives, refuses, done}
 use Rattle.reader.specs.Lines.{lines, through}
 use Rattle.reader.specs.Row.{Numbered, sayings, stopped}
 use Rattle.reader.specs.Calls.{Call, replies}
-use Rattle.reader.proofs.Claims.{untold, untold-told}
+use Rattle.reader.proofs.Claims.{untold, untold-told, told-apart}
 use Rattle.reader.proofs.Texts.{rows, lines-few}
 use Rattle.chunks.specs.declared.Chunks.{Chunks}
 use Rattle.chunks.specs.declared.Place.{Place}
@@ -33,7 +33,7 @@ use Rattle.chunks.specs.declared.ChunkStep.{ChunkStep}
 use Rattle.chunks.specs.Begun.{nothing, look}
 use Rattle.chunks.specs.Next.{Word, tells, used-up, word-of, new-chunks, Outcome, next-outcome, finish-outcome}
 use Rattle.chunks.specs.Rows.{joined, Seen, seen-with, Heard, Hears, Stepped, Nth, numbered, showing}
-use Rattle.chunks.specs.Claims.{Examples, Judged-as-kept, Any-cuts, Any-cuts-by, givens-of, Same-row, Shown-there, Shows-the-line, Alike, without-pools, Nothing-else, Reads-what-is-found, New-unique, Next-unique, Finish-unique, Next-line-unique, Last-line-unique, Shown-unique}
+use Rattle.chunks.specs.Claims.{Examples, Judged-as-kept, Any-cuts, Any-cuts-by, givens-of, Same-row, Shown-there, Shows-the-line, Alike, without-pools, Nothing-else, Reads-what-is-found, New-unique, Next-unique, Finish-unique, Next-line-unique, Last-line-unique, Shown-unique, Refusal-in-line-unique}
 use Rattle.chunks.proofs.Brief.{judge-brief}
 use Rattle.chunks.proofs.Reading.{next-reads, finish-reads}
 use Rattle.chunks.proofs.Pieces.{pieces, pieces-lines}
@@ -200,3 +200,6 @@ pub shown-unique : Shown-unique
 shown-unique Nowhere chunk carry line line′ x y = (x .begins ∙ sym (y .begins), x .holds ∙ sym (y .holds))
 shown-unique (InChunk from len) chunk carry line line′ x y = (x .begins ∙ sym (y .begins), x .holds ∙ sym (y .holds))
 shown-unique (InCarry len) chunk carry line line′ x y = (x .begins ∙ sym (y .begins), x .holds ∙ sym (y .holds))
+
+pub refusal-in-line-unique : Refusal-in-line-unique
+refusal-in-line-unique e skipped r r′ x y = let h : answer.Refused r ≡ answer.Refused r′ = told-apart (answer.Refused r) (answer.Refused r′) (ap refuses (x ∙ sym y)) in cc

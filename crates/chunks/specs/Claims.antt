@@ -14,7 +14,8 @@ use Rattle.record.specs.Refusals.{pool-full, carry-too-small}
 use Rattle.digits.specs.Digits.{is-digit, all-digits}
 use Rattle.record.specs.Line.{judge}
 use Rattle.reader.specs.declared.ReaderOptions.{ReaderOptions}
-use Rattle.reader.specs.Told.{Told, gives, refuses, done}
+use Rattle.reader.specs.declared.ReaderError.{ReaderError}
+use Rattle.reader.specs.Told.{Told, gives, refuses, done, refusal-of}
 use Rattle.reader.specs.Lines.{LF, CR, lines, through}
 use Rattle.reader.specs.Row.{sayings, stopped}
 use Rattle.reader.specs.Text.{is-full, new-state}
@@ -26,7 +27,7 @@ use Rattle.chunks.specs.declared.ChunkStep.{ChunkStep}
 use Rattle.chunks.specs.Begun.{Kept, nothing, brief, stands-for, ended, unended, look}
 use Rattle.chunks.specs.Next.{tells, word-of, is-record, new-chunks, at-place, Outcome, unchanged, next-outcome, finish-outcome, NextChunk, Finish, NewChunks, Shown}
 use Rattle.chunks.specs.Line.{next-line-outcome, last-line-outcome, NextLine, LastLine}
-use Rattle.chunks.specs.Helpers.{ReadsLine}
+use Rattle.chunks.specs.Helpers.{ReadsLine, refusal-in-line}
 use Rattle.chunks.specs.Rows.{joined, Seen, Heard, Fed-by, Projects, Fed, numbered, showing}
 
 -- a line that is kept as it is
@@ -256,3 +257,8 @@ abbrev pub Shown-unique : Type 0
 Shown-unique =
     (lies : Place) (chunk carry line line′ : RefT (List ℕ)) → Shown lies chunk carry line → Shown lies chunk carry line′
     → (line .ptr ≡ line′ .ptr) × (line .now ≡ line′ .now)
+
+abbrev pub Refusal-in-line-unique : Type 0
+Refusal-in-line-unique =
+    (e : ReaderError) (skipped : ℕ) (r r′ : ReaderError)
+    → refusal-of r ≡ refusal-in-line skipped (refusal-of e) → refusal-of r′ ≡ refusal-in-line skipped (refusal-of e) → r ≡ r′

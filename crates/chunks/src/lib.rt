@@ -424,7 +424,7 @@ fn place_in_line(place: u16, skipped: u16) -> u16
 }
 
 // A refusal of what a carry holds, as one of its line: one that names the carry's last byte names its place there.
-fn refusal_in_line(e: ReaderError, skipped: u16) -> ReaderError
+pub fn refusal_in_line(e: ReaderError, skipped: u16) -> ReaderError
     ensures { λ r. ⌜ refusal-of r ≡ refusal-in-line skipped (refusal-of e) ⌝ }
 {
     if let ReaderError::ContainsInvalidCharacters(place) = e {

@@ -3,3 +3,9 @@ pub mod Claims
 pub mod Counting
 pub mod Brief
 pub mod InLine
+pub mod Turning
+pub mod Hearing
+pub mod Coming
+pub mod Feeding
+pub mod Finishing
+pub mod Unique

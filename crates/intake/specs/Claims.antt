@@ -1,20 +1,29 @@
 -- What is claimed of a load that is fed, against a load of the whole text: of every source that takes a line as what is kept of it stands for. Each
--- claim is proved in `proofs/Claims.antt`, and those on chunks in `proofs/Counting.antt`.
+-- claim is proved in `proofs/Claims.antt`, those on chunks in `proofs/Counting.antt`, and those on `begin` and `finish` in `proofs/Finishing.antt`.
 -- Assumes nothing.
 use Prim.Native.Nat.{ℕ, suc, _^_, _<_}
 use mathlib.Core.Path.{_≡_}
-use mathlib.Core.Bool.{Bool}
+use mathlib.Core.Bool.{Bool, true, _||_}
 use mathlib.Core.Option.{none, some}
 use mathlib.Core.List.{List, _++_}
-use lib.ListN.{length}
+use lib.ListN.{length, take}
+use Rattle.marks.specs.Claims.{Bytes}
 use Rattle.reader.specs.Lines.{through}
 use Rattle.chunks.specs.Begun.{Begun, nothing, brief, stands-for}
 use Rattle.chunks.specs.Rows.{joined}
 use Rattle.steps.specs.Steps.{Placement, Tally, nothing-yet, Verdict, accepted, by, decision, verdict, stated}
 use Rattle.steps.specs.Source.{Source, steps-of}
 use Rattle.steps.specs.Taken.{Standing, at-first, at-line}
+use Rattle.window.specs.Window.{unfit}
+use Rattle.intake.specs.declared.Kind.{Kind}
+use Rattle.intake.specs.declared.Intake.{Intake}
+use Rattle.intake.specs.declared.Ending.{Ending}
 use Rattle.intake.specs.Machine.{Taking, Fed, wants-more, decided, takes, fed, ended-by, stated-by, ended}
 use Rattle.intake.specs.Counting.{Counts-one, fed-all}
+use Rattle.intake.specs.declared.Reply.{Reply}
+use Rattle.intake.specs.declared.Reply.the-variants.{WantsMore, Decided, CarryTooSmall}
+use Rattle.intake.specs.Intake.{spoilt, Feeds}
+use Rattle.intake.specs.Ending.{Begins, Finishes}
 
 -- what is kept of a line stands for it: it does the same, and leaves the same state
 pub record Briefly {S : Type 0} (src : Source S) : Type 0 where
@@ -90,3 +99,27 @@ Chunks-as-load =
     → Decides-so src inside (joined chunks) (fed-chunks src inside chunks)
     × Ends-so src inside (joined chunks) (takes src inside) (fed-chunks src inside chunks)
     × Waits-so src inside (joined chunks) (fed-chunks src inside chunks)
+
+-- ---- no second answer meets a contract
+
+abbrev pub Begin-unique : Type 0
+Begin-unique = (kind : Kind) (stated : List ℕ) (r r′ : Intake) (m m′ : List ℕ) → Begins kind stated r m → Begins kind stated r′ m′ → (r ≡ r′) × (m ≡ m′)
+
+-- the carry is fixed where the load is refused before all else
+abbrev pub Finish-unique : Type 0
+Finish-unique =
+    (s : Intake) (carry : List ℕ) (first : ℕ) (stage stated : List ℕ) (r r′ : Ending) (c c′ p p′ m m′ : List ℕ) → Bytes stated
+    → Finishes s carry first stage stated r c p m → Finishes s carry first stage stated r′ c′ p′ m′
+    → (r ≡ r′) × (p ≡ p′) × (m ≡ m′) × ((spoilt s carry || unfit first (length stage) (length stated)) ≡ true → c ≡ c′)
+
+-- of the carry the bytes are fixed that a state counts as used, and all where the carry is too small
+abbrev pub Same-carry : Reply → (carry carry′ : List ℕ) → Type 0
+Same-carry (WantsMore s) carry carry′ = take (s .used) carry ≡ take (s .used) carry′
+Same-carry (Decided l used) carry carry′ = Unit
+Same-carry CarryTooSmall carry carry′ = carry ≡ carry′
+
+-- with marks that are bytes
+abbrev pub Feed-unique : Type 0
+Feed-unique =
+    (s : Intake) (chunk carry : List ℕ) (first : ℕ) (stage stated : List ℕ) (r r′ : Reply) (c c′ p p′ m m′ : List ℕ) → Bytes stated
+    → Feeds s chunk carry first stage stated r c p m → Feeds s chunk carry first stage stated r′ c′ p′ m′ → (r ≡ r′) × (p ≡ p′) × (m ≡ m′) × Same-carry r c c′
