@@ -1,3 +1,4 @@
+#![tactic(auto)]
 // The checksum of a record's bytes.
 ghost use Rattle.checksum.specs.Checksum.{Checksum};
 

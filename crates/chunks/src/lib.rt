@@ -1,3 +1,4 @@
+#![tactic(auto)]
 // A text that comes in chunks, read to the answers of the whole text.
 ghost use Rattle.std.specs.Prelude.{◌≡◌, suc, ◌+◌, ◌≤◌, false, ◌||◌, length, drop};
 ghost use Rattle.std.proofs.Math.Option.{none};
@@ -26,7 +27,7 @@ const LAST_KEPT_NAMED: u16 = 521;
 const LAST_NAMED: u16 = 65535;
 
 // Where a reader of chunks stands.
-#[derive(Drop)]
+#[derive(Clone, Copy)]
 pub struct Chunks {
     // Where the next call goes on in its chunk.
     pub position: usize,
@@ -45,7 +46,7 @@ pub struct Chunks {
 }
 
 // What a call answers.
-#[derive(Drop)]
+#[derive(Clone, Copy)]
 pub enum ChunkReply {
     Read(Record),
     Refused(ReaderError),
@@ -57,7 +58,7 @@ pub enum ChunkReply {
 }
 
 // Where the line lies that gave a record.
-#[derive(Drop)]
+#[derive(Clone, Copy)]
 pub enum Place {
     Nowhere,
     InChunk { from: usize, len: usize },
@@ -65,7 +66,7 @@ pub enum Place {
 }
 
 // A reply, where the reader stands then, and where the line lies that gave the record.
-#[derive(Drop)]
+#[derive(Clone, Copy)]
 pub struct ChunkStep {
     pub reply: ChunkReply,
     pub state: Chunks,
@@ -74,7 +75,7 @@ pub struct ChunkStep {
 
 // What a search for the next line answers: where the line lies, or why there is none. Of a line in the carry so many digits were left
 // out before its last byte.
-#[derive(Drop)]
+#[derive(Clone, Copy)]
 pub enum LineReply {
     InChunk { from: usize, len: usize },
     InCarry { len: usize, skipped: u16 },
@@ -84,21 +85,21 @@ pub enum LineReply {
 }
 
 // The reply, and where the reader stands then: after a line, as after one that was answered and does not stop the reader.
-#[derive(Drop)]
+#[derive(Clone, Copy)]
 pub struct LineStep {
     pub reply: LineReply,
     pub state: Chunks,
 }
 
 // How much of a line the carry holds, and how much was left out.
-#[derive(Drop)]
+#[derive(Clone, Copy)]
 struct Taken {
     used: usize,
     skipped: u16,
 }
 
 // The same, and whether a CR waits.
-#[derive(Drop)]
+#[derive(Clone, Copy)]
 struct Held {
     used: usize,
     skipped: u16,
@@ -106,7 +107,7 @@ struct Held {
 }
 
 // The same, and how far the chunk was taken into it.
-#[derive(Drop)]
+#[derive(Clone, Copy)]
 struct Gathered {
     position: usize,
     used: usize,
@@ -115,7 +116,7 @@ struct Gathered {
 }
 
 // A line that ends in the chunk and has a byte, or where the line begins that does not end in it.
-#[derive(Drop)]
+#[derive(Clone, Copy)]
 enum Cut {
     Whole {
         from: usize,
@@ -273,7 +274,7 @@ fn copy(line: &[u8], carry: &mut [u8], used: usize)
     requires { used + length line.now ≤ length carry.old }
     ensures { carry.new ≡ paste carry.old used line.now (length line.now) }
 {
-    bytes::copy(line, &mut carry[used..]);
+    copying::copy(line, &mut carry[used..]);
 }
 
 fn ends_in_cr(line: &[u8]) -> bool

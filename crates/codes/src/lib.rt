@@ -1,3 +1,4 @@
+#![tactic(auto)]
 // Answers, states and places in numbers, as C has them.
 ghost use Rattle.std.specs.Prelude.{◌≡◌, ◌+◌};
 ghost use Rattle.std.proofs.Math.Option.{some};
@@ -81,7 +82,7 @@ const LINEAR_START: u8 = 64;
 const CS_UNIT: u32 = 65536;
 
 // An answer in numbers: its code, and up to three values, 0 where there is none.
-#[derive(Drop)]
+#[derive(Clone, Copy)]
 pub struct Coded {
     pub code: u32,
     pub a: u64,
@@ -449,7 +450,7 @@ pub fn chunk_flags_from(s: Chunks) -> u8
 }
 
 // A place in numbers: 0 for nowhere, 1 for the chunk, 2 for the carry; where it begins there, and how long it is.
-#[derive(Drop)]
+#[derive(Clone, Copy)]
 pub struct Spot {
     pub lies: u8,
     pub from: usize,
@@ -553,7 +554,7 @@ pub fn code_made(made: Made) -> u32
 }
 
 // A listener in numbers. Bits 0 and 1 of the flags say where it stands: at the front of a text, in a dump, passing over, or ready. Bit 2 is S-records, bit 3 a CR that waits, bit 4 a linear base, bit 5 a start by CS and IP, bit 6 a linear start. What is not used is 0.
-#[derive(Drop)]
+#[derive(Clone, Copy)]
 pub struct Stand {
     pub flags: u8,
     pub skipped: u16,

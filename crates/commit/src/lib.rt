@@ -1,3 +1,4 @@
+#![tactic(auto)]
 // What was staged for a page, committed: the bytes at marked places, and the marks.
 ghost use Rattle.std.specs.Prelude.{◌≡◌, ◌-◌, ◌≤◌, length, take, drop};
 ghost use Rattle.window.specs.Promises.{Copied};
@@ -8,7 +9,7 @@ fn copy_run(stage: &[u8], start: usize, end: usize, page: &mut [u8])
     requires { (start ≤ end) × (end ≤ length stage.now) × (end ≤ length page.old) }
     ensures { Copied (take (end - start) (drop start stage.now)) start page.old page.new }
 {
-    bytes::copy(&stage[start..end], &mut page[start..end]);
+    copying::copy(&stage[start..end], &mut page[start..end]);
 }
 
 // Copies the staged bytes at marked places, run by run.
@@ -40,6 +41,6 @@ pub fn commit(stage: &[u8], stated: &[u8], page: &mut [u8], marks: &mut [u8]) ->
         return false;
     }
     copy_marked(stage, stated, page);
-    bytes::copy(stated, marks);
+    copying::copy(stated, marks);
     true
 }

@@ -1,3 +1,4 @@
+#![tactic(auto)]
 // Hexadecimal digits, two to a byte: decoded from any part of a line, and spelt into an output. Readers and writers stand on it.
 ghost use Rattle.std.specs.Prelude.{◌≡◌, ◌+◌, ◌*◌, ◌/◌, ◌%◌, ◌<◌, ◌≤◌, min, length};
 ghost use Rattle.digits.specs.Digits.{DigitValue};
@@ -69,7 +70,7 @@ fn least(a: usize, b: usize) -> usize
 }
 
 // Whether each character that was looked at is a digit, and the sum of the bytes before the first that is not.
-#[derive(Drop)]
+#[derive(Clone, Copy)]
 pub struct Scan {
     pub whole: bool,
     pub sum: u8,

@@ -1,3 +1,4 @@
+#![tactic(auto)]
 // Records in numbers, lists of records in bytes, and windows of a table in bytes, as C has them.
 ghost use Rattle.std.specs.Prelude.{◌≡◌, ◌+◌, ◌*◌, ◌≤◌, length};
 ghost use Rattle.std.proofs.Math.Option.{some};
@@ -11,14 +12,14 @@ use window::Row;
 use writer::{Survey, Written};
 
 // What comes of an attempt to write: the writer's answer, unless what is given is not a record or a list of records.
-#[derive(Drop)]
+#[derive(Clone, Copy)]
 pub enum Attempt {
     Made(Written),
     BadRecord,
 }
 
 // The same of an S-record.
-#[derive(Drop)]
+#[derive(Clone, Copy)]
 pub enum SAttempt {
     Made(SWritten),
     BadRecord,
@@ -28,7 +29,7 @@ pub enum SAttempt {
 const ENTRY: usize = 24;
 
 // What numbers say of a record.
-#[derive(Drop)]
+#[derive(Clone, Copy)]
 enum Entry {
     Is(Record),
     Bad,
@@ -195,7 +196,7 @@ fn record_in(list: &[u8], p: usize) -> Record
 }
 
 // The survey of a list, unless its bytes are no list of records.
-#[derive(Drop)]
+#[derive(Clone, Copy)]
 enum ListSurvey {
     Of(Survey),
     Bad,

@@ -130,7 +130,7 @@ ihex_salvage_one_byte_off before old new after out list a b o l h k x u n =
 
 -- a record's line is among the lines of records
 line_among : (m : Meaning) (ms : List Meaning) → Memᴰ m ms → Memᴰ (line_of m) (map line_of ms)
-line_among m [] h = absurd (Memᴰ.not_nil h)
+line_among m [] h = absurd (Memᴰ.not-nil h)
 line_among m (x ∷ ms) h = go (Memᴰ.cases_cons h) (line_among m ms)
   where
     go : (m ≡ x) ⊎ Memᴰ m ms → (Memᴰ m ms → Memᴰ (line_of m) (map line_of ms)) → Memᴰ (line_of m) (map line_of (x ∷ ms))
@@ -173,7 +173,7 @@ ihex_salvage_loads text out list a b o l x first page marks r p m y =
               where
                 last : (n ≡ 21) ⊎ Memᴰ n [] → Memᴰ (REFUSED + n) codes
                 last (inl e) = Memᴰ.tail (Memᴰ.tail (Memᴰ.tail (Memᴰ.head (ap (λ (k : ℕ). REFUSED + k) e))))
-                last (inr z) = absurd (Memᴰ.not_nil z)
+                last (inr z) = absurd (Memᴰ.not-nil z)
 
     go : (v : Verdict) → ((tally : Tally) × (v ≡ accepted tally)) ⊎ ((r : Refusal) × (line : ℕ) × (v ≡ not-loaded r line) × Memᴰ (number_of r) (16 ∷ 17 ∷ 21 ∷ []))
         → Memᴰ (load_numbers v).code codes

@@ -1,3 +1,4 @@
+#![tactic(auto)]
 // The C entry points: the library's functions on numbers and byte slices. include/ihex.h declares them.
 ghost use Rattle.std.specs.Prelude.{◌≡◌};
 ghost use Rattle.checksum.specs.Checksum.{Checksum};

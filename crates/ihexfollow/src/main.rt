@@ -1,3 +1,4 @@
+#![tactic(auto)]
 // Lists the Intel HEX text on standard input as it comes: a line for each record or refusal, as soon as its line has come.
 ghost use Rattle.std.specs.Prelude.{◌≡◌};
 ghost use Rattle.ihexfollow.specs.Replies.{reply_of, is_answer, is_used_up, Asks, Begins};
@@ -14,7 +15,7 @@ const FAILED: u8 = 2;
 
 // Where the reader stands, what the answers so far come to and how many there are, whether the input may hold more, whether every
 // read went well, and whether every write did.
-#[derive(Drop)]
+#[derive(Clone, Copy)]
 struct Progress {
     state: Chunks,
     verdict: Verdict,

@@ -1,3 +1,4 @@
+#![tactic(auto)]
 // Lists the Intel HEX text on standard input: a line for each record, and for each line that is not a record.
 ghost use Rattle.std.specs.Prelude.{◌≡◌, ◌≤◌, length};
 ghost use Rattle.ihexlist.specs.Status.{said_status};
@@ -11,7 +12,7 @@ const STATUS_FILENO: i32 = 3;
 const FAILED: u8 = 2;
 
 // How many bytes were read, and whether a read failed.
-#[derive(Drop)]
+#[derive(Clone, Copy)]
 struct Taken {
     n: usize,
     failed: bool,

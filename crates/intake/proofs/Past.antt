@@ -70,7 +70,7 @@ record_ends base (StartLinearAddress n) pool = refl
 
 pub hex_read : (line pool : List ℕ) (x : Record) → ReadAs line pool x → eqb (type_of x) 1 ≡ ends_text intel line
 unfolding intel_by act
-hex_read line pool x said = rw (said.is_said, ← said.means) (record_ends _ x pool)
+hex_read line pool x said = rw (said.is_said, ← said.means) (record_ends intel.beginning x pool)
 
 pub hex_refused : (line : List ℕ) (e : ReaderError) → intel-line.judge line ≡ wrong (refusal_of e) → false ≡ ends_text intel line
 unfolding intel_by act

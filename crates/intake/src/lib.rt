@@ -1,3 +1,4 @@
+#![tactic(auto)]
 // A load that is fed: a text that comes in chunks is taken line by line into a staging page, and decided as soon as a line decides it.
 ghost use Rattle.std.specs.Prelude.{◌≡◌, false, length, nat_lt};
 ghost use Rattle.digits.specs.Common.{if◌then◌else◌};
@@ -25,14 +26,14 @@ const MOST_KEPT: usize = 522;
 const MOST_DATA: usize = 252;
 
 // The kind of text that is fed.
-#[derive(Drop)]
+#[derive(Clone, Copy)]
 pub enum Kind {
     Hex,
     SRecords,
 }
 
 // Where a load stands between two chunks.
-#[derive(Drop)]
+#[derive(Clone, Copy)]
 pub struct Intake {
     pub kind: Kind,
     // Is everything through the next end record passed over? Then nothing is staged and no line is refused.
@@ -50,7 +51,7 @@ pub struct Intake {
 }
 
 // What a chunk comes to.
-#[derive(Drop)]
+#[derive(Clone, Copy)]
 pub enum Reply {
     // No line has decided, and the next chunk is wanted.
     WantsMore(Intake),
@@ -61,7 +62,7 @@ pub enum Reply {
 }
 
 // What the end of a text comes to.
-#[derive(Drop)]
+#[derive(Clone, Copy)]
 pub enum Ending {
     // The answer of the load.
     Decided(Loading),
@@ -70,14 +71,14 @@ pub enum Ending {
 }
 
 // How lines are taken: those of a kind of text, or of a tail of one.
-#[derive(Drop)]
+#[derive(Clone, Copy)]
 struct Mode {
     kind: Kind,
     tail: bool,
 }
 
 // Where a load stands in a chunk.
-#[derive(Drop)]
+#[derive(Clone, Copy)]
 struct Walk {
     reader: Chunks,
     base: Base,
@@ -85,14 +86,14 @@ struct Walk {
 }
 
 // What a line comes to: the base and the tally after it, or the answer.
-#[derive(Drop)]
+#[derive(Clone, Copy)]
 enum Turn {
     On(Base, Tally),
     Stop(Loading),
 }
 
 // What the next line of a chunk comes to: there is none, the load goes on, or it is decided after so many bytes.
-#[derive(Drop)]
+#[derive(Clone, Copy)]
 enum Heard {
     UsedUp(Walk),
     On(Walk),

@@ -1,3 +1,4 @@
+#![tactic(auto)]
 // The two lent forms, a reader that holds its text and an object from a lent list, called with values. Their callers need no proof by hand.
 ghost use Rattle.std.specs.Prelude.{◌≤◌, take};
 ghost use Rattle.reader.specs.Text.{Next};

@@ -1,3 +1,4 @@
+#![tactic(auto)]
 // The panel's light: what a dump says of a count that the controller keeps, beside the count that was known before it.
 ghost use Rattle.std.specs.Prelude.{◌≡◌, ◌+◌, ◌*◌};
 ghost use Rattle.intel.specs.Placing.{intel};
@@ -13,7 +14,7 @@ use steps::{LoaderError, Loading};
 const MOST_FORWARD: u16 = 32767;
 
 // What the light shows after a dump.
-#[derive(Drop)]
+#[derive(Clone, Copy)]
 pub enum Color {
     // The dump was refused.
     Broken,
@@ -30,14 +31,14 @@ pub enum Color {
 }
 
 // A count, if one is known.
-#[derive(Drop)]
+#[derive(Clone, Copy)]
 pub enum Count {
     Unknown,
     Known(u16),
 }
 
 // A light: the window of its page, the places of the count's high and low byte, and the count that was stated last.
-#[derive(Drop)]
+#[derive(Clone, Copy)]
 pub struct Light {
     pub first: u32,
     pub length: usize,
@@ -47,14 +48,14 @@ pub struct Light {
 }
 
 // What setting up a light returns.
-#[derive(Drop)]
+#[derive(Clone, Copy)]
 pub enum Made {
     Light(Light),
     BadPlace,
 }
 
 // What a dump returns: the color, what its load returns, and the light after it.
-#[derive(Drop)]
+#[derive(Clone, Copy)]
 pub struct Dumped {
     pub color: Color,
     pub answer: Loading,

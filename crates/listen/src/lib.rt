@@ -1,3 +1,4 @@
+#![tactic(auto)]
 // A line that is listened to, dump after dump: each is taken into a staging page, and committed to the page once it is accepted.
 ghost use Rattle.std.specs.Prelude.{◌≡◌, true, eqb, ltb, length};
 ghost use Rattle.listen.specs.Listener.{Begins, is_blank, blanks, after, after_end, decided_by, step_by, step, FromFront, too_small, Tested, Hears, Pauses, PausesWithin, Commits};
@@ -13,7 +14,7 @@ const LF: u8 = 10;
 const CR: u8 = 13;
 
 // Where listening stands.
-#[derive(Drop)]
+#[derive(Clone, Copy)]
 pub enum Listener {
     // Where a text of this kind begins: none of its lines has a byte yet. If the flag is set, a CR waits for the byte after it.
     Front(Kind, bool),
@@ -24,7 +25,7 @@ pub enum Listener {
 }
 
 // What is said of a chunk, or of a pause.
-#[derive(Drop)]
+#[derive(Clone, Copy)]
 pub enum Said {
     // The chunk is used up, and the next one is wanted.
     WantsMore,
@@ -39,7 +40,7 @@ pub enum Said {
 }
 
 // What a chunk or a pause comes to: what is said, how many bytes of the chunk were used, and where listening stands then.
-#[derive(Drop)]
+#[derive(Clone, Copy)]
 pub struct Step {
     pub said: Said,
     pub used: usize,
@@ -47,7 +48,7 @@ pub struct Step {
 }
 
 // What a commit comes to.
-#[derive(Drop)]
+#[derive(Clone, Copy)]
 pub enum Committed {
     Done(Listener),
     // No dump is ready.
@@ -57,7 +58,7 @@ pub enum Committed {
 }
 
 // Empty lines that are passed: so many bytes, and whether a CR waits after them.
-#[derive(Drop)]
+#[derive(Clone, Copy)]
 struct Blank {
     at: usize,
     cr: bool,

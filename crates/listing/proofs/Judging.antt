@@ -149,10 +149,19 @@ reaches (on n (says kind address payload) ∷ xs) e = go (λ t. reaches xs (sym 
         }
     go more false t = one_more n kind address payload xs (more t)
 
+-- a refusal is not a record
+abbrev SaysOne : Numbered → Type 0
+SaysOne (on n (says kind address payload)) = Unit {0}
+SaysOne (on n (wrong e)) = ⊥
+
+says_one : {x : Numbered} → IsRecord x → SaysOne x
+says_one a_record = tt
+
 reached : (before : List Numbered) → Every IsRecord before → (n address : ℕ) (payload : List ℕ) (rest : List Numbered)
     → complete (through_stop listing_options (before ++ (on n (says 1 address payload) ∷ rest))) ≡ true
 unfolding is_end meaning
 reached [] records n address payload rest = complete_here n 1 address payload rest refl
+reached (on m (wrong e) ∷ before) (bad, _) n address payload rest = absurd (says_one bad)
 reached (on m (says kind a p) ∷ before) (a_record, records) n address payload rest =
     go (before ++ (on n (says 1 address payload) ∷ rest)) (reached before records n address payload rest) (is_end (meaning kind a p)) refl
   where

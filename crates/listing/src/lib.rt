@@ -1,3 +1,4 @@
+#![tactic(auto)]
 // The listing of a text: a line for each answer of the reader, and how many there are; as a whole, or line by line.
 ghost use Rattle.std.specs.Prelude.{◌≡◌, [], ◌∷◌, ◌++◌, ◌+◌, ◌*◌, ◌≤◌, ◌<◌, length};
 ghost use Rattle.record.specs.Record.{meant};
@@ -14,14 +15,14 @@ use reader::{ReaderError, ReaderOptions, Reply, State, Values};
 use record::{Record, chars};
 
 // What is answered: how many characters were written, or that the output may be too small.
-#[derive(Drop)]
+#[derive(Clone, Copy)]
 pub enum Listed {
     Wrote(usize),
     NoRoom,
 }
 
 // What the answers of a text come to so far.
-#[derive(Drop)]
+#[derive(Clone, Copy)]
 pub struct Verdict {
     // A line was refused.
     pub faulty: bool,
@@ -33,7 +34,7 @@ pub struct Verdict {
 const LONGEST_TEXT: usize = 65536;
 
 // The place behind the entries, and how many there are.
-#[derive(Drop)]
+#[derive(Clone, Copy)]
 struct Entries {
     at: usize,
     count: usize,
@@ -71,7 +72,7 @@ fn put_text(s: &[u8], out: &mut [u8], at: usize) -> usize
     requires { at + length s.now ≤ length out.old }
     ensures { Puts out.old at s.now result out.new }
 {
-    let n = bytes::copy(s, &mut out[at..]);
+    let n = copying::copy(s, &mut out[at..]);
     at + n
 }
 

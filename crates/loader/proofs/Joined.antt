@@ -45,16 +45,16 @@ only_one x a m = go (Memᴰ.cases_cons m)
   where
     go : (x ≡ a) ⊎ Memᴰ x [] → x ≡ a
     go (inl e) = e
-    go (inr n) = absurd (Memᴰ.not_nil n)
+    go (inr n) = absurd (Memᴰ.not-nil n)
 
 -- only an end record does, and it does nothing else
 ends_so : (base : Base) (m : Meaning) → Memᴰ finishes (does base m) → m ≡ end_of_file
 unfolding does
 ends_so base (data_at offset bytes) e = let q = only_one finishes (places (placed base offset 0 bytes)) e in let z : ◌≡◌ {A = ℕ} 0 1 = cc in absurd (omega arith)
 ends_so base end_of_file e = refl
-ends_so base (extended_segment x) e = absurd (Memᴰ.not_nil e)
+ends_so base (extended_segment x) e = absurd (Memᴰ.not-nil e)
 ends_so base (start_segment cs ip) e = let q = only_one finishes (starts (cs_with_ip cs ip)) e in let z : ◌≡◌ {A = ℕ} 0 1 = cc in absurd (omega arith)
-ends_so base (extended_linear x) e = absurd (Memᴰ.not_nil e)
+ends_so base (extended_linear x) e = absurd (Memᴰ.not-nil e)
 ends_so base (start_linear x) e = let q = only_one finishes (starts (linear_address x)) e in let z : ◌≡◌ {A = ℕ} 0 1 = cc in absurd (omega arith)
 
 said_end : (base : Base) (said : Said) → Memᴰ finishes (act base said) → said_record said ≡ some end_of_file
@@ -72,9 +72,9 @@ none_counts : (base : Base) (m : Meaning) (c : ℕ) → ¬ Memᴰ (counts c) (do
 unfolding does
 none_counts base (data_at offset bytes) c e = let q = only_one (counts c) (places (placed base offset 0 bytes)) e in let z : ◌≡◌ {A = ℕ} 0 1 = cc in omega arith
 none_counts base end_of_file c e = let q = only_one (counts c) finishes e in let z : ◌≡◌ {A = ℕ} 0 1 = cc in omega arith
-none_counts base (extended_segment x) c e = Memᴰ.not_nil e
+none_counts base (extended_segment x) c e = Memᴰ.not-nil e
 none_counts base (start_segment cs ip) c e = let q = only_one (counts c) (starts (cs_with_ip cs ip)) e in let z : ◌≡◌ {A = ℕ} 0 1 = cc in omega arith
-none_counts base (extended_linear x) c e = Memᴰ.not_nil e
+none_counts base (extended_linear x) c e = Memᴰ.not-nil e
 none_counts base (start_linear x) c e = let q = only_one (counts c) (starts (linear_address x)) e in let z : ◌≡◌ {A = ℕ} 0 1 = cc in omega arith
 
 no_count : (base : Base) (said : Said) (c : ℕ) → ¬ Memᴰ (counts c) (act base said)
@@ -113,16 +113,16 @@ record_is base (c ∷ line) e = rw (end_said base (judge (c ∷ line)) e) (Mem�
 to_records : (base : Base) (ls : List (List ℕ)) → NoneEnds intel base ls → Every (λ (line : List ℕ). ¬ EndRecord line) ls
 to_records base [] h = tt
 to_records base ([] ∷ ls) h = (empty_is_none, to_records base ls h)
-to_records base ((c ∷ l) ∷ ls) (x, h) = (λ e. x (record_is base (c ∷ l) e), to_records _ ls h)
+to_records base ((c ∷ l) ∷ ls) (x, h) = (λ e. x (record_is base (c ∷ l) e), to_records (intel.next base (c ∷ l)) ls h)
 
 from_records : (base : Base) (ls : List (List ℕ)) → Every (λ (line : List ℕ). ¬ EndRecord line) ls → NoneEnds intel base ls
 from_records base [] h = tt
 from_records base ([] ∷ ls) (x, h) = from_records base ls h
-from_records base ((c ∷ l) ∷ ls) (x, h) = (λ e. x (is_record base (c ∷ l) e), from_records _ ls h)
+from_records base ((c ∷ l) ∷ ls) (x, h) = (λ e. x (is_record base (c ∷ l) e), from_records (intel.next base (c ∷ l)) ls h)
 
 -- where a list has an element
 parted : (x : List ℕ) (xs : List (List ℕ)) → Memᴰ x xs → (before : List (List ℕ)) × (later : List (List ℕ)) × (xs ≡ before ++ (x ∷ later))
-parted x [] m = absurd (Memᴰ.not_nil m)
+parted x [] m = absurd (Memᴰ.not-nil m)
 parted x (y ∷ xs) m = go (Memᴰ.cases_cons m) (parted x xs)
   where
     go : (x ≡ y) ⊎ Memᴰ x xs → (Memᴰ x xs → (before : List (List ℕ)) × (later : List (List ℕ)) × (xs ≡ before ++ (x ∷ later)))
@@ -207,9 +207,9 @@ none_starts : (base : Base) (m : Meaning) → line-starts (some m) ≡ none → 
 unfolding does line-starts
 none_starts base (data_at offset bytes) q x e = let p = only_one (starts x) (places (placed base offset 0 bytes)) e in let z : ◌≡◌ {A = ℕ} 0 1 = cc in omega arith
 none_starts base end_of_file q x e = let p = only_one (starts x) finishes e in let z : ◌≡◌ {A = ℕ} 0 1 = cc in omega arith
-none_starts base (extended_segment n) q x e = Memᴰ.not_nil e
+none_starts base (extended_segment n) q x e = Memᴰ.not-nil e
 none_starts base (start_segment cs ip) q x e = let z : ◌≡◌ {A = ℕ} 0 1 = cc in omega arith
-none_starts base (extended_linear n) q x e = Memᴰ.not_nil e
+none_starts base (extended_linear n) q x e = Memᴰ.not-nil e
 none_starts base (start_linear n) q x e = let z : ◌≡◌ {A = ℕ} 0 1 = cc in omega arith
 
 said_starts : (base : Base) (said : Said) → line-starts (said_record said) ≡ none → (x : Start) → ¬ Memᴰ (starts x) (act base said)
@@ -221,7 +221,7 @@ no_start_lines : (base : Base) (n : ℕ) (ls : List (List ℕ)) → Every (λ (l
 unfolding source.steps intel_by
 no_start_lines base n [] h = tt
 no_start_lines base n ([] ∷ ls) (e, h) = no_start_lines base (suc n) ls h
-no_start_lines base n ((c ∷ l) ∷ ls) (e, h) = no_start_steps n (act base (judge (c ∷ l))) _ (said_starts base (judge (c ∷ l)) e) (no_start_lines _ (suc n) ls h)
+no_start_lines base n ((c ∷ l) ∷ ls) (e, h) = no_start_steps n (act base (judge (c ∷ l))) _ (said_starts base (judge (c ∷ l)) e) (no_start_lines (intel.next base (c ∷ l)) (suc n) ls h)
 
 from_beginning : (b : List ℕ) → Every (λ (line : List ℕ). start_on line ≡ none) (lines b) → NoStart (source.steps_of intel b)
 unfolding source.steps_of

@@ -1,3 +1,4 @@
+#![tactic(auto)]
 // A text loaded into a page with marks: the whole text is judged first, then it is written. One line can be taken by itself.
 ghost use Rattle.std.specs.Prelude.{◌≡◌, ◌+◌, ◌-◌, ◌^◌, ◌<◌, ◌≤◌, min, false, length};
 ghost use Rattle.record.specs.Record.{meant};
@@ -26,28 +27,28 @@ const SEGMENT: usize = 65536;
 const MOST_RECORDS: usize = 18446744073709551615;
 
 // The number of the latest type 02 or 04 record; before any, segment 0.
-#[derive(Drop)]
+#[derive(Clone, Copy)]
 pub enum Base {
     Segment(u16),
     Linear(u16),
 }
 
 // What a line comes to: the base and the tally after it, or the answer of the load.
-#[derive(Drop)]
+#[derive(Clone, Copy)]
 pub enum Taken {
     On(Base, Tally),
     Stop(Loading),
 }
 
 // Where a pass stands in a text, and the base in force there.
-#[derive(Drop)]
+#[derive(Clone, Copy)]
 struct Walk {
     base: Base,
     state: State,
 }
 
 // What a line comes to in the second pass: the walk after it, or the end.
-#[derive(Drop)]
+#[derive(Clone, Copy)]
 enum Further {
     On(Walk),
     End,

@@ -1,3 +1,4 @@
+#![tactic(auto)]
 // A row of marks, a bit for each place: place p is bit p modulo 8 of byte p / 8, lowest bit first.
 ghost use Rattle.std.specs.Prelude.{◌≡◌, ◌+◌, ◌/◌, ◌%◌, ◌^◌, ◌≤◌, ◌<◌, min};
 ghost use Rattle.marks.specs.Marks.{byte_of, ones_at, with_bits, RowLength, IsMarked, FirstUnused, Clears, ChangeRun, MarkRun, ClearRun, NextMarked, NextUnmarked, Lowest, LowestPlace};
@@ -9,7 +10,7 @@ const A_BYTE: usize = 8;
 const ALL: u8 = 255;
 
 // The lowest unused bit that is set, by the place that it would have.
-#[derive(Drop)]
+#[derive(Clone, Copy)]
 pub enum Unused {
     Clear,
     At(usize),

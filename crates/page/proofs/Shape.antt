@@ -96,6 +96,8 @@ made_so first marks = let d = made first 0 none marks in record { holds = all_he
 -- of two runs from one place the shorter one has behind it the place where it ends
 run_on : (a n k : ℕ) (X Y : List ℕ) → n < k → places a n ++ X ≡ places a k ++ Y → (Z : List ℕ) × (X ≡ (a + n) ∷ Z)
 unfolding places
+run_on a zero zero X Y h e = absurd (omega arith)
+run_on a (suc n) zero X Y h e = absurd (omega arith)
 run_on a zero (suc k) X Y h e = (places (suc a) k ++ Y, rw (add-zero a) e)
 run_on a (suc n) (suc k) X Y h e = let b : suc a + n ≡ a + suc n = omega arith in rw b at (run_on (suc a) n k X Y (omega arith) (cc))
 
@@ -110,6 +112,7 @@ unfolding places
 first_place p X h = go p.size h
   where
     go : (n : ℕ) → 1 ≤ n → (Z : List ℕ) × (places p.place n ++ X ≡ p.place ∷ Z)
+    go zero h = absurd (omega arith)
     go (suc n) h = (places (suc p.place) n ++ X, refl)
 
 -- it does not end too early: its follower would begin where it ends, which is no place for a cut

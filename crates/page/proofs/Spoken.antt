@@ -33,7 +33,7 @@ use Rattle.page.specs.Spoken.{said_of, spoken, SpokenRow}
 -- ---- a plain line with its LF is one line
 
 not_among : (least : ℕ) {x : ℕ} (xs : List ℕ) → x < least → Every (λ c. least ≤ c) xs → ¬ Memᴰ x xs
-not_among least [] l h m = Memᴰ.not_nil m
+not_among least [] l h m = Memᴰ.not-nil m
 not_among least {x} (y ∷ xs) l (h, hs) m = go (Memᴰ.cases_cons m) (λ m. not_among least xs l hs m)
   where
     go : (x ≡ y) ⊎ Memᴰ x xs → ¬ Memᴰ x xs → ⊥

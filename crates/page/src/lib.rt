@@ -1,3 +1,4 @@
+#![tactic(auto)]
 // A page with marks written back: each run of marked places becomes data records, with the type 04 records that they need and the end record.
 ghost use Rattle.std.specs.Prelude.{◌≡◌, false, ◌+◌, ◌^◌, ◌≤◌, ◌<◌, min, length};
 ghost use Rattle.marks.specs.Marks.{flags};
@@ -17,7 +18,7 @@ const MOST: usize = 18446744073709551615;
 const NONE: u32 = 65536;
 
 // Why a page is not written.
-#[derive(Drop)]
+#[derive(Clone, Copy)]
 pub enum PageError {
     BadWindow,
     // The lowest unused bit of the marks that is set, by the place that it would have.
@@ -26,7 +27,7 @@ pub enum PageError {
 }
 
 // What is answered of the file of a page.
-#[derive(Drop)]
+#[derive(Clone, Copy)]
 pub enum Paged {
     // It is written, or can be: its length.
     Wrote(usize),
@@ -35,7 +36,7 @@ pub enum Paged {
 
 // Where a walk over the records of a file stands: at a place, with the upper 16 bits of the latest type 04 record, or NONE before the first,
 // and whether the end record was given.
-#[derive(Drop)]
+#[derive(Clone, Copy)]
 struct FileWalk {
     place: usize,
     latest: u32,
@@ -43,14 +44,14 @@ struct FileWalk {
 }
 
 // A record of the file, and where the walk stands behind it.
-#[derive(Drop)]
+#[derive(Clone, Copy)]
 struct FileStep {
     given: Record,
     walk: FileWalk,
 }
 
 // The survey of a page's records, or why there is none.
-#[derive(Drop)]
+#[derive(Clone, Copy)]
 enum PageSurvey {
     Of(Survey),
     Refused(PageError),

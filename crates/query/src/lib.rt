@@ -1,3 +1,4 @@
+#![tactic(auto)]
 // One byte of a text of Intel HEX, asked without a page: the text is read once, record by record.
 ghost use Rattle.std.specs.Prelude.{◌≡◌, ◌*◌, length};
 ghost use Rattle.intel.specs.Placing.{from_segment, from_linear};
@@ -14,7 +15,7 @@ use steps::{LoaderError, Start};
 const SEGMENT: u32 = 65536;
 
 // What comes back: the byte that the text states last at the address, that it states none, or a refusal and the number of its line.
-#[derive(Drop)]
+#[derive(Clone, Copy)]
 pub enum Asked {
     States(u8),
     NotStated,
@@ -22,21 +23,21 @@ pub enum Asked {
 }
 
 // The byte that the records so far state last at the address, if one of them does.
-#[derive(Drop)]
+#[derive(Clone, Copy)]
 enum Found {
     Nothing,
     Byte(u8),
 }
 
 // The address that is asked, as seen from the base in force: how far it lies after the base, modulo 2^32, and whether the base is linear.
-#[derive(Drop)]
+#[derive(Clone, Copy)]
 struct Aim {
     linear: bool,
     distance: u32,
 }
 
 // Where the reading stands in the text, and what is known there.
-#[derive(Drop)]
+#[derive(Clone, Copy)]
 struct Walk {
     state: State,
     aim: Aim,
@@ -45,7 +46,7 @@ struct Walk {
 }
 
 // What a line comes to: the walk after it, or the answer.
-#[derive(Drop)]
+#[derive(Clone, Copy)]
 enum Turn {
     On(Walk),
     Stop(Asked),

@@ -58,14 +58,14 @@ cut_cons : (c : ℕ) (text : List ℕ) (b₁ : Bool) → eqb c LF ≡ b₁ → (
     → Cut (c ∷ text) (if b₁ || b₂ then [] else c ∷ first_line text) (if b₁ then text else rest text)
 unfolding first_line rest
 cut_cons c text true e₁ b₂ e₂ k =
-    record { end = LF ∷ []; whole = ap (λ (x : ℕ). x ∷ text) (eqb-true c LF e₁); no_LF = Memᴰ.not_nil; ended = with_LF nil_ne }
+    record { end = LF ∷ []; whole = ap (λ (x : ℕ). x ∷ text) (eqb-true c LF e₁); no_LF = Memᴰ.not-nil; ended = with_LF nil_ne }
 cut_cons c text false e₁ true e₂ k =
     let (is-CR, is-LF) = both (eqb c CR) (at_LF text) e₂ in
     let (t, e) = at_LF_is text is-LF in
     record {
       end = CR ∷ LF ∷ [];
       whole = rw (eqb-true c CR is-CR, e);
-      no_LF = Memᴰ.not_nil;
+      no_LF = Memᴰ.not-nil;
       ended = with_CRLF;
     }
 cut_cons c text false e₁ false e₂ k =
@@ -78,7 +78,7 @@ cut_cons c text false e₁ false e₂ k =
 
 pub cut : (text : List ℕ) → Cut text (first_line text) (rest text)
 unfolding first_line rest
-cut [] = record { end = []; whole = refl; no_LF = Memᴰ.not_nil; ended = with_text }
+cut [] = record { end = []; whole = refl; no_LF = Memᴰ.not-nil; ended = with_text }
 cut (c ∷ text) = cut_cons c text (eqb c LF) refl (eqb c CR && at_LF text) refl (cut text)
 
 ended_tail : {c : ℕ} {line end rest : List ℕ} → Ended (c ∷ line) end rest → Ended line end rest

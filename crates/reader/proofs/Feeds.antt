@@ -12,8 +12,8 @@ use Rattle.reader.proofs.Cutting.{cut_unique}
 
 -- what no index below r holds is not among the first r
 not_in_take : (x : ℕ) (r : ℕ) (text : List ℕ) → r ≤ length text → ((k : ℕ) → k < r → get_or text k 0 ≢ x) → ¬ Memᴰ x (take r text)
-not_in_take x zero text l h m = Memᴰ.not_nil m
-not_in_take x (suc r) [] l h m = Memᴰ.not_nil m
+not_in_take x zero text l h m = Memᴰ.not-nil m
+not_in_take x (suc r) [] l h m = Memᴰ.not-nil m
 not_in_take x (suc r) (c ∷ text) l h m =
     go (not_in_take x r text (omega arith) (λ k b. h (suc k) (omega arith))) (Memᴰ.cases_cons m)
   where

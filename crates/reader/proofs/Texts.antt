@@ -1,7 +1,7 @@
 -- The claims on texts: a call answers the first that is left and leaves the rest, so calls are given what the lines say, by one induction
 -- over the calls; lines are joined and numbered by induction over the text, cut at its first line.
 -- Assumes nothing.
-use Rattle.std.proofs.Common.{◌≡◌, ℕ, zero, suc, ◌+◌, ◌-◌, ◌^◌, ◌<◌, ◌≤◌, Bool, true, false, eqb, ◌≢◌, ◌⊎◌, List, [], ◌∷◌, ◌++◌, length, sym, refl, ap, ◌∙◌, subst, inl, inr, add-zero, add-suc, suc-add, arith}
+use Rattle.std.proofs.Common.{◌≡◌, ℕ, zero, suc, ◌+◌, ◌-◌, ◌^◌, ◌<◌, ◌≤◌, Bool, true, false, eqb, ◌≢◌, ◌⊎◌, List, [], ◌∷◌, ◌++◌, length, sym, refl, ap, ap₂, ◌∙◌, subst, inl, inr, add-zero, add-suc, suc-add, arith}
 use mathlib.Core.List.{nil≢cons, Memᴰ}
 use Rattle.digits.specs.Common.{if◌then◌else◌}
 use Rattle.record.specs.Line.{Said, judge}
@@ -9,7 +9,7 @@ use Rattle.digits.proofs.Tests.{both_ways}
 use Rattle.reader.specs.declared.ReaderOptions.{ReaderOptions}
 use Rattle.reader.specs.declared.State.{State}
 use Rattle.reader.specs.declared.Reply.TheVariants as reply
-use Rattle.reader.specs.Told.{done, told}
+use Rattle.reader.specs.Told.{Told, done, told}
 use Rattle.reader.specs.Answer.{answered}
 use Rattle.reader.specs.Lines.{LF, Cut, Joins, nothing, more, rest, lines, later}
 use Rattle.reader.specs.Row.{Numbered, on, sayings, stops, through_stop, row}
@@ -57,6 +57,11 @@ module _ (text : List ℕ) where
       let i = of_calls r.state calls later-givens later-calls in
       let a = meets.answer in let p = meets.left in let t = meets.state in cc
 
+  -- a call that is told the same, of the same pool and line, is given the same
+  same_given : {a b : Told} {p q : List ℕ} {l m : ℕ} → a ≡ b → p ≡ q → l ≡ m
+      → ◌≡◌ {A = Given} (record { told = a; pool = p; line = l }) (record { told = b; pool = q; line = m })
+  same_given t p l = cc
+
   -- calls from a state that has this left to read
   rows_from : (s : State) (left : List Numbered) (calls : List Call) → unread s text ≡ left → Countable s text → outcomes text s calls ≡ replies s.options s.line left calls
   unfolding replies outcomes
@@ -65,8 +70,8 @@ module _ (text : List ℕ) where
   rows_from s [] (call ∷ calls) u k =
       let e = ended s text call.pool call.at k u in
       let i = rows_from (outcome s text call.pool call.at).state [] calls e.left e.countable in
-      let o = e.options in let l = e.line in let t = e.tells in let p = e.untouched in
-      cc
+      ap₂ (λ (g : Given) (gs : List Given). g ∷ gs) (same_given e.tells e.untouched e.line)
+      (i ∙ ap₂ (λ (o : ReaderOptions) (l : ℕ). replies o l [] calls) e.options e.line)
   rows_from s (on n said ∷ left) (call ∷ calls) u k =
       go (is_full (answered said (length call.pool) call.at)) refl (λ l v w. rows_from (outcome s text call.pool call.at).state l calls v w)
     where
@@ -175,7 +180,7 @@ line_later k l ls n said (c, line, before, after, e, i, j) =
 
 said_line : (k : ℕ) (ls : List (List ℕ)) (n : ℕ) (said : Said) → Memᴰ (on n said) (sayings k ls) → LineAt k ls n said
 unfolding sayings
-said_line k [] n said m = absurd (mathlib.Core.List.Memᴰ.not_nil m)
+said_line k [] n said m = absurd (mathlib.Core.List.Memᴰ.not-nil m)
 said_line k ([] ∷ ls) n said m = line_later k [] ls n said (said_line (suc k) ls n said m)
 said_line k ((c ∷ line) ∷ ls) n said m = go (mathlib.Core.List.Memᴰ.cases_cons m) (λ m. said_line (suc k) ls n said m)
   where

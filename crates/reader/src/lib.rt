@@ -1,3 +1,4 @@
+#![tactic(auto)]
 // Intel HEX read: one line to a record, and a text to a row of answers.
 ghost use Rattle.std.specs.Prelude.{◌≡◌, ◌+◌, ◌-◌, ◌*◌, ◌%◌, ◌<◌, ◌≤◌, true, false, length, take, drop, nat_eq};
 ghost use Rattle.digits.specs.Common.{if◌then◌else◌, pasted};
@@ -14,7 +15,7 @@ ghost use Rattle.reader.specs.Helpers.{NoFeed, FirstFeed, LineEnd, Spotted, Sett
 use record::{Record, byte_counts, char_counts, chars, payload_sizes, refusals, types};
 
 // Why a line gives no record, in the crate's order.
-#[derive(Drop)]
+#[derive(Clone, Copy)]
 pub enum ReaderError {
     MissingStartCode,
     RecordTooShort,
@@ -32,7 +33,7 @@ pub enum ReaderError {
 }
 
 // What a refusal has beside its number: nothing, a place of the line, a byte, or two bytes.
-#[derive(Drop)]
+#[derive(Clone, Copy)]
 pub enum Values {
     Nothing,
     Position(u16),
@@ -41,28 +42,28 @@ pub enum Values {
 }
 
 // A refusal in numbers.
-#[derive(Drop)]
+#[derive(Clone, Copy)]
 pub struct Figures {
     pub number: u8,
     pub values: Values,
 }
 
 // What the record reader answers to a line.
-#[derive(Drop)]
+#[derive(Clone, Copy)]
 pub enum Answer {
     Read(Record),
     Refused(ReaderError),
 }
 
 // Which answers end a reading before the text does.
-#[derive(Drop)]
+#[derive(Clone, Copy)]
 pub struct ReaderOptions {
     pub stop_after_first_error: bool,
     pub stop_after_eof: bool,
 }
 
 // Where a reader stands in a text: behind `line` lines, at `position`.
-#[derive(Drop)]
+#[derive(Clone, Copy)]
 pub struct State {
     pub position: usize,
     pub line: usize,
@@ -71,7 +72,7 @@ pub struct State {
 }
 
 // What a text reader answers to a call.
-#[derive(Drop)]
+#[derive(Clone, Copy)]
 pub enum Reply {
     Read(Record),
     Refused(ReaderError),
@@ -79,14 +80,14 @@ pub enum Reply {
 }
 
 // A reply, and where the reader stands then.
-#[derive(Drop)]
+#[derive(Clone, Copy)]
 pub struct Replied {
     pub reply: Reply,
     pub state: State,
 }
 
 // A line that has a byte: where it lies, where the rest begins, and how many empty lines stood ahead of it.
-#[derive(Drop)]
+#[derive(Clone, Copy)]
 enum Spot {
     At {
         from: usize,
@@ -164,7 +165,7 @@ fn pour(buf: &[u8], n: usize, pool: &mut [u8], at: usize)
     ensures { pool.new ≡ pasted pool.old at (take n (drop 4 buf.now)) }
 {
     let end = 4 + n;
-    bytes::copy(&buf[4..end], &mut pool[at..]);
+    copying::copy(&buf[4..end], &mut pool[at..]);
 }
 
 // A data record whose length byte is right: its payload goes into the pool, if there is room.

@@ -117,8 +117,9 @@ offends_there before d after h n =
     }
   where
     least : (b : List ℕ) → Every IsHex b → (i : ℕ) → 0 < i → i < length (58 ∷ (b ++ (d ∷ after))) → ¬ IsHex (get_or (58 ∷ (b ++ (d ∷ after))) i 0) → suc (length b) ≤ i
-    least b e zero z k m = absurd (omega arith)
+    least [] e zero z k m = absurd (omega arith)
     least [] e (suc i) z k m = omega arith
+    least (x ∷ b) (e, es) zero z k m = absurd (omega arith)
     least (x ∷ b) (e, es) (suc zero) z k m = absurd (m e)
     least (x ∷ b) (e, es) (suc (suc i)) z k m = omega (arith, least b es (suc i) (omega arith) (omega arith) m)
 

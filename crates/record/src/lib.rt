@@ -1,7 +1,8 @@
+#![tactic(auto)]
 // The six records of Intel's hexadecimal format, their types, the numbers of refusals, and the numbers and characters of a line.
 ghost use Rattle.record.specs.Record.{RecordType};
 
-#[derive(Drop)]
+#[derive(Clone, Copy)]
 pub enum Record {
     // A 16-bit offset, and a payload of `len` bytes that lies in a lent pool from `at` on.
     Data { offset: u16, at: usize, len: usize },

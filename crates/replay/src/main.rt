@@ -1,3 +1,4 @@
+#![tactic(auto)]
 // Runs the port on cases from standard input, a line each, and prints each answer, a line each.
 //
 //   # ..                           a heading, printed again
@@ -227,7 +228,7 @@ fn say_refusal(e: ReaderError) {
 }
 
 // A number, and where the text goes on after it and the character that ended it.
-#[derive(Drop)]
+#[derive(Clone, Copy)]
 struct Spelt {
     value: u64,
     next: usize,
@@ -390,7 +391,7 @@ fn record_of(kind: u64, x: u64, second: u64, at: usize, len: usize) -> Record {
 }
 
 // A record, and where the text goes on after it.
-#[derive(Drop)]
+#[derive(Clone, Copy)]
 struct Given {
     record: Record,
     next: usize,

@@ -59,13 +59,13 @@ fates_tidy text = tidy true (sayings 1 (lines text))
 
 kept_in : (n : ℕ) (m : Meaning) (xs : List Sorted) → Tidy xs → Memᴰ (of n (kept m)) xs → Memᴰ m (records xs)
 unfolding Tidy records
-kept_in n m [] t h = absurd (Memᴰ.not_nil h)
+kept_in n m [] t h = absurd (Memᴰ.not-nil h)
 kept_in n m (of k (kept a) ∷ xs) (f, t) h = go (is_end a) refl (kept_in n m xs t) (Memᴰ.cases_cons h)
   where
     go : (b : Bool) → is_end a ≡ b → (Memᴰ (of n (kept m)) xs → Memᴰ m (records xs)) → (of n (kept m) ≡ of k (kept a)) ⊎ Memᴰ (of n (kept m)) xs
         → Memᴰ m (a ∷ (if b then [] else records xs))
     go b e below (inl q) = let w : m ≡ a = cc in Memᴰ.head w
-    go true e below (inr h) = absurd (Memᴰ.not_nil (subst (Memᴰ (of n (kept m))) (f e) h))
+    go true e below (inr h) = absurd (Memᴰ.not-nil (subst (Memᴰ (of n (kept m))) (f e) h))
     go false e below (inr h) = Memᴰ.tail (below h)
 kept_in n m (of k (dropped why) ∷ xs) t h = go (Memᴰ.cases_cons h) (kept_in n m xs t)
   where
@@ -75,13 +75,13 @@ kept_in n m (of k (dropped why) ∷ xs) t h = go (Memᴰ.cases_cons h) (kept_in 
 
 dropped_in : (n : ℕ) (why : Reason) (xs : List Sorted) → Tidy xs → Memᴰ (of n (dropped why)) xs → Memᴰ (entry n why) (entries xs)
 unfolding Tidy entries
-dropped_in n why [] t h = absurd (Memᴰ.not_nil h)
+dropped_in n why [] t h = absurd (Memᴰ.not-nil h)
 dropped_in n why (of k (kept a) ∷ xs) (f, t) h = go (is_end a) refl (dropped_in n why xs t) (Memᴰ.cases_cons h)
   where
     go : (b : Bool) → is_end a ≡ b → (Memᴰ (of n (dropped why)) xs → Memᴰ (entry n why) (entries xs))
         → (of n (dropped why) ≡ of k (kept a)) ⊎ Memᴰ (of n (dropped why)) xs → Memᴰ (entry n why) (if b then [] else entries xs)
     go b e below (inl q) = absurd (let z : ◌≡◌ {A = ℕ} 0 1 = cc in omega arith)
-    go true e below (inr h) = absurd (Memᴰ.not_nil (subst (Memᴰ (of n (dropped why))) (f e) h))
+    go true e below (inr h) = absurd (Memᴰ.not-nil (subst (Memᴰ (of n (dropped why))) (f e) h))
     go false e below (inr h) = below h
 dropped_in n why (of k (dropped y) ∷ xs) t h = go (Memᴰ.cases_cons h) (dropped_in n why xs t)
   where
@@ -109,8 +109,8 @@ unfolding entries
 listed_from n why [] h = go (Memᴰ.cases_cons h)
   where
     go : (entry n why ≡ end_added) ⊎ Memᴰ (entry n why) [] → Memᴰ (of n (dropped why)) [] ⊎ ((entry n why ≡ end_added) × Endless [])
-    go (inl e) = inr (e, λ k q. Memᴰ.not_nil q)
-    go (inr h) = absurd (Memᴰ.not_nil h)
+    go (inl e) = inr (e, λ k q. Memᴰ.not-nil q)
+    go (inr h) = absurd (Memᴰ.not-nil h)
 listed_from n why (of k (kept a) ∷ xs) h = go (is_end a) refl (listed_from n why xs) h
   where
     later : is_end a ≡ false → Memᴰ (of n (dropped why)) xs ⊎ ((entry n why ≡ end_added) × Endless xs)
@@ -120,7 +120,7 @@ listed_from n why (of k (kept a) ∷ xs) h = go (is_end a) refl (listed_from n w
 
     go : (b : Bool) → is_end a ≡ b → (Memᴰ (entry n why) (entries xs) → Memᴰ (of n (dropped why)) xs ⊎ ((entry n why ≡ end_added) × Endless xs))
         → Memᴰ (entry n why) (if b then [] else entries xs) → Memᴰ (of n (dropped why)) (of k (kept a) ∷ xs) ⊎ ((entry n why ≡ end_added) × Endless (of k (kept a) ∷ xs))
-    go true e below h = absurd (Memᴰ.not_nil h)
+    go true e below h = absurd (Memᴰ.not-nil h)
     go false e below h = later e (below h)
 listed_from n why (of k (dropped y) ∷ xs) h = go (Memᴰ.cases_cons h) (listed_from n why xs)
   where
@@ -243,7 +243,7 @@ endless_later x xs h f = h (λ n m. f n (Memᴰ.tail m))
 
 counted_from : (xs : List Sorted) → Tidy xs → Counts xs
 unfolding Tidy Counts records entries
-counted_from [] t = inr (refl, λ n h. Memᴰ.not_nil h)
+counted_from [] t = inr (refl, λ n h. Memᴰ.not-nil h)
 counted_from (of n (kept m) ∷ xs) (f, t) = go (is_end m) refl (counted_from xs t)
   where
     go : (b : Bool) → is_end m ≡ b → Counts xs

@@ -22,7 +22,7 @@ unfolding steps_of intel_by saved fates row
 salvage_in_order text undamaged s u = rw (clean_states text) (stated_there s true 1 1 from_start from_start (λ e. refl) u)
 
 among_in : {A : Type 0} {xs ys : List A} → Among xs ys → (x : A) → Memᴰ x xs → Memᴰ x ys
-among_in none x h = absurd (Memᴰ.not_nil h)
+among_in none x h = absurd (Memᴰ.not-nil h)
 among_in (this {x = y} {xs = xs} {ys = ys} a) x h = go (Memᴰ.cases_cons h) (λ m. among_in a x m)
   where
     go : (x ≡ y) ⊎ Memᴰ x xs → (Memᴰ x xs → Memᴰ x ys) → Memᴰ x (y ∷ ys)

@@ -73,8 +73,8 @@ unfolding records
 records_from m [] h = go (Memᴰ.cases_cons h)
   where
     go : (m ≡ end_of_file) ⊎ Memᴰ m [] → ((n : ℕ) × Memᴰ (of n (kept m)) []) ⊎ ((m ≡ end_of_file) × Endless [])
-    go (inl e) = inr (e, λ n q. Memᴰ.not_nil q)
-    go (inr h) = absurd (Memᴰ.not_nil h)
+    go (inl e) = inr (e, λ n q. Memᴰ.not-nil q)
+    go (inr h) = absurd (Memᴰ.not-nil h)
 records_from m (of n (kept a) ∷ xs) h = go (is_end a) refl (records_from m xs) (Memᴰ.cases_cons h)
   where
     later : is_end a ≡ false → ((n' : ℕ) × Memᴰ (of n' (kept m)) xs) ⊎ ((m ≡ end_of_file) × Endless xs)
@@ -85,7 +85,7 @@ records_from m (of n (kept a) ∷ xs) h = go (is_end a) refl (records_from m xs)
     go : (b : Bool) → is_end a ≡ b → (Memᴰ m (records xs) → ((n' : ℕ) × Memᴰ (of n' (kept m)) xs) ⊎ ((m ≡ end_of_file) × Endless xs))
         → (m ≡ a) ⊎ Memᴰ m (if b then [] else records xs) → ((n' : ℕ) × Memᴰ (of n' (kept m)) (of n (kept a) ∷ xs)) ⊎ ((m ≡ end_of_file) × Endless (of n (kept a) ∷ xs))
     go b q below (inl e) = inl (n, Memᴰ.head (ap (λ (x : Meaning). of n (kept x)) e))
-    go true q below (inr h) = absurd (Memᴰ.not_nil h)
+    go true q below (inr h) = absurd (Memᴰ.not-nil h)
     go false q below (inr h) = later q (below h)
 records_from m (of n (dropped why) ∷ xs) h = later (records_from m xs h)
   where

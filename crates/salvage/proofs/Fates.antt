@@ -222,7 +222,7 @@ module _ (all : List (List ℕ)) (n : ℕ) (what : Fate) where
   walk : (ls ahead : List (List ℕ)) (known : Bool) (n₀ : ℕ) → all ≡ ahead ++ ls → n₀ ≡ suc (length ahead) → Status known ahead → Every GoesOn ahead
       → Memᴰ (of n what) (sorted known (through_stop past_refusals (sayings n₀ ls))) → Fated all n what
   unfolding sorted through_stop sayings
-  walk [] ahead known n₀ w e st g m = absurd (Memᴰ.not_nil m)
+  walk [] ahead known n₀ w e st g m = absurd (Memᴰ.not-nil m)
   walk ([] ∷ ls) ahead known n₀ w e st g m =
       walk ls (ahead ++ ([] ∷ [])) known (suc n₀) (w ∙ sym (append_assoc ahead ([] ∷ []) ls)) (omega (arith, length-append ahead ([] ∷ [])))
       (blank_status known ahead st) (every_snoc GoesOn ahead [] g (empty_says end_of_file)) m
@@ -239,7 +239,7 @@ module _ (all : List (List ℕ)) (n : ℕ) (what : Fate) where
 
       further : (s : Said) → judge (c ∷ l) ≡ s → Below → (b : Bool) → stops past_refusals s ≡ b
           → Memᴰ (of n what) (sorted (known_behind known s) (if b then [] else through_stop past_refusals row)) → Fated all n what
-      further s q below true h m = absurd (Memᴰ.not_nil m)
+      further s q below true h m = absurd (Memᴰ.not-nil m)
       further s q below false h m = below (known_behind known s) (status_behind known ahead st c l s q) (goes_on (c ∷ l) s q h) m
 
       go : (s : Said) → judge (c ∷ l) ≡ s → Below → Memᴰ (of n what) (sorted known (through_stop past_refusals (on n₀ s ∷ row))) → Fated all n what

@@ -1,3 +1,4 @@
+#![tactic(auto)]
 // A noisy capture of Intel HEX saved: a clean file of the records that can be relied on, and a list of the lines that were dropped.
 ghost use Rattle.std.specs.Prelude.{◌≡◌, true, ◌+◌, ◌*◌, ◌≤◌, length};
 ghost use Rattle.digits.specs.Common.{pasted};
@@ -27,14 +28,14 @@ const LINE: usize = 8;
 const BASE_UNKNOWN: u8 = 0;
 
 // Why nothing is saved.
-#[derive(Drop)]
+#[derive(Clone, Copy)]
 pub enum SalvageError {
     OutputFull,
     ListFull,
 }
 
 // What a salvage returns.
-#[derive(Drop)]
+#[derive(Clone, Copy)]
 pub enum Salvaged {
     // The length of the clean file, and how many entries the list has.
     Saved { length: usize, entries: usize },
@@ -42,7 +43,7 @@ pub enum Salvaged {
 }
 
 // A dropped line: its number, the number of the reason, and its values, 0 where there is none.
-#[derive(Drop)]
+#[derive(Clone, Copy)]
 struct Entry {
     line: usize,
     why: u8,
@@ -51,14 +52,14 @@ struct Entry {
 }
 
 // Where a pass stands in a text, and whether the base in force there is known.
-#[derive(Drop)]
+#[derive(Clone, Copy)]
 struct Walk {
     state: State,
     known: bool,
 }
 
 // What the next line comes to.
-#[derive(Drop)]
+#[derive(Clone, Copy)]
 enum Turn {
     // Its record is saved, and the walk goes on.
     Keeps(Record, Walk),
@@ -71,7 +72,7 @@ enum Turn {
 }
 
 // What is left of the output and of the places of the list, and whether either was too little.
-#[derive(Drop)]
+#[derive(Clone, Copy)]
 struct Spare {
     space: usize,
     full: bool,

@@ -1,3 +1,4 @@
+#![tactic(auto)]
 // Motorola S-records: one line to a record, and one record to a line.
 ghost use Rattle.std.specs.Prelude.{◌≡◌, ◌+◌, ◌-◌, ◌*◌, ◌/◌, ◌%◌, ◌<◌, ◌≤◌, true, length, take, drop, nat_lt};
 ghost use Rattle.digits.specs.Common.{if◌then◌else◌, pasted};
@@ -100,7 +101,7 @@ const THIRD: usize = 3;
 const FOURTH: usize = 4;
 
 // The types that the format names.
-#[derive(Drop)]
+#[derive(Clone, Copy)]
 pub enum SType {
     // A header.
     S0,
@@ -117,14 +118,14 @@ pub enum SType {
 }
 
 // The type that a digit names, if it names one.
-#[derive(Drop)]
+#[derive(Clone, Copy)]
 pub enum Named {
     Kind(SType),
     Nothing,
 }
 
 // A record: its type, its address, and its data, `len` bytes that lie in a lent pool from `at` on. For S5 the address is the count.
-#[derive(Drop)]
+#[derive(Clone, Copy)]
 pub struct SRecord {
     pub kind: SType,
     pub address: u32,
@@ -133,7 +134,7 @@ pub struct SRecord {
 }
 
 // What the record reader answers to a line.
-#[derive(Drop)]
+#[derive(Clone, Copy)]
 pub enum SAnswer {
     Read(SRecord),
     Refused(ReaderError),
@@ -253,7 +254,7 @@ fn pour(buf: &[u8], from: usize, n: usize, pool: &mut [u8], at: usize)
     ensures { pool.new ≡ pasted pool.old at (take n (drop from buf.now)) }
 {
     let end = from + n;
-    bytes::copy(&buf[from..end], &mut pool[at..]);
+    copying::copy(&buf[from..end], &mut pool[at..]);
 }
 
 // A header or a data record whose count is right: its data goes into the pool, if there is room.
@@ -388,7 +389,7 @@ pub fn read_srecord(line: &[u8], pool: &mut [u8], at: usize) -> SAnswer
 }
 
 // Why a record is not written.
-#[derive(Drop)]
+#[derive(Clone, Copy)]
 pub enum SWriterError {
     // The data does not lie in the pool.
     PayloadOutsidePool,
@@ -402,7 +403,7 @@ pub enum SWriterError {
 }
 
 // What the record writer answers.
-#[derive(Drop)]
+#[derive(Clone, Copy)]
 pub enum SWritten {
     // The length of what was written.
     Wrote(usize),

@@ -1,3 +1,4 @@
+#![tactic(auto)]
 // A text of S-records loaded into a page with marks: the whole text is judged first, then it is written.
 ghost use Rattle.std.specs.Prelude.{◌≡◌, ◌+◌, ◌-◌, ◌^◌, ◌<◌, ◌≤◌, min, false, length};
 ghost use Rattle.steps.specs.Steps.{nothing_yet, decision, verdict};
@@ -25,21 +26,21 @@ const MOST_DATA: usize = 252;
 const MOST: usize = 18446744073709551615;
 
 // Where a pass stands in a text: after so many lines, at a position.
-#[derive(Drop)]
+#[derive(Clone, Copy)]
 struct Walk {
     position: usize,
     line: usize,
 }
 
 // What a line comes to in the first pass: the number of data records so far with the walk after it, or the answer.
-#[derive(Drop)]
+#[derive(Clone, Copy)]
 enum Turn {
     On(usize, Walk),
     Stop(Loading),
 }
 
 // What a line comes to in the second pass: the walk after it, or the end.
-#[derive(Drop)]
+#[derive(Clone, Copy)]
 enum Further {
     On(Walk),
     End,
@@ -305,7 +306,7 @@ fn write_text(text: &[u8], owner: usize, rows: &[usize], page: &mut [u8], marks:
 }
 
 // What a line comes to: how many data records there are after it, or the answer of the load.
-#[derive(Drop)]
+#[derive(Clone, Copy)]
 pub enum Taken {
     On(usize),
     Stop(Loading),

@@ -32,7 +32,7 @@ ends_there (fails r ∷ acts) e = Memᴰ.tail (ends_there acts e)
 
 pub there_ends : (acts : List Action) → Memᴰ finishes acts → ends acts ≡ true
 unfolding ends
-there_ends [] m = absurd (Memᴰ.not_nil m)
+there_ends [] m = absurd (Memᴰ.not-nil m)
 there_ends (a ∷ acts) m = go a (Memᴰ.cases_cons m) (there_ends acts)
   where
     go : (a : Action) → (finishes ≡ a) ⊎ Memᴰ finishes acts → (Memᴰ finishes acts → ends acts ≡ true) → ends (a ∷ acts) ≡ true

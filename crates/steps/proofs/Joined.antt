@@ -366,7 +366,7 @@ module _ {S : Type 0} (src : Source S) (reset : List ℕ) (j : Joinable src rese
         whole = ap (λ (x : List ℕ). pa ++ (reset ++ (LF ∷ x))) kb.whole ∙ ap (λ (l : List ℕ). pa ++ l) (sym (append_assoc reset (LF ∷ pb) kb.rest)) ∙ sym (append_assoc pa (reset ++ (LF ∷ pb)) kb.rest);
         whole_lines = whole_lines_joined pa pb kb.whole_lines;
         none_ends = rw ls (none_append src s (lines pa) (reset ∷ lines pb) ka.none_ends
-            (none_reset src reset j reset j.has_a_byte at (lines pb) (rw (j.silent at) (Memᴰ.not_nil)) (rw (j.back at) kb.none_ends)));
+            (none_reset src reset j reset j.has_a_byte at (lines pb) (rw (j.silent at) (Memᴰ.not-nil)) (rw (j.back at) kb.none_ends)));
         line = kb.line;
         later = kb.later;
         next = kb.next;

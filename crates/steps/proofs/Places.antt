@@ -80,7 +80,7 @@ found_cons a p ps none false e f = λ q m h. go q h (Memᴰ.cases_cons m)
 
 pub found : (a : ℕ) (ps : List Placement) → Found a ps (last_at a ps)
 unfolding last_at
-found a [] = λ p m h. Memᴰ.not_nil m
+found a [] = λ p m h. Memᴰ.not-nil m
 found a (p ∷ ps) = found_cons a p ps (last_at a ps) (eqb p.address a) refl (found a ps)
 
 pub last_append : (a : ℕ) (ps qs : List Placement) → last_at a (ps ++ qs) ≡ or_else (last_at a qs) (last_at a ps)

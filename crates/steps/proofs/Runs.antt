@@ -1,6 +1,6 @@
 -- Laws of runs: what a run states at an address, and what lies outside of one. Marks as ones painted upon cleared marks.
 -- Assumes nothing.
-use mathlib.Core.Path.{◌≡◌, refl, ap, ap₂}
+use mathlib.Core.Path.{◌≡◌, refl, sym, ap, ap₂, subst}
 use Prim.Native.Nat.{ℕ, zero, suc, ◌+◌, ◌≤◌, ◌<◌}
 use native.Mathlib.Nat.{add-zero}
 use native.Mathlib.Omega.{arith}
@@ -33,8 +33,9 @@ pub last_within : (address i : ℕ) (bytes : List ℕ) → i < length bytes → 
 unfolding last_at run
 last_within address i [] h = absurd (omega arith)
 last_within address zero (b ∷ bytes) h =
-    rw (add-zero address, last_before address (suc address) bytes (omega arith), eq-eqb address address refl)
-last_within address (suc i) (b ∷ bytes) h = rw (← step_on address i, last_within (suc address) i bytes (omega arith))
+    subst (λ (a : ℕ). last_at a (run address (b ∷ bytes)) ≡ some b) (sym (add-zero address)) (rw (last_before address (suc address) bytes (omega arith), eq-eqb address address refl))
+last_within address (suc i) (b ∷ bytes) h =
+    subst (λ (a : ℕ). last_at a (run address (b ∷ bytes)) ≡ some (get_or bytes i 0)) (step_on address i) (rw (last_within (suc address) i bytes (omega arith)))
 
 -- nothing after its end
 pub last_beyond : (a address : ℕ) (bytes : List ℕ) → address + length bytes ≤ a → last_at a (run address bytes) ≡ none

@@ -1,10 +1,11 @@
+#![tactic(auto)]
 // Steps: what the lines of a text do, what they come to, and where their bytes are stored. Definitions and laws; in code, what a load returns.
 ghost use Rattle.steps.specs.Told.{IsAccepted, DiffersFrom};
 
 use reader::ReaderError;
 
 // Why a text is not loaded.
-#[derive(Drop)]
+#[derive(Clone, Copy)]
 pub enum LoaderError {
     // A line gives no record.
     Line(ReaderError),
@@ -21,7 +22,7 @@ pub enum LoaderError {
 }
 
 // Where a program starts, as a text states it.
-#[derive(Drop)]
+#[derive(Clone, Copy)]
 pub enum Start {
     // No record states it.
     Unstated,
@@ -53,7 +54,7 @@ impl Start {
 }
 
 // What an accepted load reports.
-#[derive(Drop)]
+#[derive(Clone, Copy)]
 pub struct Tally {
     // How many data records it met.
     pub records: usize,
@@ -62,7 +63,7 @@ pub struct Tally {
 }
 
 // What a load returns: its tally, or a refusal and the number of its line.
-#[derive(Drop)]
+#[derive(Clone, Copy)]
 pub enum Loading {
     Accepted(Tally),
     Refused(LoaderError, usize),

@@ -1,3 +1,4 @@
+#![tactic(auto)]
 // A text loaded for one owner through a window table that is given in bytes, as C has it.
 ghost use Rattle.std.specs.Prelude.{◌≡◌};
 ghost use Rattle.intel.specs.Placing.{intel};

@@ -210,7 +210,7 @@ either false y e f g = g e
 
 -- a window that clashes with none of these clashes not with this one
 not_with : (r r' : Row) (rows : List Row) → clashes r rows ≡ false → Memᴰ r' rows → clash r r' ≡ false
-not_with r r' [] e m = absurd (mathlib.Core.List.Memᴰ.not_nil m)
+not_with r r' [] e m = absurd (mathlib.Core.List.Memᴰ.not-nil m)
 not_with r r' (x ∷ rows) e m = let (c, cs) = or_false (clash r x) (clashes r rows) e in go c (λ k. not_with r r' rows cs k) (mathlib.Core.List.Memᴰ.cases_cons m)
   where
     go : clash r x ≡ false → (Memᴰ r' rows → clash r r' ≡ false) → (r' ≡ x) ⊎ Memᴰ r' rows → clash r r' ≡ false
@@ -237,7 +237,7 @@ shows_so owner (r ∷ rows) i a = go (has owner i r) refl (shows_so owner rows i
 
 so_shows : (owner : ℕ) (rows : List Row) → any_clash rows ≡ false → (i a : ℕ) → ShowsIn owner rows i a → site_of owner rows i ≡ some a
 unfolding site_of
-so_shows owner [] c i a s = absurd (mathlib.Core.List.Memᴰ.not_nil s.in_table)
+so_shows owner [] c i a s = absurd (mathlib.Core.List.Memᴰ.not-nil s.in_table)
 so_shows owner (r ∷ rows) c i a s =
     let (c₁, c₂) = or_false (clashes r rows) (any_clash rows) c in
     go (has owner i r) refl c₁ (λ k. so_shows owner rows c₂ i a k) (mathlib.Core.List.Memᴰ.cases_cons s.in_table)
@@ -267,7 +267,7 @@ shown_by_windows owner rows c i a = (shows_so owner rows i a, so_shows owner row
 
 pub inside_by_windows : InsideByWindows
 unfolding inside_of
-inside_by_windows owner [] a = (λ e. let z : ◌≡◌ {A = ℕ} 0 1 = cc in absurd (omega arith), λ (r, m, o, l). absurd (mathlib.Core.List.Memᴰ.not_nil m))
+inside_by_windows owner [] a = (λ e. let z : ◌≡◌ {A = ℕ} 0 1 = cc in absurd (omega arith), λ (r, m, o, l). absurd (mathlib.Core.List.Memᴰ.not-nil m))
 inside_by_windows owner (r ∷ rows) a = let (more, less) = inside_by_windows owner rows a in (forth more, back less)
   where
     forth : (inside_of owner rows a ≡ true → (x : Row) × Memᴰ x rows × (x.owner ≡ owner) × LiesIn x.first x.size a)
@@ -357,7 +357,7 @@ any_two (x ∷ rows) e =
 
 -- and back: such windows clash
 good_at : (pool : ℕ) (rows : List Row) (r : Row) → good_rows pool rows ≡ true → Memᴰ r rows → good_row pool r ≡ true
-good_at pool [] r e m = absurd (mathlib.Core.List.Memᴰ.not_nil m)
+good_at pool [] r e m = absurd (mathlib.Core.List.Memᴰ.not-nil m)
 good_at pool (x ∷ rows) r e m =
     let (g, gs) = both (good_row pool x) (good_rows pool rows) e in
     go (mathlib.Core.List.Memᴰ.cases_cons m) g (λ k. good_at pool rows r gs k)

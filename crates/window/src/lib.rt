@@ -1,3 +1,4 @@
+#![tactic(auto)]
 // Windows: the addresses that they hold, a table of them, and a run of bytes stored through them in a page and marked.
 ghost use Rattle.std.specs.Prelude.{◌≡◌, ◌+◌, ◌-◌, ◌≤◌, ◌<◌, min, [], ◌∷◌, not, ltb, length, get_or, drop};
 ghost use Rattle.window.specs.Table.{rows_in, nobody, takes, inside_of, is_owner, good_row, good_rows, overlap, clash, clashes, any_clash};
@@ -23,7 +24,7 @@ pub mod owners {
 pub const NUMBERS: usize = 4;
 
 // One window of a table.
-#[derive(Drop)]
+#[derive(Clone, Copy)]
 pub struct Row {
     pub owner: usize,
     pub first: usize,
@@ -32,7 +33,7 @@ pub struct Row {
 }
 
 // Where the bytes of a run lie: all in the window, or the number of the first byte that does not, counted from 0.
-#[derive(Drop)]
+#[derive(Clone, Copy)]
 pub enum Reach {
     Inside,
     Outside(usize),
@@ -251,7 +252,7 @@ fn least(a: usize, b: usize) -> usize
 }
 
 // The part of a run that lies in a window: `len` bytes after the first `skip` of the run, from a place of the window on.
-#[derive(Drop)]
+#[derive(Clone, Copy)]
 struct Part {
     skip: usize,
     place: usize,
@@ -284,7 +285,7 @@ fn copy_to(bytes: &[u8], page: &mut [u8], place: usize)
     ensures { Copied bytes.now place page.old page.new }
 {
     let end = place + bytes.len();
-    bytes::copy(bytes, &mut page[place..end]);
+    copying::copy(bytes, &mut page[place..end]);
 }
 
 // Stores the part of a run that lies in a window, from the window's place in the page on, and marks its places. What lies beyond the page is left out.

@@ -146,10 +146,13 @@ writes_text rs pool out n out' i b w =
     let t = object_whole rs pool (take n out') (stands_there (object rs pool) out n out' w).0 in
     rw t.lined (text_for rs pool i b t.fine)
 
+same_text : (pool : List ℕ) {rs : List Record} {t t' : List ℕ} → TextFor pool rs t → TextFor pool rs t' → t ≡ t'
+same_text pool no_line no_line = refl
+same_text pool (then_line {r} {rs} l rest f s) (then_line l' rest' f' s') =
+    ap₂ (λ (x y : List ℕ). x ++ (10 ∷ y)) (one_line r pool l l' f f') (same_text pool s s')
+
 pub one_text : OneText
-one_text _ pool _ _ no_line no_line = refl
-one_text _ pool _ _ (then_line {r} {rs} l rest f s) (then_line l' rest' f' s') =
-    ap₂ (λ (x y : List ℕ). x ++ (10 ∷ y)) (one_line r pool l l' f f') (one_text rs pool rest rest' s s')
+one_text rs pool t t' s s' = same_text pool s s'
 
 pub object_injective : ObjectInjective
 object_injective rs rs' pool pool' cs i i' b b' e e' =

@@ -9,4 +9,3 @@ pub mod Stepping
 pub mod Reasons
 pub mod Claims
 pub mod Taking
-pub mod Again

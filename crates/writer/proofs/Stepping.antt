@@ -25,7 +25,7 @@ stuck_next : (w : Written) (r : Refusal) (x : Record) (pool out : List ℕ) (w' 
 stuck_next (Wrote at) r x pool out w' out' e n = let z : ◌≡◌ {A = ℕ} 0 1 = cc in absurd (omega arith)
 stuck_next (Refused q) r x pool out w' out' e n = (n.answer ∙ e, n.left)
 
-stuck : {rs : List Record} {w : Written} {out' : List ℕ} (pool out : List ℕ) (start : Written) (r : Refusal) → told_written start ≡ refuses r
+stuck : (pool out : List ℕ) (start : Written) (r : Refusal) {rs : List Record} {w : Written} {out' : List ℕ} → told_written start ≡ refuses r
     → Steps pool out start rs w out' → (told_written w ≡ refuses r) × (out' ≡ out)
 stuck pool out start r e no_step = (e, refl)
 stuck pool out start r e (then_step x {w} {w'} {out₁} out₂ v n q) =
@@ -73,7 +73,7 @@ done_more rs x pool out w w' out₁ out₂ d t h n =
           ∙ ap (pasted out 0) (sym l),
     )
 
-gone : {rs : List Record} {w : Written} {out' : List ℕ} (pool out : List ℕ) (start : Written) → told_written start ≡ wrote 0
+gone : (pool out : List ℕ) (start : Written) {rs : List Record} {w : Written} {out' : List ℕ} → told_written start ≡ wrote 0
     → Steps pool out start rs w out' → first_refusal rs (length pool) ≡ none → length (joined_lines rs pool) ≤ length out → Done rs pool out w out'
 unfolding joined_lines
 gone pool out start e no_step f h = (e, sym (pasted_none out 0))

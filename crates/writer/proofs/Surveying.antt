@@ -86,7 +86,7 @@ kept_more rs r pool s t k a =
           ∙ rw (first_refusal_snoc rs r (length pool), n);
     }
 
-kept : {rs : List Record} (pool : List ℕ) {s : Survey} → Surveys pool rs s → Kept rs pool s
+kept : (pool : List ℕ) {rs : List Record} {s : Survey} → Surveys pool rs s → Kept rs pool s
 kept pool {s} (at_first x) = kept_none pool s x
 kept pool (then_add {rs} {whole} {r} {s} {t} v a e) = rw e (kept_more rs r pool s t (kept pool v) a)
 

@@ -1,3 +1,4 @@
+#![tactic(auto)]
 // Intel HEX written: one record to a line, a list to an object's text, and the survey and the step that it is made of.
 ghost use Rattle.std.specs.Prelude.{◌≡◌, ◌+◌, ◌*◌, ◌/◌, ◌%◌, ◌<◌, ◌≤◌, [], ◌∷◌, length};
 ghost use Rattle.digits.specs.Common.{if◌then◌else◌, pasted};
@@ -20,7 +21,7 @@ const MOST: usize = 18446744073709551615;
 const FIRST: usize = 0;
 
 // Why a record or an object is not written.
-#[derive(Drop)]
+#[derive(Clone, Copy)]
 pub enum WriterError {
     // A payload of more than 255 bytes, and its length.
     DataExceedsMaximumLength(usize),
@@ -32,7 +33,7 @@ pub enum WriterError {
 }
 
 // What a writer answers.
-#[derive(Drop)]
+#[derive(Clone, Copy)]
 pub enum Written {
     // The place behind what was written.
     Wrote(usize),
@@ -244,7 +245,7 @@ fn longer(done: Written, line: Written) -> Written
 }
 
 // What an object's answer needs of the records so far.
-#[derive(Drop)]
+#[derive(Clone, Copy)]
 pub struct Survey {
     // How many are ends.
     pub ends: usize,

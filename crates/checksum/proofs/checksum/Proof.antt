@@ -7,30 +7,30 @@ use Rattle.checksum.proofs.Laws.{sum_drop}
 use Rattle.checksum.proofs.checksum.Statement.{statement}
 use Rattle.checksum.proofs.checksum.Tie as tie
 
-abbrev invariant-loop : tie.invariant-loop
+abbrev invariant-loop : tie.invariant-loop-i
 invariant-loop bytes sum₀ i₀ sum i =
     (sum < 256) × ((sum + Checksum.sum (drop i bytes)) % 256 ≡ Checksum.sum bytes % 256)
 
-abbrev decreases-loop : tie.decreases-loop
+abbrev decreases-loop : tie.decreases-loop-i
 decreases-loop bytes sum₀ i₀ sum i = length bytes - i
 
-loop-holds : tie.Need-loop-init invariant-loop decreases-loop
+loop-holds : tie.Need-loop-i-init invariant-loop decreases-loop
 loop-holds c = (omega arith, omega arith)
 
-loop-again : tie.Need-loop-preserved invariant-loop decreases-loop
+loop-again : tie.Need-loop-i-preserved invariant-loop decreases-loop
 loop-again c =
-    let l = c.before.before.before.before.before.args.bytes.now in
-    let s = c.before.before.before.loop in
-    let e = sum_drop l s.i c.before.before.loop-test.true in
-    (search rules, omega (arith, c.wrapping-add-u8.ensures))
+    let l = c.args.bytes.now in
+    let s = c.loop-i in
+    let e = sum_drop l s.i c.loop-i-test.true in
+    (search rules, omega (arith, c.wrapping_add_u8-sum.ensures))
 
 returns : tie.Need-returns invariant-loop decreases-loop
 unfolding negated_sum Checksum.sum
 returns c =
-    let l = c.before.before.before.before.args.bytes.now in
-    let s = c.before.before.loop in
-    let rest : Checksum.sum (drop s.i l) ≡ 0 = rw (drop_of_length-le l c.before.loop-test.false) in
-    record { answer = omega (arith, c.wrapping-sub-u8.ensures) }
+    let l = c.args.bytes.now in
+    let s = c.loop-i in
+    let rest : Checksum.sum (drop s.i l) ≡ 0 = rw (drop_of_length-le l c.loop-i-test.false) in
+    record { answer = omega (arith, c.wrapping_sub_u8.ensures) }
 
 pub checksum_spec : {M : Type 1} → statement M
 checksum_spec =

@@ -7,19 +7,19 @@ use Rattle.chunks.proofs.Carry.{onward, added_CR, added}
 use Rattle.chunks.proofs.add.Statement.{statement}
 use Rattle.chunks.proofs.add.Tie as tie
 
-returns : tie.Need-returns
+returns : tie.Need-returns-then-c-eq-CR
 returns c =
-    let a = c.before.before.before.before.before.before.args in
-    rw (added_CR (held a.carry.now a.used a.skipped a.cr) a.c c.if1.true) (c.before.before.before.with-cr.ensures, refl)
+    let a = c.args in
+    rw (added_CR (held a.carry.now a.used a.skipped a.cr) a.c c.if-c-eq-CR.true) (c.with_cr-n.ensures, refl)
 
-returns-2 : tie.Need-returns-2
+returns-2 : tie.Need-returns
 returns-2 c =
-    let a = c.before.before.before.before.before.before.before.before.before.before.args in
-    let w = c.before.before.before.before.before.before.before.with-cr in
-    let p = c.before.before.push in
-    rw (added (held a.carry.now a.used a.skipped a.cr) a.c c.before.before.before.before.if1.false) (
-      onward a.carry.now a.used (with_CR (held a.carry.now a.used a.skipped a.cr)) w.result.used w.result.skipped w.new.0
-          (push (with_CR (held a.carry.now a.used a.skipped a.cr)) a.c) p.result.used p.result.skipped p.new.0 w.ensures (rw (← w.ensures.holds) p.ensures),
+    let a = c.args in
+    let w = c.with_cr-n in
+    let p = c.push-m in
+    rw (added (held a.carry.now a.used a.skipped a.cr) a.c c.if-c-eq-CR.false) (
+      onward a.carry.now a.used (with_CR (held a.carry.now a.used a.skipped a.cr)) w.result.used w.result.skipped w.new.carry
+          (push (with_CR (held a.carry.now a.used a.skipped a.cr)) a.c) p.result.used p.result.skipped p.new.carry w.ensures (rw (← w.ensures.holds) p.ensures),
       refl,
     )
 

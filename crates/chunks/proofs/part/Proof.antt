@@ -7,19 +7,19 @@ use Rattle.chunks.proofs.Carry.{no_part, whole_part}
 use Rattle.chunks.proofs.part.Statement.{statement}
 use Rattle.chunks.proofs.part.Tie as tie
 
-returns : tie.Need-returns
+returns : tie.Need-returns-then-from-s
 returns c =
-    let a = c.before.before.args in
+    let a = c.args in
     record { begins = rw (lt-leb a.from (length a.s.now) (search rules), zero-add); holds = no_part a.s.now a.from a.len (search rules) }
 
-returns-2 : tie.Need-returns-2
+returns-2 : tie.Need-returns-then-len-s
 returns-2 c =
-    let a = c.before.before.before.args in
+    let a = c.args in
     record { begins = rw (le-leb a.from (length a.s.now) (search rules)); holds = whole_part a.s.now a.from a.len (search rules) (search rules) }
 
-returns-3 : tie.Need-returns-3
+returns-3 : tie.Need-returns
 returns-3 c =
-    let a = c.before.before.before.args in
+    let a = c.args in
     record { begins = rw (le-leb a.from (length a.s.now) (search rules)); holds = part_is a.s.now a.from a.len }
 
 pub part_spec : {M : Type 1} → statement M

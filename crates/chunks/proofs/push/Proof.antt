@@ -5,18 +5,18 @@ use Rattle.chunks.proofs.Carry.{stored, replaced, left_alone}
 use Rattle.chunks.proofs.push.Statement.{statement}
 use Rattle.chunks.proofs.push.Tie as tie
 
-returns : tie.Need-returns
-returns c = let a = c.before.before.args in stored a.carry.now a.used a.skipped a.c (search rules) (search rules)
+returns : tie.Need-returns-then-used-lt-MOST_KEPT
+returns c = let a = c.args in stored a.carry.now a.used a.skipped a.c (search rules) (search rules)
 
-returns-2 : tie.Need-returns-2
+returns-2 : tie.Need-returns-then-is_digit
 returns-2 c =
-    let a = c.before.before.before.before.before.before.args in
-    replaced a.carry.now a.used a.skipped a.c (search rules) (omega arith) (sym c.before.before.is_digit.ensures ∙ c.before.if2.true) c.one_more.result c.one_more.ensures
+    let a = c.args in
+    replaced a.carry.now a.used a.skipped a.c (search rules) (omega arith) (sym c.is_digit.ensures ∙ c.if-is_digit.true) c.one_more.result c.one_more.ensures
 
-returns-3 : tie.Need-returns-3
+returns-3 : tie.Need-returns
 returns-3 c =
-    let a = c.before.before.before.before.before.args in
-    left_alone a.carry.now a.used a.skipped a.c (search rules) (omega arith) (sym c.before.is_digit.ensures ∙ c.if2.false)
+    let a = c.args in
+    left_alone a.carry.now a.used a.skipped a.c (search rules) (omega arith) (sym c.is_digit.ensures ∙ c.if-is_digit.false)
 
 pub push_spec : {M : Type 1} → statement M
 push_spec =

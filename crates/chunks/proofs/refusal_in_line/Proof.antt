@@ -28,13 +28,13 @@ stays skipped (UnsupportedRecordType kind) h = refl
 stays skipped InvalidLengthForType h = refl
 stays skipped PoolFull h = refl
 
-returns : tie.Need-returns
+returns : tie.Need-returns-in-ContainsInvalidCharacters
 returns c =
-    let a = c.before.before.before.before.args in
-    ap contains_invalid_characters c.place_in_line.ensures ∙ sym (ap (λ (e : ReaderError). refusal_in_line a.skipped (refusal_of e)) c.before.before.e.given.1)
+    let a = c.args in
+    ap contains_invalid_characters c.place_in_line.ensures ∙ sym (ap (λ (e : ReaderError). refusal_in_line a.skipped (refusal_of e)) c.in-ContainsInvalidCharacters.is)
 
-returns-2 : tie.Need-returns-2
-returns-2 c = stays c.before.args.skipped c.before.args.e c.match.keys2
+returns-2 : tie.Need-returns
+returns-2 c = stays c.args.skipped c.args.e c.in_default.keys2
 
 pub refusal_in_line_spec : {M : Type 1} → statement M
 refusal_in_line_spec = tie.close (tie.spec (λ c. search rules) (λ c κs. search rules) returns returns-2)

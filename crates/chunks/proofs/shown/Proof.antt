@@ -4,14 +4,14 @@ use Rattle.std.proofs.Common.{rules}
 use Rattle.chunks.proofs.shown.Statement.{statement}
 use Rattle.chunks.proofs.shown.Tie as tie
 
-returns : tie.Need-returns
-returns c = rw c.before.before.lies.given.1 c.part.ensures
+returns : tie.Need-returns-in-InChunk
+returns c = rw c.in-InChunk.is c.part.ensures
 
-returns-2 : tie.Need-returns-2
-returns-2 c = rw c.before.before.lies2.given.1 c.part2.ensures
+returns-2 : tie.Need-returns-in-InCarry
+returns-2 c = rw c.in-InCarry.is c.part-in-InCarry.ensures
 
-returns-3 : tie.Need-returns-3
-returns-3 c = rw c.before.enum_told.given.1 c.part3.ensures
+returns-3 : tie.Need-returns-in-Nowhere
+returns-3 c = rw c.in-Nowhere.is c.part-in-Nowhere.ensures
 
 pub shown_spec : {M : Type 1} → statement M
 shown_spec =

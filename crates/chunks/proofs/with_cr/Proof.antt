@@ -6,12 +6,12 @@ use Rattle.chunks.proofs.Carry.{no_CR}
 use Rattle.chunks.proofs.with_cr.Statement.{statement}
 use Rattle.chunks.proofs.with_cr.Tie as tie
 
-returns : tie.Need-returns
+returns : tie.Need-returns-then-cr
 unfolding with_CR
-returns c = rw c.before.before.before.before.if1.true c.before.before.push.ensures
+returns c = rw c.if-cr.true c.push.ensures
 
-returns-2 : tie.Need-returns-2
-returns-2 c = rw c.if1.false (no_CR c.before.before.args.carry.now c.before.before.args.used c.before.before.args.skipped (search rules))
+returns-2 : tie.Need-returns
+returns-2 c = rw c.if-cr.false (no_CR c.args.carry.now c.args.used c.args.skipped (search rules))
 
 pub with_cr_spec : {M : Type 1} → statement M
 with_cr_spec = tie.close (tie.spec (λ c κs. search rules) (λ c. search rules) returns returns-2)

@@ -9,11 +9,11 @@ use Rattle.codes.proofs.chunks_from.Tie as tie
 
 returns : tie.Need-returns
 returns c =
-    let a = c.before.before.args in
+    let a = c.args in
     record {
       answer =
           ap (λ (s : State). record { position = a.position; line = a.line; empties = a.empties; used = a.used; skipped = a.skipped; cr = bit a.flags 8; finished = s.finished; options = s.options })
-          c.before.state-from.ensures.answer;
+          c.state_from-state.ensures.answer;
     }
 
 pub chunks_from_spec : {M : Type 1} → statement M

@@ -5,11 +5,11 @@ use borrow.Author.Rules.{rules}
 use Rattle.codes.proofs.code_asked.Statement.{statement}
 use Rattle.codes.proofs.code_asked.Tie as tie
 
-returns : tie.Need-returns
-returns c = rw (c.before.before.answer.given.1, c.four.ensures) (record { code_is = refl; a_is = refl; b_is = refl; c_is = refl })
+returns : tie.Need-returns-in-States
+returns c = rw (c.in-States.is, c.four.ensures) (record { code_is = refl; a_is = refl; b_is = refl; c_is = refl })
 
-returns-3 : tie.Need-returns-3
-returns-3 c = rw c.before.before.answer2.given.1 c.code-loader-error.ensures
+returns-3 : tie.Need-returns-in-Refused
+returns-3 c = rw c.in-Refused.is c.code_loader_error.ensures
 
 pub code_asked_spec : {M : Type 1} → statement M
 code_asked_spec =

@@ -5,8 +5,8 @@ use borrow.Author.Rules.{rules}
 use Rattle.codes.proofs.code_loader_error.Statement.{statement}
 use Rattle.codes.proofs.code_loader_error.Tie as tie
 
-returns-5 : tie.Need-returns-5
-returns-5 c = rw (c.before.before.e3.given.1, c.refused4.ensures) (record { code_is = refl; a_is = refl; b_is = refl; c_is = refl })
+returns-5 : tie.Need-returns-in-CountMismatch
+returns-5 c = rw (c.in-CountMismatch.is, c.refused-in-CountMismatch.ensures) (record { code_is = refl; a_is = refl; b_is = refl; c_is = refl })
 
 pub code_loader_error_spec : {M : Type 1} → statement M
 code_loader_error_spec =

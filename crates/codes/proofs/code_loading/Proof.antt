@@ -4,11 +4,11 @@ use borrow.Author.Rules.{rules}
 use Rattle.codes.proofs.code_loading.Statement.{statement}
 use Rattle.codes.proofs.code_loading.Tie as tie
 
-returns : tie.Need-returns
-returns c = rw c.before.before.answer.given.1 c.code-tally.ensures
+returns : tie.Need-returns-in-Accepted
+returns c = rw c.in-Accepted.is c.code_tally.ensures
 
-returns-2 : tie.Need-returns-2
-returns-2 c = rw c.before.before.answer2.given.1 c.code-loader-error.ensures
+returns-2 : tie.Need-returns-in-Refused
+returns-2 c = rw c.in-Refused.is c.code_loader_error.ensures
 
 pub code_loading_spec : {M : Type 1} → statement M
 code_loading_spec =

@@ -5,8 +5,8 @@ use borrow.Author.Rules.{rules}
 use Rattle.codes.proofs.code_page_error.Statement.{statement}
 use Rattle.codes.proofs.code_page_error.Tie as tie
 
-returns-2 : tie.Need-returns-2
-returns-2 c = rw (c.before.before.e.given.1, c.refused2.ensures) (record { code_is = refl; a_is = refl; b_is = refl; c_is = refl })
+returns-2 : tie.Need-returns-in-BadMark
+returns-2 c = rw (c.in-BadMark.is, c.refused-in-BadMark.ensures) (record { code_is = refl; a_is = refl; b_is = refl; c_is = refl })
 
 pub code_page_error_spec : {M : Type 1} → statement M
 code_page_error_spec = tie.close (tie.spec (λ c. search rules) (λ c κs. search rules) (λ c. search rules) (λ c κs. search rules) (λ c. search rules) (λ c κs. search rules) (λ c. search rules) returns-2 (λ c. search rules))

@@ -5,11 +5,11 @@ use borrow.Author.Rules.{rules}
 use Rattle.codes.proofs.code_record.Statement.{statement}
 use Rattle.codes.proofs.code_record.Tie as tie
 
-returns : tie.Need-returns
-returns c = rw (c.before.before.given.given.1, c.four.ensures) (record { code_is = refl; a_is = refl; b_is = refl; c_is = refl })
+returns : tie.Need-returns-in-Data
+returns c = rw (c.in-Data.is, c.four.ensures) (record { code_is = refl; a_is = refl; b_is = refl; c_is = refl })
 
-returns-4 : tie.Need-returns-4
-returns-4 c = rw (c.before.before.given3.given.1, c.four4.ensures) (record { code_is = refl; a_is = refl; b_is = refl; c_is = refl })
+returns-4 : tie.Need-returns-in-StartSegmentAddress
+returns-4 c = rw (c.in-StartSegmentAddress.is, c.four-in-StartSegmentAddress.ensures) (record { code_is = refl; a_is = refl; b_is = refl; c_is = refl })
 
 pub code_record_spec : {M : Type 1} → statement M
 code_record_spec =

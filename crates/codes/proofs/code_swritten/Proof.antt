@@ -5,8 +5,8 @@ use borrow.Author.Rules.{rules}
 use Rattle.codes.proofs.code_swritten.Statement.{statement}
 use Rattle.codes.proofs.code_swritten.Tie as tie
 
-returns : tie.Need-returns
-returns c = rw (c.before.before.answer.given.1, c.four.ensures) (record { code_is = refl; a_is = refl; b_is = refl; c_is = refl })
+returns : tie.Need-returns-in-Wrote
+returns c = rw (c.in-Wrote.is, c.four.ensures) (record { code_is = refl; a_is = refl; b_is = refl; c_is = refl })
 
 pub code_swritten_spec : {M : Type 1} → statement M
 code_swritten_spec =

@@ -5,8 +5,8 @@ use borrow.Author.Rules.{rules}
 use Rattle.codes.proofs.code_written.Statement.{statement}
 use Rattle.codes.proofs.code_written.Tie as tie
 
-returns : tie.Need-returns
-returns c = rw (c.before.before.answer.given.1, c.four.ensures) (record { code_is = refl; a_is = refl; b_is = refl; c_is = refl })
+returns : tie.Need-returns-in-Wrote
+returns c = rw (c.in-Wrote.is, c.four.ensures) (record { code_is = refl; a_is = refl; b_is = refl; c_is = refl })
 
 pub code_written_spec : {M : Type 1} → statement M
 code_written_spec =

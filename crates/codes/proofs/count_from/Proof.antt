@@ -5,11 +5,11 @@ use borrow.Author.Tests.{le-leb, lt-leb}
 use Rattle.codes.proofs.count_from.Statement.{statement}
 use Rattle.codes.proofs.count_from.Tie as tie
 
-returns : tie.Need-returns
-returns c = rw (le-leb _ _ c.if1.true)
+returns : tie.Need-returns-then-known-ge-COUNT_UNKNOWN
+returns c = rw (le-leb _ _ c.if-known-ge-COUNT_UNKNOWN.true)
 
-returns-2 : tie.Need-returns-2
-returns-2 c = rw (lt-leb _ _ c.if1.false)
+returns-2 : tie.Need-returns
+returns-2 c = rw (lt-leb _ _ c.if-known-ge-COUNT_UNKNOWN.false)
 
 pub count_from_spec : {M : Type 1} → statement M
 count_from_spec = tie.close (tie.spec returns (λ c. search rules) returns-2)

@@ -5,18 +5,18 @@ use Rattle.codes.proofs.Listeners.{front_returns, ready_returns, stood}
 use Rattle.codes.proofs.stand_of.Statement.{statement}
 use Rattle.codes.proofs.stand_of.Tie as tie
 
-returns : tie.Need-returns
+returns : tie.Need-returns-in-Front
 returns c =
-    rw c.before.before.before.before.l.given.1
-    (stood (rw (c.bare.ensures, c.before.flag.ensures.is, c.before.before.kind_flag.ensures.is)) (front_returns _ _))
+    rw c.in-Front.is
+    (stood (rw (c.bare.ensures, c.flag.ensures.is, c.kind_flag.ensures.is)) (front_returns _ _))
 
-returns-2 : tie.Need-returns-2
-returns-2 c = rw c.before.before.l2.given.1 c.within.ensures
+returns-2 : tie.Need-returns-in-Within
+returns-2 c = rw c.in-Within.is c.within.ensures
 
-returns-3 : tie.Need-returns-3
+returns-3 : tie.Need-returns-in-Ready
 returns-3 c =
-    rw c.before.before.before.l3.given.1
-    (stood (rw (c.bare2.ensures, c.before.kind-flag2.ensures.is)) (ready_returns _))
+    rw c.in-Ready.is
+    (stood (rw (c.bare-in-Ready.ensures, c.kind_flag-in-Ready.ensures.is)) (ready_returns _))
 
 pub stand_of_spec : {M : Type 1} → statement M
 stand_of_spec =

@@ -5,14 +5,14 @@ use borrow.Author.Tests.{eq-eqb, ne_eqb}
 use Rattle.codes.proofs.start_from.Statement.{statement}
 use Rattle.codes.proofs.start_from.Tie as tie
 
-returns : tie.Need-returns
-returns c = rw (eq-eqb _ _ c.if1.true)
+returns : tie.Need-returns-then-flags-eq1
+returns c = rw (eq-eqb _ _ c.if-flags-eq1.true)
 
-returns-2 : tie.Need-returns-2
-returns-2 c = rw (ne_eqb _ _ c.before.if1.false, eq-eqb _ _ c.if2.true)
+returns-2 : tie.Need-returns-then-flags-eq1-2
+returns-2 c = rw (ne_eqb _ _ c.if-flags-eq1.false, eq-eqb _ _ c.if-flags-eq1-2.true)
 
-returns-3 : tie.Need-returns-3
-returns-3 c = rw (ne_eqb _ _ c.before.if1.false, ne_eqb _ _ c.if2.false)
+returns-3 : tie.Need-returns
+returns-3 c = rw (ne_eqb _ _ c.if-flags-eq1.false, ne_eqb _ _ c.if-flags-eq1-2.false)
 
 pub start_from_spec : {M : Type 1} → statement M
 start_from_spec = tie.close (tie.spec returns (λ c. search rules) (λ c. search rules) returns-2 returns-3)

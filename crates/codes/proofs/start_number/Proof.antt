@@ -5,14 +5,14 @@ use Rattle.codes.proofs.Listeners.{unstated, segment, linear}
 use Rattle.codes.proofs.start_number.Statement.{statement}
 use Rattle.codes.proofs.start_number.Tie as tie
 
-returns : tie.Need-returns
-returns c = rw c.enum_told.given.1 unstated
+returns : tie.Need-returns-in-Unstated
+returns c = rw c.in-Unstated.is unstated
 
-returns-2 : tie.Need-returns-2
-returns-2 c = rw c.before.start.given.1 (segment _ _ (search rules))
+returns-2 : tie.Need-returns-in-Segment
+returns-2 c = rw c.in-Segment.is (segment _ _ (search rules))
 
-returns-3 : tie.Need-returns-3
-returns-3 c = rw c.before.start2.given.1 (linear _)
+returns-3 : tie.Need-returns-in-Linear
+returns-3 c = rw c.in-Linear.is (linear _)
 
 pub start_number_spec : {M : Type 1} → statement M
 start_number_spec =

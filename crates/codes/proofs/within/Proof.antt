@@ -8,12 +8,12 @@ use Rattle.codes.proofs.within.Tie as tie
 returns : tie.Need-returns
 returns c =
     let begin = c.start_number.ensures in
-    let base = c.before.base_number.ensures in
-    let start = c.before.before.start_flag.ensures.is in
-    let linear = c.before.before.before.base_flag.ensures.is in
-    let cr = c.before.before.before.before.flag2.ensures.is in
-    let kind = c.before.before.before.before.before.kind_flag.ensures.is in
-    let tail = c.before.before.before.before.before.before.flag.ensures.is in
+    let base = c.base_number.ensures in
+    let start = c.start_flag.ensures.is in
+    let linear = c.base_flag.ensures.is in
+    let cr = c.flag-2.ensures.is in
+    let kind = c.kind_flag.ensures.is in
+    let tail = c.flag.ensures.is in
     stood (rw (tail, kind, cr, linear, start, base, begin.is)) (within_returns _ (rw begin.is at begin))
 
 pub within_spec : {M : Type 1} → statement M

@@ -6,22 +6,22 @@ use Rattle.commit.proofs.Copying.{other_stage, other_row, other_marks, all_copie
 use Rattle.commit.proofs.commit.Statement.{statement}
 use Rattle.commit.proofs.commit.Tie as tie
 
-returns : tie.Need-returns
-returns c = let s = c.before.before.before.before.before.args in other_stage s.stage.now s.stated.now s.page.now s.marks.now c.if1.true
+returns : tie.Need-returns-then-stage-page
+returns c = let s = c.args in other_stage s.stage.now s.stated.now s.page.now s.marks.now c.if-stage-page.true
 
-returns-2 : tie.Need-returns-2
-returns-2 c = let s = c.before.before.before.before.before.before.args in other_row s.stage.now s.stated.now s.page.now s.marks.now c.before.if1.false c.if2.true
+returns-2 : tie.Need-returns-then-stated-marks
+returns-2 c = let s = c.args in other_row s.stage.now s.stated.now s.page.now s.marks.now c.if-stage-page.false c.if-stated-marks.true
 
-returns-3 : tie.Need-returns-3
+returns-3 : tie.Need-returns-then-marks-row_length
 returns-3 c =
-    let s = c.before.before.before.before.before.before.before.before.args in
-    other_marks s.stage.now s.stated.now s.page.now s.marks.now c.before.before.before.if1.false c.before.before.if2.false (λ e. c.if3.true (e ∙ sym c.before.row_length.ensures.answer))
+    let s = c.args in
+    other_marks s.stage.now s.stated.now s.page.now s.marks.now c.if-stage-page.false c.if-stated-marks.false (λ e. c.if-marks-row_length.true (e ∙ sym c.row_length.ensures.answer))
 
-returns-4 : tie.Need-returns-4
+returns-4 : tie.Need-returns
 returns-4 c =
-    let s = c.before.before.before.before.before.before.before.before.before.before.before.before.before.before.before.before.args in
-    all_copied s.stage.now s.stated.now s.page.now s.marks.now c.before.before.before.before.before.before.before.before.before.before.before.if1.false c.before.before.before.before.before.before.before.before.before.before.if2.false (c.before.before.before.before.before.before.before.before.if3.false ∙ c.before.before.before.before.before.before.before.before.before.row_length.ensures.answer) _ _
-    c.before.before.before.before.before.before.copy-marked.ensures c.before.before.copy.ensures.1
+    let s = c.args in
+    all_copied s.stage.now s.stated.now s.page.now s.marks.now c.if-stage-page.false c.if-stated-marks.false (c.if-marks-row_length.false ∙ c.row_length.ensures.answer) _ _
+    c.copy_marked.ensures c.copy.ensures.1
 
 pub commit_spec : {M : Type 1} → statement M
 commit_spec =

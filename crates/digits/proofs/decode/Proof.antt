@@ -14,22 +14,21 @@ decodable n ds buf e =
     let l = taken n ds (length buf) e in
     record { even = omega arith; room = omega arith }
 
-slice-aggregate-decode-pairs : tie.Need-slice-aggregate-decode-pairs
+slice-aggregate-decode-pairs : tie.Need-slice_bounds-decode_pairs-end
 slice-aggregate-decode-pairs c =
-    let a = c.before.before.before.before.args in
-    taken c.before.least.result a.ds.now (length a.buf.now) c.before.least.ensures
+    let a = c.args in
+    taken c.least-n.result a.ds.now (length a.buf.now) c.least-n.ensures
 
-decode-pairs-requires : tie.Need-decode-pairs-requires
+decode-pairs-requires : tie.Need-decode_pairs-requires
 decode-pairs-requires c κs =
-    let a = c.before.before.before.before.before.args in
-    decodable c.before.before.least.result a.ds.now a.buf.now c.before.before.least.ensures
+    let a = c.args in
+    decodable c.least-n.result a.ds.now a.buf.now c.least-n.ensures
 
 returns : tie.Need-returns
 returns c =
-    let s = c.before.before.before.before.before.before.before.before in
-    let l = c.before.before.before.before.before.least in
-    let d = c.before.before.decode-pairs in
-    let e : Decoded (take (2 * l.result) s.args.ds.now) s.args.buf.now d.result.whole d.result.sum d.new.1.0 = d.ensures in
+    let l = c.least-n in
+    let d = c.decode_pairs in
+    let e : Decoded (take (2 * l.result) c.args.ds.now) c.args.buf.now d.result.whole d.result.sum d.new.buf = d.ensures in
     rw l.ensures at e
 
 pub decode_spec : {M : Type 1} → statement M

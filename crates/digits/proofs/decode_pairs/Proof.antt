@@ -5,49 +5,45 @@ use Rattle.digits.proofs.Decoding.{Turn, turn_first, turn_high, turn_low, turn_m
 use Rattle.digits.proofs.decode_pairs.Statement.{statement}
 use Rattle.digits.proofs.decode_pairs.Tie as tie
 
-abbrev invariant-loop : tie.invariant-loop
+abbrev invariant-loop : tie.invariant-loop-i
 invariant-loop ds buf₀ n sum₀ i₀ buf sum i = Turn ds buf₀ buf sum i
 
-abbrev decreases-loop : tie.decreases-loop
+abbrev decreases-loop : tie.decreases-loop-i
 decreases-loop ds buf₀ n sum₀ i₀ buf sum i = length ds / 2 - i
 
-loop-holds : tie.Need-loop-init invariant-loop decreases-loop
+loop-holds : tie.Need-loop-i-init invariant-loop decreases-loop
 loop-holds c =
-    let a = c.before.before.args in
-    turn_first a.ds.now a.buf.now c.before.before.requires
+    let a = c.args in
+    turn_first a.ds.now a.buf.now c.requires
 
-returns : tie.Need-returns invariant-loop decreases-loop
+returns : tie.Need-returns-then-high-ge16 invariant-loop decreases-loop
 returns c =
-    let t = c.before.before.before.before.loop in
-    let e = c.before.before.before.before.before.before.before in
-    turn_high e.args.ds.now e.args.buf.now e.requires
-    t.buf t.sum t.i c.before.digit_value.result
-    t.invariant c.before.before.before.loop-test.true c.before.digit_value.ensures.answer c.if1.true
+    let t = c.loop-i in
+    turn_high c.args.ds.now c.args.buf.now c.requires
+    t.buf t.sum t.i c.digit_value-high.result
+    t.invariant c.loop-i-test.true c.digit_value-high.ensures.answer c.if-high-ge16.true
 
-returns-2 : tie.Need-returns-2 invariant-loop decreases-loop
+returns-2 : tie.Need-returns-then-low-ge16 invariant-loop decreases-loop
 returns-2 c =
-    let t = c.before.before.before.before.before.before.before.loop in
-    let e = c.before.before.before.before.before.before.before.before.before.before in
-    turn_low e.args.ds.now e.args.buf.now e.requires
-    t.buf t.sum t.i c.before.before.before.before.digit_value.result
-    t.invariant c.before.before.before.before.before.before.loop-test.true c.before.before.before.before.digit_value.ensures.answer c.before.before.before.if1.false
-    c.before.digit-value2.result c.before.digit-value2.ensures.answer c.if2.true
+    let t = c.loop-i in
+    turn_low c.args.ds.now c.args.buf.now c.requires
+    t.buf t.sum t.i c.digit_value-high.result
+    t.invariant c.loop-i-test.true c.digit_value-high.ensures.answer c.if-high-ge16.false
+    c.digit_value-low.result c.digit_value-low.ensures.answer c.if-low-ge16.true
 
-loop-again : tie.Need-loop-preserved invariant-loop decreases-loop
+loop-again : tie.Need-loop-i-preserved invariant-loop decreases-loop
 loop-again c =
-    let t = c.before.before.before.before.before.before.before.before.before.loop in
-    let e = c.before.before.before.before.before.before.before.before.before.before.before.before in
-    turn_more e.args.ds.now e.args.buf.now e.requires
-    t.buf t.sum t.i c.before.before.before.before.before.before.digit_value.result
-    t.invariant c.before.before.before.before.before.before.before.before.loop-test.true c.before.before.before.before.before.before.digit_value.ensures.answer c.before.before.before.before.before.if1.false
-    c.before.before.before.digit-value2.result c.before.before.before.digit-value2.ensures.answer c.before.before.if2.false
-    c.before.pair.result c.wrapping-add-u8.result c.before.pair.ensures c.wrapping-add-u8.ensures
+    let t = c.loop-i in
+    turn_more c.args.ds.now c.args.buf.now c.requires
+    t.buf t.sum t.i c.digit_value-high.result
+    t.invariant c.loop-i-test.true c.digit_value-high.ensures.answer c.if-high-ge16.false
+    c.digit_value-low.result c.digit_value-low.ensures.answer c.if-low-ge16.false
+    c.pair-byte.result c.wrapping_add_u8-sum.result c.pair-byte.ensures c.wrapping_add_u8-sum.ensures
 
-returns-3 : tie.Need-returns-3 invariant-loop decreases-loop
+returns-3 : tie.Need-returns invariant-loop decreases-loop
 returns-3 c =
-    let t = c.before.loop in
-    let e = c.before.before.before.before in
-    turn_last e.args.ds.now e.args.buf.now e.requires t.buf t.sum t.i t.invariant c.loop-test.false
+    let t = c.loop-i in
+    turn_last c.args.ds.now c.args.buf.now c.requires t.buf t.sum t.i t.invariant c.loop-i-test.false
 
 pub decode_pairs_spec : {M : Type 1} → statement M
 decode_pairs_spec =

@@ -6,46 +6,46 @@ use Rattle.digits.proofs.Hex.{hex_digit, hex_or_none}
 use Rattle.digits.proofs.digit_value.Statement.{statement}
 use Rattle.digits.proofs.digit_value.Tie as tie
 
-returns : tie.Need-returns
+returns : tie.Need-returns-then-decimal-lt10
 returns c =
-    let x : ℕ = c.before.before.args.c in
-    let d : ℕ = c.before.wrapping-sub-u8.result in
-    let e : (d + _) % 256 ≡ x = c.before.wrapping-sub-u8.ensures in
-    let h : d < _ = c.if1.true in
+    let x : ℕ = c.args.c in
+    let d : ℕ = c.wrapping_sub_u8-decimal.result in
+    let e : (d + _) % 256 ≡ x = c.wrapping_sub_u8-decimal.ensures in
+    let h : d < _ = c.if-decimal-lt10.true in
     record { answer = sym (hex_digit (decimal (omega arith) (omega arith))) }
 
-returns-2 : tie.Need-returns-2
+returns-2 : tie.Need-returns-then-capital-ge250
 returns-2 c =
-    let x : ℕ = c.before.before.before.before.args.c in
-    let d : ℕ = c.before.wrapping-sub-u82.result in
-    let e : (d + _) % 256 ≡ x = c.before.wrapping-sub-u82.ensures in
+    let x : ℕ = c.args.c in
+    let d : ℕ = c.wrapping_sub_u8-capital.result in
+    let e : (d + _) % 256 ≡ x = c.wrapping_sub_u8-capital.ensures in
     let s : d < 256 = search rules in
-    let h : _ ≤ d = c.if2.true in
+    let h : _ ≤ d = c.if-capital-ge250.true in
     record { answer = sym (hex_digit (capital (omega arith) (omega arith) (omega arith))) }
 
-returns-3 : tie.Need-returns-3
+returns-3 : tie.Need-returns-then-small-ge250
 returns-3 c =
-    let x : ℕ = c.before.before.before.before.before.before.args.c in
-    let d : ℕ = c.before.wrapping-sub-u83.result in
-    let e : (d + _) % 256 ≡ x = c.before.wrapping-sub-u83.ensures in
+    let x : ℕ = c.args.c in
+    let d : ℕ = c.wrapping_sub_u8-small.result in
+    let e : (d + _) % 256 ≡ x = c.wrapping_sub_u8-small.ensures in
     let s : d < 256 = search rules in
-    let h : _ ≤ d = c.if3.true in
+    let h : _ ≤ d = c.if-small-ge250.true in
     record { answer = sym (hex_digit (small (omega arith) (omega arith) (omega arith))) }
 
-returns-4 : tie.Need-returns-4
+returns-4 : tie.Need-returns
 returns-4 c =
-    let x : ℕ = c.before.before.before.before.before.before.args.c in
+    let x : ℕ = c.args.c in
     let b : x < 256 = search rules in
-    let d : ℕ = c.before.before.before.before.before.wrapping-sub-u8.result in
+    let d : ℕ = c.wrapping_sub_u8-decimal.result in
     let s : d < 256 = search rules in
-    let d-is : (d + _) % 256 ≡ x = c.before.before.before.before.before.wrapping-sub-u8.ensures in
-    let d-out : _ ≤ d = c.before.before.before.before.if1.false in
-    let u : ℕ = c.before.before.before.wrapping-sub-u82.result in
-    let u-is : (u + _) % 256 ≡ x = c.before.before.before.wrapping-sub-u82.ensures in
-    let u-out : u < _ = c.before.before.if2.false in
-    let l : ℕ = c.before.wrapping-sub-u83.result in
-    let l-is : (l + _) % 256 ≡ x = c.before.wrapping-sub-u83.ensures in
-    let l-out : l < _ = c.if3.false in
+    let d-is : (d + _) % 256 ≡ x = c.wrapping_sub_u8-decimal.ensures in
+    let d-out : _ ≤ d = c.if-decimal-lt10.false in
+    let u : ℕ = c.wrapping_sub_u8-capital.result in
+    let u-is : (u + _) % 256 ≡ x = c.wrapping_sub_u8-capital.ensures in
+    let u-out : u < _ = c.if-capital-ge250.false in
+    let l : ℕ = c.wrapping_sub_u8-small.result in
+    let l-is : (l + _) % 256 ≡ x = c.wrapping_sub_u8-small.ensures in
+    let l-out : l < _ = c.if-small-ge250.false in
     record {
       answer =
           elim (hex_or_none x) [

@@ -5,35 +5,35 @@ use Rattle.digits.proofs.Spelling.{Turn, turn_first, turn_more, turn_last}
 use Rattle.digits.proofs.spell_all.Statement.{statement}
 use Rattle.digits.proofs.spell_all.Tie as tie
 
-abbrev invariant-loop : tie.invariant-loop
+abbrev invariant-loop : tie.invariant-loop-i
 invariant-loop bytes sum out₀ total₀ i₀ out total i = Turn bytes sum out₀ out total i
 
-abbrev decreases-loop : tie.decreases-loop
+abbrev decreases-loop : tie.decreases-loop-i
 decreases-loop bytes sum out₀ total₀ i₀ out total i = length bytes - i
 
-loop-holds : tie.Need-loop-init invariant-loop decreases-loop
+loop-holds : tie.Need-loop-i-init invariant-loop decreases-loop
 loop-holds c =
-    let a = c.before.before.args in
+    let a = c.args in
     turn_first a.bytes.now a.sum a.out.now (omega arith) (omega arith)
 
-loop-again : tie.Need-loop-preserved invariant-loop decreases-loop
+loop-again : tie.Need-loop-i-preserved invariant-loop decreases-loop
 loop-again c =
-    let a = c.before.before.before.before.before.before.before.before.before.before.args in
-    let t = c.before.before.before.before.before.before.before.loop in
-    let p = c.before.before.before.put in
+    let a = c.args in
+    let t = c.loop-i in
+    let p = c.put in
     turn_more a.bytes.now a.sum a.out.now (omega arith)
-    t.out t.total t.i c.wrapping-add-u8.result p.new.1.0
-    t.invariant c.before.before.before.before.before.before.loop-test.true p.ensures.left p.auto.1.0 c.wrapping-add-u8.ensures
+    t.out t.total t.i c.wrapping_add_u8-total.result p.new.out
+    t.invariant c.loop-i-test.true p.ensures.left p.auto.out c.wrapping_add_u8-total.ensures
 
-same_length : tie.Need-same-length invariant-loop decreases-loop
-same_length c = c.before.loop.invariant.same
+same_length : tie.Need-shape_of-out invariant-loop decreases-loop
+same_length c = c.loop-i.invariant.same
 
 returns : tie.Need-returns invariant-loop decreases-loop
 returns c =
-    let a = c.before.before.before.before.args in
-    let t = c.before.loop in
+    let a = c.args in
+    let t = c.loop-i in
     turn_last a.bytes.now a.sum a.out.now (omega arith)
-    t.out t.total t.i t.invariant c.loop-test.false
+    t.out t.total t.i t.invariant c.loop-i-test.false
 
 pub spell_all_spec : {M : Type 1} → statement M
 spell_all_spec =

@@ -8,7 +8,7 @@ use Rattle.entries.proofs.entry_at.Tie as tie
 
 returns : tie.Need-returns
 unfolding record_at
-returns c = c.record-from.ensures ∙ rw (c.before.before.before.before.before.two_at.ensures, c.before.before.before.before.four_at.ensures, c.before.before.before.eight_at.ensures, c.before.before.eight-at2.ensures)
+returns c = c.record_from.ensures ∙ rw (c.two_at-second.ensures, c.four_at-number.ensures, c.eight_at-at.ensures, c.eight_at-len.ensures)
 
 pub entry_at_spec : {M : Type 1} → statement M
 entry_at_spec =

@@ -21,39 +21,39 @@ none_anyway false false true d = refl
 none_anyway false false false true = refl
 none_anyway false false false false = refl
 
-returns : tie.Need-returns
+returns : tie.Need-returns-then-kind-eq-END_OF_FILE
 unfolding record_of
-returns c = rw c.if1.true
+returns c = rw c.if-kind-eq-END_OF_FILE.true
 
-returns-2 : tie.Need-returns-2
+returns-2 : tie.Need-returns-then-kind-eq-START_LINEAR_ADDRESS
 unfolding record_of
-returns-2 c = rw c.if2.true
+returns-2 c = rw c.if-kind-eq-START_LINEAR_ADDRESS.true
 
-returns-3 : tie.Need-returns-3
+returns-3 : tie.Need-returns-then-number-gt65535
 unfolding record_of
 returns-3 c =
-    let k = c.before.before.before.args.kind in
-    simp (ne_eqb _ _ c.before.before.if1.false, ne_eqb _ _ c.before.if2.false, lt-leb _ _ c.if3.true) (none_anyway (eqb k 0) (eqb k 2) (eqb k 3) (eqb k 4))
+    let k = c.args.kind in
+    simp (ne_eqb _ _ c.if-kind-eq-END_OF_FILE.false, ne_eqb _ _ c.if-kind-eq-START_LINEAR_ADDRESS.false, lt-leb _ _ c.if-number-gt65535.true) (none_anyway (eqb k 0) (eqb k 2) (eqb k 3) (eqb k 4))
 
-returns-4 : tie.Need-returns-4
+returns-4 : tie.Need-returns-then-kind-eq-DATA
 unfolding record_of
-returns-4 c = rw (c.if4.true, le-leb _ _ c.before.if3.false)
+returns-4 c = rw (c.if-kind-eq-DATA.true, le-leb _ _ c.if-number-gt65535.false)
 
-returns-5 : tie.Need-returns-5
+returns-5 : tie.Need-returns-then-kind-eq-EXTENDED_SEGMENT_ADDRESS
 unfolding record_of
-returns-5 c = rw (c.if5.true, le-leb _ _ c.before.before.if3.false)
+returns-5 c = rw (c.if-kind-eq-EXTENDED_SEGMENT_ADDRESS.true, le-leb _ _ c.if-number-gt65535.false)
 
-returns-6 : tie.Need-returns-6
+returns-6 : tie.Need-returns-then-kind-eq-START_SEGMENT_ADDRESS
 unfolding record_of
-returns-6 c = rw (c.if6.true, le-leb _ _ c.before.before.before.if3.false) refl
+returns-6 c = rw (c.if-kind-eq-START_SEGMENT_ADDRESS.true, le-leb _ _ c.if-number-gt65535.false) refl
 
-returns-7 : tie.Need-returns-7
+returns-7 : tie.Need-returns-then-kind-eq-EXTENDED_LINEAR_ADDRESS
 unfolding record_of
-returns-7 c = rw (c.if7.true, le-leb _ _ c.before.before.before.before.if3.false)
+returns-7 c = rw (c.if-kind-eq-EXTENDED_LINEAR_ADDRESS.true, le-leb _ _ c.if-number-gt65535.false)
 
-returns-8 : tie.Need-returns-8
+returns-8 : tie.Need-returns
 unfolding record_of
-returns-8 c = simp (ne_eqb _ _ c.before.before.before.before.before.before.if1.false, ne_eqb _ _ c.before.before.before.before.before.if2.false, ne_eqb _ _ c.before.before.before.if4.false, ne_eqb _ _ c.before.before.if5.false, ne_eqb _ _ c.before.if6.false, ne_eqb _ _ c.if7.false)
+returns-8 c = simp (ne_eqb _ _ c.if-kind-eq-END_OF_FILE.false, ne_eqb _ _ c.if-kind-eq-START_LINEAR_ADDRESS.false, ne_eqb _ _ c.if-kind-eq-DATA.false, ne_eqb _ _ c.if-kind-eq-EXTENDED_SEGMENT_ADDRESS.false, ne_eqb _ _ c.if-kind-eq-START_SEGMENT_ADDRESS.false, ne_eqb _ _ c.if-kind-eq-EXTENDED_LINEAR_ADDRESS.false)
 
 pub record_from_spec : {M : Type 1} → statement M
 record_from_spec =

@@ -7,11 +7,11 @@ use borrow.Author.Rules.{rules}
 use Rattle.entries.proofs.record_in.Statement.{statement}
 use Rattle.entries.proofs.record_in.Tie as tie
 
-returns : tie.Need-returns
-returns c = sym c.before.before.before.entry_at.ensures ∙ ap entry_of c.before.entry.given.1
+returns : tie.Need-returns-in-Is
+returns c = sym c.entry_at-entry.ensures ∙ ap entry_of c.in-Is.is
 
-returns-2 : tie.Need-returns-2
-returns-2 c = some_none c.before.before.before.before.requires.read (sym c.before.before.entry_at.ensures ∙ ap entry_of c.enum_told.given.1)
+returns-2 : tie.Need-returns-in-Bad
+returns-2 c = some_none c.requires.read (sym c.entry_at-entry.ensures ∙ ap entry_of c.in-Bad.is)
 
 pub record_in_spec : {M : Type 1} → statement M
 record_in_spec =

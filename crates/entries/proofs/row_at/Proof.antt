@@ -6,16 +6,16 @@ use Rattle.entries.proofs.Rows.{row_beyond, row_read}
 use Rattle.entries.proofs.row_at.Statement.{statement}
 use Rattle.entries.proofs.row_at.Tie as tie
 
-returns : tie.Need-returns
-returns c = record { answer = sym (row_beyond c.before.before.args.table.now c.before.before.args.i c.if1.true) }
+returns : tie.Need-returns-then-table-i
+returns c = record { answer = sym (row_beyond c.args.table.now c.args.i c.if-table-i.true) }
 
-returns-2 : tie.Need-returns-2
+returns-2 : tie.Need-returns
 returns-2 c =
-    let a = c.before.before.before.before.before.before.args in
+    let a = c.args in
     record {
       answer =
-          row_read a.table.now a.i c.before.before.before.before.if1.false c.before.before.before.four_at.ensures
-          c.before.before.four-at2.ensures c.before.eight_at.ensures c.eight-at2.ensures;
+          row_read a.table.now a.i c.if-table-i.false c.four_at.ensures
+          c.four_at-2.ensures c.eight_at.ensures c.eight_at-2.ensures;
     }
 
 pub row_at_spec : {M : Type 1} → statement M

@@ -12,50 +12,49 @@ use Rattle.entries.proofs.Listing.{Surveying, uneven, passed_none, passed_room, 
 use Rattle.entries.proofs.survey_list.Statement.{statement}
 use Rattle.entries.proofs.survey_list.Tie as tie
 
-abbrev invariant-loop : tie.invariant-loop
+abbrev invariant-loop : tie.invariant-loop-p
 invariant-loop list pool s₀ p₀ s p = Surveying list pool s p
 
-abbrev decreases-loop : tie.decreases-loop
+abbrev decreases-loop : tie.decreases-loop-p
 decreases-loop list pool s₀ p₀ s p = length list - p
 
-returns : tie.Need-returns invariant-loop decreases-loop
-returns c = uneven c.before.before.before.args.list.now c.if1.true
+returns : tie.Need-returns-then-list-ne0 invariant-loop decreases-loop
+returns c = uneven c.args.list.now c.if-list-ne0.true
 
-loop-holds : tie.Need-loop-init invariant-loop decreases-loop
-loop-holds c = record { rs = []; passed = passed_none c.before.before.before.before.args.list.now c.before.if1.false; surveys = at_first c.new.ensures }
+loop-holds : tie.Need-loop-p-init invariant-loop decreases-loop
+loop-holds c = record { rs = []; passed = passed_none c.args.list.now c.if-list-ne0.false; surveys = at_first c.new-s.ensures }
 
-entry-at-requires : tie.Need-entry-at-requires invariant-loop decreases-loop
-entry-at-requires c κs = passed_room c.before.loop.invariant.passed c.loop-test.true
+entry-at-requires : tie.Need-entry_at-requires invariant-loop decreases-loop
+entry-at-requires c κs = passed_room c.loop-p.invariant.passed c.loop-p-test.true
 
-returns-2 : tie.Need-returns-2 invariant-loop decreases-loop
+returns-2 : tie.Need-returns-in_default invariant-loop decreases-loop
 returns-2 c =
-    let l = c.before.before.before.before.loop in
-    passed_bad c.before.before.before.before.before.before.before.before.before.args.list.now l.p l.invariant.rs l.invariant.passed c.before.before.before.loop-test.true
-    (sym c.before.before.entry_at.ensures ∙ ap entry_of c.enum_told.given.1)
+    let l = c.loop-p in
+    passed_bad c.args.list.now l.p l.invariant.rs l.invariant.passed c.loop-p-test.true
+    (sym c.entry_at.ensures ∙ ap entry_of c.in_default.is)
 
-add-p : tie.Need-overflow-add-p invariant-loop decreases-loop
-add-p c = omega (arith, passed_room c.before.before.before.before.before.before.loop.invariant.passed c.before.before.before.before.before.loop-test.true, c.before.before.before.before.before.before.before.before.before.before.before.well-formed.0)
+add-p : tie.Need-overflow_add-p invariant-loop decreases-loop
+add-p c = omega (arith, passed_room c.loop-p.invariant.passed c.loop-p-test.true, c.well-formed.0)
 
-loop-less : tie.Need-loop-smaller invariant-loop decreases-loop
-loop-less c = omega (arith, c.before.before.before.before.before.loop-test.true)
+loop-less : tie.Need-loop-p-smaller invariant-loop decreases-loop
+loop-less c = omega (arith, c.loop-p-test.true)
 
-loop-again : tie.Need-loop-preserved invariant-loop decreases-loop
+loop-again : tie.Need-loop-p-preserved invariant-loop decreases-loop
 loop-again c =
-    let l = c.before.before.before.before.before.before.loop in
-    let x = c.before.before.x.given in
+    let l = c.loop-p in
     record {
-      rs = l.invariant.rs ++ (x.0.0 ∷ []);
+      rs = l.invariant.rs ++ (c.in-Is.x ∷ []);
       passed =
-          passed_more c.before.before.before.before.before.before.before.before.before.before.before.args.list.now l.p l.invariant.rs x.0.0 l.invariant.passed c.before.before.before.before.before.loop-test.true
-          (sym c.before.before.before.before.entry_at.ensures ∙ ap entry_of x.1);
-      surveys = then_add l.invariant.surveys c.add.ensures refl;
+          passed_more c.args.list.now l.p l.invariant.rs c.in-Is.x l.invariant.passed c.loop-p-test.true
+          (sym c.entry_at.ensures ∙ ap entry_of c.in-Is.is);
+      surveys = then_add l.invariant.surveys c.add-s.ensures refl;
     }
 
-returns-3 : tie.Need-returns-3 invariant-loop decreases-loop
+returns-3 : tie.Need-returns invariant-loop decreases-loop
 returns-3 c =
-    let l = c.before.loop in
+    let l = c.loop-p in
     record {
-      listed = record { records = l.invariant.rs; read = passed_all c.before.before.before.before.before.before.args.list.now l.p l.invariant.rs l.invariant.passed c.loop-test.false };
+      listed = record { records = l.invariant.rs; read = passed_all c.args.list.now l.p l.invariant.rs l.invariant.passed c.loop-p-test.false };
       surveys = l.invariant.surveys;
     }
 

@@ -16,30 +16,29 @@ use borrow.Author.Rules.{rules}
 use Rattle.entries.proofs.write_list.Statement.{statement}
 use Rattle.entries.proofs.write_list.Tie as tie
 
-write-each-requires : tie.Need-write-each-requires
+write-each-requires : tie.Need-write_each-requires
 write-each-requires c κs =
-    let s = c.before.before.before.before.before.before.before.before.before.args in
-    (subst (λ (x : ListSurvey). ListSurveyAs s.list.now s.pool.now x) c.before.before.before.surveyed.given.1 c.before.before.before.before.before.survey-list.ensures).listed
+    let s = c.args in
+    (subst (λ (x : ListSurvey). ListSurveyAs s.list.now s.pool.now x) c.in-Of.is c.survey_list-surveyed.ensures).listed
 
-returns : tie.Need-returns
+returns : tie.Need-returns-in-Bad
 returns c =
-    let s = c.before.before.before.before.before.before.args in
+    let s = c.args in
     not_given (λ (rs : List Record). object rs s.pool.now) (records_of s.list.now) s.out.now
-    (subst (λ (x : ListSurvey). ListSurveyAs s.list.now s.pool.now x) c.enum_told.given.1 c.before.before.survey-list.ensures)
+    (subst (λ (x : ListSurvey). ListSurveyAs s.list.now s.pool.now x) c.in-Bad.is c.survey_list-surveyed.ensures)
 
-returns-2 : tie.Need-returns-2
+returns-2 : tie.Need-returns-in-Of
 returns-2 c =
     let s = c.before.before.before.before.before.before.before.before.before.before.before.before in
-    let list = s.args.list.now in
-    let pool = s.args.pool.now in
-    let x = c.before.before.before.before.before.before.surveyed.given in
-    let whole = subst (λ (y : ListSurvey). ListSurveyAs list pool y) x.1 c.before.before.before.before.before.before.before.before.survey-list.ensures in
+    let list = c.args.list.now in
+    let pool = c.args.pool.now in
+    let whole = subst (λ (y : ListSurvey). ListSurveyAs list pool y) c.in-Of.is c.survey_list-surveyed.ensures in
     let rs = whole.listed.records in
-    let b = c.before.before.before.before.begin in
-    let w = c.before.before.write-each in
-    made (λ (qs : List Record). object qs pool) (records_of list) s.args.out.now rs (told_written w.result) w.new.1.1.0 whole.listed.read
-    (object_written rs pool s.args.out.now x.0.0 b.result w.result w.new.1.1.0
-    (omega (arith, listed_length list rs whole.listed.read, s.well-formed.0)) (omega (arith, s.well-formed.1.1.0))
+    let b = c.begin-start in
+    let w = c.write_each in
+    made (λ (qs : List Record). object qs pool) (records_of list) c.args.out.now rs (told_written w.result) w.new.out whole.listed.read
+    (object_written rs pool c.args.out.now c.in-Of.s b.result w.result w.new.out
+    (omega (arith, listed_length list rs whole.listed.read, c.well-formed.0)) (omega (arith, c.well-formed.1.1.0))
     whole.surveys b.ensures (w.ensures rs whole.listed.read))
 
 pub write_list_spec : {M : Type 1} → statement M

@@ -10,19 +10,19 @@ use borrow.Author.Rules.{rules}
 use Rattle.entries.proofs.write_record.Statement.{statement}
 use Rattle.entries.proofs.write_record.Tie as tie
 
-returns : tie.Need-returns
+returns : tie.Need-returns-in-Bad
 returns c =
-    let s = c.before.before.before.before.before.args in
+    let s = c.args in
     not_given (λ (x : Record). line_text x s.pool.now) (record_of s.kind s.number s.second s.at s.len) s.out.now
-    (sym c.before.before.record-from.ensures ∙ ap entry_of c.enum_told.given.1)
+    (sym c.record_from-entry.ensures ∙ ap entry_of c.in-Bad.is)
 
-returns-2 : tie.Need-returns-2
+returns-2 : tie.Need-returns-in-Is
 returns-2 c =
-    let s = c.before.before.before.before.before.before.before.before.before.before.args in
-    let x = c.before.before.before.before.before.entry.given in
-    let w = c.before.before.to-record-string in
+    let s = c.args in
+    let x = c.entry-1.given in
+    let w = c.to_record_string in
     made (λ (x : Record). line_text x s.pool.now) (record_of s.kind s.number s.second s.at s.len) s.out.now
-    x.0.0 (told_written w.result) w.new.1.1.0 (sym c.before.before.before.before.before.before.before.record-from.ensures ∙ ap entry_of x.1) w.ensures
+    c.in-Is.x (told_written w.result) w.new.out (sym c.record_from-entry.ensures ∙ ap entry_of c.in-Is.is) w.ensures
 
 pub write_record_spec : {M : Type 1} → statement M
 write_record_spec =

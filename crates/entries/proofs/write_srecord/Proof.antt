@@ -14,22 +14,22 @@ use borrow.Author.Rules.{rules}
 use Rattle.entries.proofs.write_srecord.Statement.{statement}
 use Rattle.entries.proofs.write_srecord.Tie as tie
 
-returns : tie.Need-returns
+returns : tie.Need-returns-in-Nothing
 returns c =
-    let s = c.before.before.before.before.before.args in
+    let s = c.args in
     not_given (λ (x : SRecord). line_text x s.pool.now) (srecord_of s.kind s.address s.at s.len) s.out.now
     (ap (map (λ (t : SType). record { kind = t; address = s.address; at = s.at; len = s.len }))
-    (is_nothing s.kind (subst (λ (n : Named). TypeOf s.kind n) c.enum_told.given.1 c.before.before.type_of.ensures)))
+    (is_nothing s.kind (subst (λ (n : Named). TypeOf s.kind n) c.in-Nothing.is c.type_of-named.ensures)))
 
-returns-2 : tie.Need-returns-2
+returns-2 : tie.Need-returns-in-Kind
 returns-2 c =
-    let s = c.before.before.before.before.before.before.before.before.before.before.args in
-    let t = c.before.before.before.before.before.named.given in
-    let w = c.before.before.to-srecord-string in
+    let s = c.args in
+    let t = c.named-1.given in
+    let w = c.to_srecord_string in
     made (λ (x : SRecord). line_text x s.pool.now) (srecord_of s.kind s.address s.at s.len) s.out.now
-    (record { kind = t.0.0; address = s.address; at = s.at; len = s.len }) (told_swritten w.result) w.new.1.1.0
+    (record { kind = c.in-Kind.t; address = s.address; at = s.at; len = s.len }) (told_swritten w.result) w.new.out
     (ap (map (λ (t : SType). record { kind = t; address = s.address; at = s.at; len = s.len }))
-    (is_kind s.kind t.0.0 (subst (λ (n : Named). TypeOf s.kind n) t.1 c.before.before.before.before.before.before.before.type_of.ensures))) w.ensures
+    (is_kind s.kind c.in-Kind.t (subst (λ (n : Named). TypeOf s.kind n) c.in-Kind.is c.type_of-named.ensures))) w.ensures
 
 pub write_srecord_spec : {M : Type 1} → statement M
 write_srecord_spec =

@@ -5,8 +5,8 @@ use Rattle.intake.specs.Ending.{answers}
 use Rattle.intake.proofs.answer_after.Statement.{statement}
 use Rattle.intake.proofs.answer_after.Tie as tie
 
-returns : tie.Need-returns
-returns c = sym (ap answers c.enum_told.given.1)
+returns : tie.Need-returns-in-On
+returns c = sym (ap answers c.in-On.is)
 
 pub answer_after_spec : {M : Type 1} → statement M
 answer_after_spec = tie.close (tie.spec (λ c. search rules) (λ c. search rules) returns (λ c. search rules))

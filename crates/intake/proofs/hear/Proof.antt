@@ -5,17 +5,17 @@ use Rattle.intake.specs.Helpers.{hears}
 use Rattle.intake.proofs.hear.Statement.{statement}
 use Rattle.intake.proofs.hear.Tie as tie
 
-returns : tie.Need-returns
+returns : tie.Need-returns-in-On
 returns c =
-    let a = c.before.before.before.before.before.before.before.before.before.before.before.before.before.before.args in
-    let t = c.before.before.before.before.before.before.before.take in
-    record { came = t.result; turned = t.ensures; answer = sym (ap (hears a.after) c.before.base.given.1) }
+    let a = c.args in
+    let t = c.take in
+    record { came = t.result; turned = t.ensures; answer = sym (ap (hears a.after) c.in-On.is) }
 
-returns-2 : tie.Need-returns-2
+returns-2 : tie.Need-returns-in-Stop
 returns-2 c =
-    let a = c.before.before.before.before.before.before.before.before.before.before.before.before.before.before.args in
-    let t = c.before.before.before.before.before.before.before.take in
-    record { came = t.result; turned = t.ensures; answer = sym (ap (hears a.after) c.before.answer.given.1) }
+    let a = c.args in
+    let t = c.take in
+    record { came = t.result; turned = t.ensures; answer = sym (ap (hears a.after) c.in-Stop.is) }
 
 pub hear_spec : {M : Type 1} → statement M
 hear_spec =

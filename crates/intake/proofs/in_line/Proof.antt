@@ -32,18 +32,16 @@ stays skipped BadTable h = refl
 abbrev named : (skipped : ℕ) → Loading → Verdict
 named skipped l = verdict_in_line skipped (told_loading l)
 
-returns : tie.Need-returns
+returns : tie.Need-returns-in-Line
 returns c =
-    let a = c.before.before.before.before.before.before.before.args in
-    let g = c.before.before.before.before.before.answer.given in
-    ap (λ (r : Refusal). refused r g.0.1.0) c.refusal_in_line.ensures
-    ∙ sym (ap (named a.skipped) (g.1 ∙ ap (λ (e : LoaderError). Refused e g.0.1.0) c.before.before.e.given.1))
+    let a = c.args in
+    ap (λ (r : Refusal). refused r c.in-Refused.line) c.refusal_in_line.ensures
+    ∙ sym (ap (named a.skipped) (c.in-Refused.is ∙ ap (λ (e : LoaderError). Refused e c.in-Refused.line) c.in-Line.is))
 
-returns-2 : tie.Need-returns-2
+returns-2 : tie.Need-returns-in_default-e
 returns-2 c =
-    let a = c.before.before.before.before.args in
-    let g = c.before.before.answer.given in
-    ap (λ (r : Refusal). refused r g.0.1.0) (stays a.skipped g.0.0 c.match2.keys2) ∙ sym (ap (named a.skipped) g.1)
+    let a = c.args in
+    ap (λ (r : Refusal). refused r c.in-Refused.line) (stays a.skipped c.in-Refused.e c.in_default-e.keys2) ∙ sym (ap (named a.skipped) c.in-Refused.is)
 
 pub in_line_spec : {M : Type 1} → statement M
 in_line_spec = tie.close (tie.spec (λ c. search rules) (λ c. search rules) (λ c κs. search rules) returns (λ c. search rules) returns-2 (λ c. search rules))

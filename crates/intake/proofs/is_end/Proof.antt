@@ -4,11 +4,11 @@ use Rattle.std.proofs.Common.{rules}
 use Rattle.intake.proofs.is_end.Statement.{statement}
 use Rattle.intake.proofs.is_end.Tie as tie
 
-returns : tie.Need-returns
-returns c = rw c.before.enum_told.given.1 c.is-end-hex.ensures
+returns : tie.Need-returns-in-Hex
+returns c = rw c.in-Hex.is c.is_end_hex.ensures
 
-returns-2 : tie.Need-returns-2
-returns-2 c = rw c.before.enum-told2.given.1 c.is-end-srecord.ensures
+returns-2 : tie.Need-returns-in-SRecords
+returns-2 c = rw c.in-SRecords.is c.is_end_srecord.ensures
 
 pub is_end_spec : {M : Type 1} → statement M
 is_end_spec = tie.close (tie.spec (λ c. search rules) (λ c κs. search rules) (λ c. search rules) (λ c κs. search rules) returns returns-2)

@@ -8,22 +8,20 @@ use Rattle.intake.proofs.Past.{hex_read, hex_refused}
 use Rattle.intake.proofs.is_end_hex.Statement.{statement}
 use Rattle.intake.proofs.is_end_hex.Tie as tie
 
-returns : tie.Need-returns
+returns : tie.Need-returns-in-Read
 returns c =
-    let a = c.before.before.before.before.before.before.before.before.args in
-    let n = c.before.before.before.before.before.read-record in
-    let g = c.before.before.given.given in
-    ap (λ (k : ℕ). eqb k 1) c.record-type.ensures.answer
-    ∙ hex_read a.line.now n.new.1.0 g.0.0
-    (line_read a.line.now (replicate 255 0) n.new.1.0 refl g.0.0 (subst (λ (x : Answer). ReadRecord a.line.now (replicate 255 0) 0 x n.new.1.0) g.1 n.ensures))
+    let a = c.args in
+    let n = c.read_record in
+    ap (λ (k : ℕ). eqb k 1) c.record_type.ensures.answer
+    ∙ hex_read a.line.now n.new.pool c.in-Read.given
+    (line_read a.line.now (replicate 255 0) n.new.pool refl c.in-Read.given (subst (λ (x : Answer). ReadRecord a.line.now (replicate 255 0) 0 x n.new.pool) c.in-Read.is n.ensures))
 
-returns-2 : tie.Need-returns-2
+returns-2 : tie.Need-returns-in-Refused
 returns-2 c =
-    let a = c.before.before.before.before.before.before.args in
-    let n = c.before.before.before.read-record in
-    let g = c.enum_told.given in
-    hex_refused a.line.now g.0.0
-    (line_refused a.line.now (replicate 255 0) n.new.1.0 refl g.0.0 (subst (λ (x : Answer). ReadRecord a.line.now (replicate 255 0) 0 x n.new.1.0) g.1 n.ensures))
+    let a = c.args in
+    let n = c.read_record in
+    hex_refused a.line.now c.in-Refused.field-0
+    (line_refused a.line.now (replicate 255 0) n.new.pool refl c.in-Refused.field-0 (subst (λ (x : Answer). ReadRecord a.line.now (replicate 255 0) 0 x n.new.pool) c.in-Refused.is n.ensures))
 
 pub is_end_hex_spec : {M : Type 1} → statement M
 is_end_hex_spec =

@@ -9,22 +9,20 @@ use Rattle.intake.proofs.Past.{s_read, s_refused}
 use Rattle.intake.proofs.is_end_srecord.Statement.{statement}
 use Rattle.intake.proofs.is_end_srecord.Tie as tie
 
-returns : tie.Need-returns
+returns : tie.Need-returns-in-Read
 returns c =
-    let a = c.before.before.before.before.before.before.before.before.args in
-    let n = c.before.before.before.before.before.read-srecord in
-    let g = c.before.before.given.given in
+    let a = c.args in
+    let n = c.read_srecord in
     ap (λ (k : ℕ). ltb 5 k) c.digit.ensures.answer
-    ∙ s_read a.line.now n.new.1.0 g.0.0
-    (came_read a.line.now (replicate 252 0) n.new.1.0 (length-replicate {A = ℕ} 252 0) g.0.0 (subst (λ (x : SAnswer). ReadSRecord a.line.now (replicate 252 0) 0 x n.new.1.0) g.1 n.ensures))
+    ∙ s_read a.line.now n.new.pool c.in-Read.given
+    (came_read a.line.now (replicate 252 0) n.new.pool (length-replicate {A = ℕ} 252 0) c.in-Read.given (subst (λ (x : SAnswer). ReadSRecord a.line.now (replicate 252 0) 0 x n.new.pool) c.in-Read.is n.ensures))
 
-returns-2 : tie.Need-returns-2
+returns-2 : tie.Need-returns-in-Refused
 returns-2 c =
-    let a = c.before.before.before.before.before.before.args in
-    let n = c.before.before.before.read-srecord in
-    let g = c.enum_told.given in
-    s_refused a.line.now g.0.0
-    (came_refused a.line.now (replicate 252 0) n.new.1.0 (length-replicate {A = ℕ} 252 0) g.0.0 (subst (λ (x : SAnswer). ReadSRecord a.line.now (replicate 252 0) 0 x n.new.1.0) g.1 n.ensures))
+    let a = c.args in
+    let n = c.read_srecord in
+    s_refused a.line.now c.in-Refused.field-0
+    (came_refused a.line.now (replicate 252 0) n.new.pool (length-replicate {A = ℕ} 252 0) c.in-Refused.field-0 (subst (λ (x : SAnswer). ReadSRecord a.line.now (replicate 252 0) 0 x n.new.pool) c.in-Refused.is n.ensures))
 
 pub is_end_srecord_spec : {M : Type 1} → statement M
 is_end_srecord_spec =

@@ -5,7 +5,7 @@ use Rattle.intake.proofs.pause.Statement.{statement}
 use Rattle.intake.proofs.pause.Tie as tie
 
 returns : tie.Need-returns
-returns c = rw (c.before.before.met.ensures, c.before.wrapping-add-usize.ensures, c.left_out.ensures)
+returns c = rw (c.met-tally.ensures, c.wrapping_add_usize.ensures, c.left_out.ensures)
 
 pub pause_spec : {M : Type 1} → statement M
 pause_spec = tie.close (tie.spec (λ c κs. search rules) (λ c κs. search rules) (λ c κs. search rules) returns)

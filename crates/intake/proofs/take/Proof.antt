@@ -5,20 +5,18 @@ use Rattle.intake.proofs.Turning.{pass_so}
 use Rattle.intake.proofs.take.Statement.{statement}
 use Rattle.intake.proofs.take.Tie as tie
 
-returns : tie.Need-returns
+returns : tie.Need-returns-then-mode
 returns c =
-    let a = c.before.before.before.before.before.args in
-    rw (c.before.if1.true, c.pass.ensures) (pass_so a.skipped a.number a.base a.tally a.first a.page.now a.marks.now a.mode.kind a.line.now)
+    let a = c.args in
+    rw (c.if-mode.true, c.pass.ensures) (pass_so a.skipped a.number a.base a.tally a.first a.page.now a.marks.now a.mode.kind a.line.now)
 
-returns-2 : tie.Need-returns-2
+returns-2 : tie.Need-returns-in-Hex
 returns-2 c =
-    let k = c.before.before.before.before.before.before.before.enum_told.given in
-    rw (k.1, c.before.before.before.before.before.before.before.before.before.if1.false) c.before.before.before.before.take-hex.ensures
+    rw (c.in-Hex.is, c.if-mode.false) c.take_hex.ensures
 
-returns-3 : tie.Need-returns-3
+returns-3 : tie.Need-returns-in-SRecords
 returns-3 c =
-    let k = c.before.before.before.before.before.before.before.enum-told2.given in
-    rw (k.1, c.before.before.before.before.before.before.before.before.before.if1.false) c.before.before.before.before.take-srecord.ensures
+    rw (c.in-SRecords.is, c.if-mode.false) c.take_srecord.ensures
 
 pub take_spec : {M : Type 1} → statement M
 take_spec =

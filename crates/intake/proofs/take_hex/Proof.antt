@@ -15,27 +15,25 @@ use Rattle.intake.proofs.Turning.{turned, stop_in_line}
 use Rattle.intake.proofs.take_hex.Statement.{statement}
 use Rattle.intake.proofs.take_hex.Tie as tie
 
-returns : tie.Need-returns
+returns : tie.Need-returns-in-On
 returns c =
-    let s = c.before.before.before.before.before.before.before.before.before.before.before.before.before in
-    let a = s.args in
-    let t = c.before.before.before.before.before.before.before.take-line in
-    let g = c.before.after.given in (
+    let a = c.args in
+    let t = c.take_line in
+ (
       turned intel hex_standing told_taken (Stop (Refused BadWindow 0)) refl a.line.now a.skipped a.number a.base a.tally (based a.base) (tallied a.tally) refl
-          a.first a.page.now a.marks.now s.requires t.result _ _ t.ensures (turn.On g.0.0 g.0.1.0)
-          (λ ps. ap (λ (x : Taken). in_line a.skipped (told_taken x ps)) g.1),
+          a.first a.page.now a.marks.now c.requires t.result _ _ t.ensures (turn.On c.in-On.after c.in-On.t)
+          (λ ps. ap (λ (x : Taken). in_line a.skipped (told_taken x ps)) c.in-On.is),
       tt,
     )
 
-returns-2 : tie.Need-returns-2
+returns-2 : tie.Need-returns-in-Stop
 returns-2 c =
-    let s = c.before.before.before.before.before.before.before.before.before.before.before.before.before.before in
-    let a = s.args in
-    let t = c.before.before.before.before.before.before.before.before.take-line in
-    let g = c.before.before.answer.given in (
+    let a = c.args in
+    let t = c.take_line in
+ (
       turned intel hex_standing told_taken (Stop (Refused BadWindow 0)) refl a.line.now a.skipped a.number a.base a.tally (based a.base) (tallied a.tally) refl
-          a.first a.page.now a.marks.now s.requires t.result _ _ t.ensures (turn.Stop c.in_line.result)
-          (λ ps. ap (λ (x : Taken). in_line a.skipped (told_taken x ps)) g.1 ∙ stop_in_line a.skipped ps g.0.0 c.in_line.result c.in_line.ensures),
+          a.first a.page.now a.marks.now c.requires t.result _ _ t.ensures (turn.Stop c.in_line.result)
+          (λ ps. ap (λ (x : Taken). in_line a.skipped (told_taken x ps)) c.in-Stop.is ∙ stop_in_line a.skipped ps c.in-Stop.answer c.in_line.result c.in_line.ensures),
       tt,
     )
 

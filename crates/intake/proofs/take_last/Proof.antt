@@ -9,39 +9,38 @@ use Rattle.intake.proofs.Finishing.{last_by, no_last_by, ends_missing_so, ends_l
 use Rattle.intake.proofs.take_last.Statement.{statement}
 use Rattle.intake.proofs.take_last.Tie as tie
 
-in_carry : (c : tie.After-reply) → (c.reply.given.0.0 ≤ 522) × (c.reply.given.0.0 ≤ length c.before.before.before.before.before.last_line.new.1.0)
+in_carry : (c : tie.In-InCarry-2) → (c.in-InCarry.len ≤ 522) × (c.in-InCarry.len ≤ length c.last_line-step.new.carry)
 in_carry c =
-    let l = c.before.before.before.before.before.last_line in
-    subst (λ (x : LineReply). Inside x [] l.new.1.0) c.reply.given.1 l.ensures.inside
+    let l = c.last_line-step in
+    subst (λ (x : LineReply). Inside x [] l.new.carry) c.in-InCarry.is l.ensures.inside
 
-slice-reshare-prefix-take : tie.Need-slice-reshare-prefix-take
+slice-reshare-prefix-take : tie.Need-slice_bounds-take-end
 slice-reshare-prefix-take c = (in_carry c.before).1
 
-slice-aggregate-take : tie.Need-slice-aggregate-take
-slice-aggregate-take c = sym (length-take-le c.before.before.reply.given.0.0 c.before.before.before.before.before.before.before.last_line.new.1.0 (in_carry c.before.before).1)
+slice-aggregate-take : tie.Need-slice_bounds-take-end-in-InCarry
+slice-aggregate-take c = sym (length-take-le c.in-InCarry.len c.last_line-step.new.carry (in_carry c.before).1)
 
-returns : tie.Need-returns
+returns : tie.Need-returns-in-InCarry
 returns c =
     let s = c.before.before.before.before.before.before.before.before.before.before.before.before.before.before.before.before.before.before.before.before.before.before.before in
-    let a = s.args in
-    let w = c.before.before.before.before.before.before.before.before.before.before.before.before.before.before.before.before.before.before.before.stand in
-    let l = c.before.before.before.before.before.before.before.before.before.before.before.before.before.before.before.last_line in
-    let g = c.before.before.before.before.before.before.before.before.before.before.reply.given in
-    let t = c.before.before.before.before.before.take in
-    rw c.answer-after.ensures
-    (ends_line_so (way_of a.s.kind a.s.tail) (lawful a.s.kind a.s.tail) a.first a.s a.carry.now a.page.now a.marks.now l.new.1.0 g.0.0 g.0.1.0 l.result.state
-    (subst (Last-by a.s a.carry.now l.result.state l.new.1.0) g.1 (last_by a.s a.carry.now s.requires.0 w.result w.ensures l.result l.new.1.0 l.ensures))
-    (simp length-take (omega (arith, (in_carry c.before.before.before.before.before.before.before.before.before.before).0))) w.result w.ensures t.result _ _ t.ensures)
+    let a = c.args in
+    let w = c.stand-w in
+    let l = c.last_line-step in
+    let t = c.take-turn in
+    rw c.answer_after.ensures
+    (ends_line_so (way_of a.s.kind a.s.tail) (lawful a.s.kind a.s.tail) a.first a.s a.carry.now a.page.now a.marks.now l.new.carry c.in-InCarry.len c.in-InCarry.skipped l.result.state
+    (subst (Last-by a.s a.carry.now l.result.state l.new.carry) c.in-InCarry.is (last_by a.s a.carry.now c.requires.0 w.result w.ensures l.result l.new.carry l.ensures))
+    (simp length-take (omega (arith, (in_carry c.before.before.before.before.before.before.before.before.before).0))) w.result w.ensures t.result _ _ t.ensures)
 
-returns-2 : tie.Need-returns-2
+returns-2 : tie.Need-returns
 returns-2 c =
     let s = c.before.before.before.before.before.before.before.before.before.before.before.before in
-    let a = s.args in
-    let w = c.before.before.before.before.before.before.before.before.stand in
-    let l = c.before.before.before.before.last_line in
+    let a = c.args in
+    let w = c.stand-w in
+    let l = c.last_line-step in
     ends_missing_so (way_of a.s.kind a.s.tail) (lawful a.s.kind a.s.tail) a.first a.s a.carry.now a.page.now a.marks.now
-    (no_last_by a.s a.carry.now l.result.state l.new.1.0 l.result.reply c.match.keys2
-    (last_by a.s a.carry.now s.requires.0 w.result w.ensures l.result l.new.1.0 l.ensures))
+    (no_last_by a.s a.carry.now l.result.state l.new.carry l.result.reply c.in_default.keys2
+    (last_by a.s a.carry.now c.requires.0 w.result w.ensures l.result l.new.carry l.ensures))
 
 pub take_last_spec : {M : Type 1} → statement M
 take_last_spec =

@@ -16,27 +16,25 @@ use Rattle.intake.proofs.Turning.{turned, stop_in_line}
 use Rattle.intake.proofs.take_srecord.Statement.{statement}
 use Rattle.intake.proofs.take_srecord.Tie as tie
 
-returns : tie.Need-returns
+returns : tie.Need-returns-in-On
 returns c =
-    let s = c.before.before.before.before.before.before.before.before.before.before.before.before.before in
-    let a = s.args in
-    let t = c.before.before.before.before.before.before.before.take-line in
-    let g = c.before.records.given in (
+    let a = c.args in
+    let t = c.take_line in
+ (
       turned s_records s_standing told_taken (Stop (Refused BadWindow 0)) refl a.line.now a.skipped a.number a.base a.tally tt (record { records = a.tally.records; start = none }) refl
-          a.first a.page.now a.marks.now s.requires t.result _ _ (record { refused = t.ensures.refused; taken = t.ensures.taken }) (turn.On a.base (record { records = g.0.0; start = Unstated }))
-          (λ ps. ap (λ (x : Taken). in_line a.skipped (told_taken x ps)) g.1),
+          a.first a.page.now a.marks.now c.requires t.result _ _ (record { refused = t.ensures.refused; taken = t.ensures.taken }) (turn.On a.base (record { records = c.in-On.records; start = Unstated }))
+          (λ ps. ap (λ (x : Taken). in_line a.skipped (told_taken x ps)) c.in-On.is),
       refl,
     )
 
-returns-2 : tie.Need-returns-2
+returns-2 : tie.Need-returns-in-Stop
 returns-2 c =
-    let s = c.before.before.before.before.before.before.before.before.before.before.before.before.before.before in
-    let a = s.args in
-    let t = c.before.before.before.before.before.before.before.before.take-line in
-    let g = c.before.before.answer.given in (
+    let a = c.args in
+    let t = c.take_line in
+ (
       turned s_records s_standing told_taken (Stop (Refused BadWindow 0)) refl a.line.now a.skipped a.number a.base a.tally tt (record { records = a.tally.records; start = none }) refl
-          a.first a.page.now a.marks.now s.requires t.result _ _ (record { refused = t.ensures.refused; taken = t.ensures.taken }) (turn.Stop c.in_line.result)
-          (λ ps. ap (λ (x : Taken). in_line a.skipped (told_taken x ps)) g.1 ∙ stop_in_line a.skipped ps g.0.0 c.in_line.result c.in_line.ensures),
+          a.first a.page.now a.marks.now c.requires t.result _ _ (record { refused = t.ensures.refused; taken = t.ensures.taken }) (turn.Stop c.in_line.result)
+          (λ ps. ap (λ (x : Taken). in_line a.skipped (told_taken x ps)) c.in-Stop.is ∙ stop_in_line a.skipped ps c.in-Stop.answer c.in_line.result c.in_line.ensures),
       tt,
     )
 

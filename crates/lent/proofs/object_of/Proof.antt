@@ -16,12 +16,11 @@ use Rattle.lent.proofs.object_of.Tie as tie
 same_front : {m n : ℕ} (all : List Record) (P : List Record → Type 0) → m < n → length all ≤ m → P (take m all) → P (take n all)
 same_front {m} {n} all P more few p = subst P (take_all m all few ∙ sym (take_all n all (omega (arith, few, more)))) p
 
-returns : tie.Need-returns
+returns : tie.Need-returns-then-n-gt-MOST
 returns c =
-    let s = c.before.before.before.before.before.before.before in
-    let w = c.before.before.write-front in
-    same_front s.args.records (λ (rs : List Record). WriteObject rs s.args.pool.now s.args.out.now w.result w.new.1.1.1.0)
-    c.before.before.before.before.if1.true (omega (arith, s.well-formed.0)) w.ensures
+    let w = c.write_front in
+    same_front c.args.records (λ (rs : List Record). WriteObject rs c.args.pool.now c.args.out.now w.result w.new.out)
+    c.if-n-gt-MOST.true (omega (arith, c.well-formed.0)) w.ensures
 
 pub object_of_spec : {M : Type 1} → statement M
 object_of_spec =

@@ -9,35 +9,33 @@ use Rattle.light.proofs.goes_with.Statement.{statement}
 use Rattle.light.proofs.goes_with.Tie as tie
 
 -- the answer accepts
-went : (c : tie.Else1) → is_accepted c.before.before.before.args.answer ≡ true
-went c = let m = c.before.is_accepted in sym m.ensures.answer ∙ not-false m.result c.if1.false
+went : (c : tie.Else-not-is_accepted) → is_accepted c.args.answer ≡ true
+went c = let m = c.is_accepted in sym m.ensures.answer ∙ not-false m.result c.if-not-is_accepted.false
 
 -- and the marks have the size of a row
-sized : (c : tie.Else2) → let a = c.before.before.before.before.before.args in length a.marks.now ≡ row_length a.places
-sized c = c.if2.false ∙ c.before.row_length.ensures.answer
+sized : (c : tie.Else-marks-row_length) → let a = c.args in length a.marks.now ≡ row_length a.places
+sized c = c.if-marks-row_length.false ∙ c.row_length.ensures.answer
 
-returns : tie.Need-returns
+returns : tie.Need-returns-then-not-is_accepted
 returns c =
-    let a = c.before.before.before.args in
-    let m = c.before.is_accepted in
-    goes_refused a.answer a.places a.marks.now (sym m.ensures.answer ∙ not-true m.result c.if1.true)
+    let a = c.args in
+    let m = c.is_accepted in
+    goes_refused a.answer a.places a.marks.now (sym m.ensures.answer ∙ not-true m.result c.if-not-is_accepted.true)
 
-returns-2 : tie.Need-returns-2
+returns-2 : tie.Need-returns-then-marks-row_length
 returns-2 c =
-    let a = c.before.before.before.before.before.args in
-    goes_other_size a.answer a.places a.marks.now (went c.before.before) (λ e. c.if2.true (e ∙ sym c.before.row_length.ensures.answer))
+    let a = c.args in
+    goes_other_size a.answer a.places a.marks.now (went c.before.before) (λ e. c.if-marks-row_length.true (e ∙ sym c.row_length.ensures.answer))
 
-returns-3 : tie.Need-returns-3
+returns-3 : tie.Need-returns-in-At
 returns-3 c =
-    let e = c.before.before.before in
-    let a = e.before.before.before.before.before.args in
-    goes_by_unused a.answer a.places a.marks.now (went e.before.before) (sized e) _ (sym c.before.before.first_unused.ensures.answer ∙ ap told_unused c.enum_told.given.1)
+    let a = c.args in
+    goes_by_unused a.answer a.places a.marks.now (went c.before.before.before.before.before) (sized c.before.before.before) _ (sym c.first_unused.ensures.answer ∙ ap told_unused c.in-At.is)
 
-returns-4 : tie.Need-returns-4
+returns-4 : tie.Need-returns-in-Clear
 returns-4 c =
-    let e = c.before.before.before in
-    let a = e.before.before.before.before.before.args in
-    goes_by_unused a.answer a.places a.marks.now (went e.before.before) (sized e) _ (sym c.before.before.first_unused.ensures.answer ∙ ap told_unused c.enum-told2.given.1)
+    let a = c.args in
+    goes_by_unused a.answer a.places a.marks.now (went c.before.before.before.before.before) (sized c.before.before.before) _ (sym c.first_unused.ensures.answer ∙ ap told_unused c.in-Clear.is)
 
 pub goes_with_spec : {M : Type 1} → statement M
 goes_with_spec =

@@ -10,32 +10,29 @@ use Rattle.light.proofs.tell.Statement.{statement}
 use Rattle.light.proofs.tell.Tie as tie
 
 -- the load was accepted
-went : (c : tie.Else1) → is_accepted c.before.before.before.before.args.answer ≡ true
-went c = let m = c.before.is_accepted in sym m.ensures.answer ∙ not-false m.result c.if1.false
+went : (c : tie.Else-not-is_accepted) → is_accepted c.args.answer ≡ true
+went c = let m = c.is_accepted in sym m.ensures.answer ∙ not-false m.result c.if-not-is_accepted.false
 
-returns : tie.Need-returns
+returns : tie.Need-returns-then-not-is_accepted
 returns c =
-    let a = c.before.before.before.before.args in
-    let m = c.before.is_accepted in
-    tells_broken a.light a.answer a.page.now a.marks.now (sym m.ensures.answer ∙ not-true m.result c.if1.true)
+    let a = c.args in
+    let m = c.is_accepted in
+    tells_broken a.light a.answer a.page.now a.marks.now (sym m.ensures.answer ∙ not-true m.result c.if-not-is_accepted.true)
 
-count-in-requires : tie.Need-count-in-requires
+count-in-requires : tie.Need-count_in-requires
 count-in-requires c κs =
-    let s = c.before.before.before.before in
-    held_now s.args.answer s.args.page.now s.args.marks.now s.requires (went c)
+    held_now c.args.answer c.args.page.now c.args.marks.now c.requires (went c)
 
-returns-2 : tie.Need-returns-2
+returns-2 : tie.Need-returns-in-Unknown
 returns-2 c =
-    let e = c.before.before.before in
-    let a = e.before.before.before.before.args in
-    tells_none a.light a.answer a.page.now a.marks.now (went e) (subst (λ (k : Count). Counts a.page.now a.marks.now a.light.high a.light.low k) c.enum_told.given.1 c.before.before.count_in.ensures)
+    let a = c.args in
+    tells_none a.light a.answer a.page.now a.marks.now (went c.before.before.before) (subst (λ (k : Count). Counts a.page.now a.marks.now a.light.high a.light.low k) c.in-Unknown.is c.count_in.ensures)
 
-returns-3 : tie.Need-returns-3
+returns-3 : tie.Need-returns-in-Known
 returns-3 c =
-    let e = c.before.before.before.before.before in
-    let a = e.before.before.before.before.args in
-    tells_count a.light a.answer a.page.now a.marks.now _ c.compare.result (went e)
-    (subst (λ (k : Count). Counts a.page.now a.marks.now a.light.high a.light.low k) c.before.before.count.given.1 c.before.before.before.before.count_in.ensures) c.compare.ensures
+    let a = c.args in
+    tells_count a.light a.answer a.page.now a.marks.now _ c.compare.result (went c.before.before.before.before.before)
+    (subst (λ (k : Count). Counts a.page.now a.marks.now a.light.high a.light.low k) c.in-Known.is c.count_in.ensures) c.compare.ensures
 
 pub tell_spec : {M : Type 1} → statement M
 tell_spec =

@@ -4,11 +4,11 @@ use borrow.Author.Rules.{rules}
 use Rattle.listen.proofs.decide.Statement.{statement}
 use Rattle.listen.proofs.decide.Tie as tie
 
-returns : tie.Need-returns
-returns c = rw c.before.if1.true c.end-tail.ensures
+returns : tie.Need-returns-then-s
+returns c = rw c.if-s.true c.end_tail.ensures
 
-returns-2 : tie.Need-returns-2
-returns-2 c = rw (c.before.if1.false, c.follow.ensures)
+returns-2 : tie.Need-returns
+returns-2 c = rw (c.if-s.false, c.follow.ensures)
 
 pub decide_spec : {M : Type 1} → statement M
 decide_spec = tie.close (tie.spec (λ c κs. search rules) returns (λ c κs. search rules) returns-2)

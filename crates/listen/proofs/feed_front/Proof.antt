@@ -19,39 +19,39 @@ rest_is : (at : ℕ) (chunk : List ℕ) → take (length chunk - at) (drop at ch
 rest_is at chunk = ap (λ (n : ℕ). take n (drop at chunk)) (sym (length-drop at chunk)) ∙ take-length (drop at chunk)
 
 -- no more bytes were passed than there are
-fits : (c : tie.Else1) → c.before.pass-blank.result.at ≤ length c.before.before.before.before.before.before.args.chunk.now
+fits : (c : tie.Else-at-chunk) → c.pass_blank-blank.result.at ≤ length c.args.chunk.now
 fits c =
-    let a = c.before.before.before.before.before.before.args in
-    subst (λ (b : Blank). b.at ≤ length a.chunk.now) (sym c.before.pass-blank.ensures) (blanks_fit a.cr a.chunk.now)
+    let a = c.args in
+    subst (λ (b : Blank). b.at ≤ length a.chunk.now) (sym c.pass_blank-blank.ensures) (blanks_fit a.cr a.chunk.now)
 
-returns : tie.Need-returns
+returns : tie.Need-returns-then-at-chunk
 returns c =
-    let a = c.before.before.before.before.before.before.args in
-    let b = c.before.pass-blank in
-    front_empty a.kind a.cr a.chunk.now a.carry.now a.first a.stage.now a.stated.now b.result b.ensures c.if1.true
+    let a = c.args in
+    let b = c.pass_blank-blank in
+    front_empty a.kind a.cr a.chunk.now a.carry.now a.first a.stage.now a.stated.now b.result b.ensures c.if-at-chunk.true
 
-sub-feed : tie.Need-overflow-sub-feed
+sub-feed : tie.Need-slice_bounds-feed-count
 sub-feed c = fits c.before.before.before.before
 
-part-feed-start : tie.Need-slice-bounds-feed-start
+part-feed-start : tie.Need-slice_bounds-feed-start
 part-feed-start c = fits c.before.before.before.before
 
 tell-requires : tie.Need-tell-requires
 tell-requires c κs =
-    let a = c.before.before.before.before.before.before.before.before.before.before.before.before.before.before.before.before.before.before.before.before.before.args in
-    let at = c.before.before.before.before.before.before.before.before.before.before.before.before.before.before.before.before.pass-blank.result.at in
-    let f = c.before.before.before.before.before.before.feed in
+    let a = c.args in
+    let at = c.pass_blank-blank.result.at in
+    let f = c.feed-reply in
     let h = fits c.before.before.before.before.before.before.before.before.before.before.before.before.before.before.before in
     let l = ap length (rest_is at a.chunk.now) in
-    feeds_fit c.before.before.before.before.before.before.before.before.before.before.before.before.before.start.result _ a.carry.now a.first a.stage.now _ f.result _ _ _ f.ensures at (length a.chunk.now) (omega (arith, h, l, length-drop at a.chunk.now))
+    feeds_fit c.start-s.result _ a.carry.now a.first a.stage.now _ f.result _ _ _ f.ensures at (length a.chunk.now) (omega (arith, h, l, length-drop at a.chunk.now))
 
-returns-2 : tie.Need-returns-2
+returns-2 : tie.Need-returns
 returns-2 c =
-    let a = c.before.before.before.before.before.before.before.before.before.before.before.before.before.before.before.before.before.before.before.before.before.before.args in
-    let b = c.before.before.before.before.before.before.before.before.before.before.before.before.before.before.before.before.before.pass-blank in
-    let s = c.before.before.before.before.before.before.before.before.before.before.before.before.before.before.start in
-    let f = c.before.before.before.before.before.before.before.feed in
-    front_dump a.kind a.cr a.chunk.now a.carry.now a.first a.stage.now a.stated.now b.result b.ensures (ne_eqb _ _ c.before.before.before.before.before.before.before.before.before.before.before.before.before.before.before.before.if1.false) s.result _ s.ensures _ (rest_is b.result.at a.chunk.now)
+    let a = c.args in
+    let b = c.pass_blank-blank in
+    let s = c.start-s in
+    let f = c.feed-reply in
+    front_dump a.kind a.cr a.chunk.now a.carry.now a.first a.stage.now a.stated.now b.result b.ensures (ne_eqb _ _ c.if-at-chunk.false) s.result _ s.ensures _ (rest_is b.result.at a.chunk.now)
     f.result _ _ _ f.ensures c.tell.result c.tell.ensures
 
 pub feed_front_spec : {M : Type 1} → statement M

@@ -7,21 +7,21 @@ use Rattle.listen.proofs.Testing.{tested_small, tested_bad, tested_so}
 use Rattle.listen.proofs.feed_new.Statement.{statement}
 use Rattle.listen.proofs.feed_new.Tie as tie
 
-returns : tie.Need-returns
+returns : tie.Need-returns-then-carry-lt-MOST_KEPT
 returns c =
-    let a = c.before.before.before.before.before.before.args in
-    tested_small _ a.l a.carry.now a.first a.stage.now a.stated.now c.stay.result (lt-ltb _ _ c.before.if1.true) c.stay.ensures _
+    let a = c.args in
+    tested_small _ a.l a.carry.now a.first a.stage.now a.stated.now c.stay.result (lt-ltb _ _ c.if-carry-lt-MOST_KEPT.true) c.stay.ensures _
 
-returns-2 : tie.Need-returns-2
+returns-2 : tie.Need-returns-then-is_unfit
 returns-2 c =
-    let a = c.before.before.before.before.before.before.before.before.args in
-    tested_bad _ a.l a.carry.now a.first a.stage.now a.stated.now c.refuse.result (le-ltb _ _ c.before.before.before.if1.false) (sym c.before.before.is-unfit.ensures.answer ∙ c.before.if2.true) c.refuse.ensures _
+    let a = c.args in
+    tested_bad _ a.l a.carry.now a.first a.stage.now a.stated.now c.refuse.result (le-ltb _ _ c.if-carry-lt-MOST_KEPT.false) (sym c.is_unfit.ensures.answer ∙ c.if-is_unfit.true) c.refuse.ensures _
 
-returns-3 : tie.Need-returns-3
+returns-3 : tie.Need-returns
 returns-3 c =
-    let a = c.before.before.before.before.before.before.before.before.before.before.before.before.before.before.before.before.before.args in
-    let f = c.before.before.before.before.before.before.feed-front in
-    tested_so _ a.l a.carry.now a.first a.stage.now a.stated.now f.result (le-ltb _ _ c.before.before.before.before.before.before.before.before.before.before.before.before.if1.false) (sym c.before.before.before.before.before.before.before.before.before.before.before.is-unfit.ensures.answer ∙ c.before.before.before.before.before.before.before.before.before.before.if2.false) _ _ _ _ f.ensures
+    let a = c.args in
+    let f = c.feed_front in
+    tested_so _ a.l a.carry.now a.first a.stage.now a.stated.now f.result (le-ltb _ _ c.if-carry-lt-MOST_KEPT.false) (sym c.is_unfit.ensures.answer ∙ c.if-is_unfit.false) _ _ _ _ f.ensures
 
 pub feed_new_spec : {M : Type 1} → statement M
 feed_new_spec =

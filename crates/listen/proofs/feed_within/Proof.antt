@@ -24,33 +24,31 @@ others = 0 ∷ 2 ∷ []
 undecided : (r : Reply) → OneOf others (tag_of the_type r) → (l : Loading) (used : ℕ) → r ≡ Decided l used → ⊥
 undecided r h l used e = miss others 1 tt (subst (λ (x : Reply). OneOf others (tag_of the_type x)) e h)
 
-returns : tie.Need-returns
+returns : tie.Need-returns-then-is_unfit
 returns c =
-    let a = c.before.before.before.before.before.before.before.before.before.before.before.before.before.before.before.before.before.before.before.before.args in
-    let f = c.before.before.before.before.before.before.before.before.before.before.before.before.feed in
-    let k = c.before.before.before.before.reply.given in
-    heard_bad a.s a.chunk.now a.carry.now a.first a.stage.now a.stated.now f.result _ _ _ f.ensures c.refuse.result k.0.0 k.0.1.0 k.1
-    (ap₂ (unfit a.first) (sym f.auto.1.1.1.1.0) (sym f.auto.1.1.1.1.1.0) ∙ sym c.before.before.is-unfit.ensures.answer ∙ c.before.if1.true) c.refuse.ensures
+    let a = c.args in
+    let f = c.feed-reply in
+    heard_bad a.s a.chunk.now a.carry.now a.first a.stage.now a.stated.now f.result _ _ _ f.ensures c.refuse.result c.in-Decided.answer c.in-Decided.used c.in-Decided.is
+    (ap₂ (unfit a.first) (sym f.auto.stage) (sym f.auto.stated) ∙ sym c.is_unfit.ensures.answer ∙ c.if-is_unfit.true) c.refuse.ensures
 
-returns-2 : tie.Need-returns-2
+returns-2 : tie.Need-returns-in-Decided
 returns-2 c =
-    let a = c.before.before.before.before.before.before.before.before.before.before.before.before.before.before.before.before.before.before.before.before.args in
-    let f = c.before.before.before.before.before.before.before.before.before.before.before.before.feed in
-    let k = c.before.before.before.before.reply.given in
-    heard_decided a.s a.chunk.now a.carry.now a.first a.stage.now a.stated.now f.result _ _ _ f.ensures c.decide.result k.0.0 k.0.1.0 k.1
-    (ap₂ (unfit a.first) (sym f.auto.1.1.1.1.0) (sym f.auto.1.1.1.1.1.0) ∙ sym c.before.before.is-unfit.ensures.answer ∙ c.before.if1.false) c.decide.ensures
+    let a = c.args in
+    let f = c.feed-reply in
+    heard_decided a.s a.chunk.now a.carry.now a.first a.stage.now a.stated.now f.result _ _ _ f.ensures c.decide.result c.in-Decided.answer c.in-Decided.used c.in-Decided.is
+    (ap₂ (unfit a.first) (sym f.auto.stage) (sym f.auto.stated) ∙ sym c.is_unfit.ensures.answer ∙ c.if-is_unfit.false) c.decide.ensures
 
 tell-requires : tie.Need-tell-requires
 tell-requires c κs =
-    let a = c.before.before.before.before.before.before.before.before.before.before.before.before.before.before.before.args in
-    let f = c.before.before.before.before.before.before.before.feed in
+    let a = c.args in
+    let f = c.feed-reply in
     feeds_fit a.s a.chunk.now a.carry.now a.first a.stage.now a.stated.now f.result _ _ _ f.ensures 0 (length a.chunk.now) (omega arith)
 
-returns-3 : tie.Need-returns-3
+returns-3 : tie.Need-returns
 returns-3 c =
-    let a = c.before.before.before.before.before.before.before.before.before.before.before.before.before.before.before.before.args in
-    let f = c.before.before.before.before.before.before.before.before.feed in
-    heard_else a.s a.chunk.now a.carry.now a.first a.stage.now a.stated.now f.result _ _ _ f.ensures c.tell.result (undecided f.result c.before.match.keys2) c.tell.ensures
+    let a = c.args in
+    let f = c.feed-reply in
+    heard_else a.s a.chunk.now a.carry.now a.first a.stage.now a.stated.now f.result _ _ _ f.ensures c.tell.result (undecided f.result c.in_default.keys2) c.tell.ensures
 
 pub feed_within_spec : {M : Type 1} → statement M
 feed_within_spec =

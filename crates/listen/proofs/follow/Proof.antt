@@ -7,11 +7,11 @@ use Rattle.listen.proofs.Telling.{after_accepted, after_refused}
 use Rattle.listen.proofs.follow.Statement.{statement}
 use Rattle.listen.proofs.follow.Tie as tie
 
-returns : tie.Need-returns
-returns c = let a = c.before.before.args in after_accepted a.kind a.answer (sym c.before.is_accepted.ensures.answer ∙ c.if1.true)
+returns : tie.Need-returns-then-is_accepted
+returns c = let a = c.args in after_accepted a.kind a.answer (sym c.is_accepted.ensures.answer ∙ c.if-is_accepted.true)
 
-returns-2 : tie.Need-returns-2
-returns-2 c = let a = c.before.before.before.args in ap Within c.begin-tail.ensures.answer ∙ after_refused a.kind a.answer (sym c.before.before.is_accepted.ensures.answer ∙ c.before.if1.false)
+returns-2 : tie.Need-returns
+returns-2 c = let a = c.args in ap Within c.begin_tail.ensures.answer ∙ after_refused a.kind a.answer (sym c.is_accepted.ensures.answer ∙ c.if-is_accepted.false)
 
 pub follow_spec : {M : Type 1} → statement M
 follow_spec = tie.close (tie.spec (λ c κs. search rules) returns (λ c κs. search rules) returns-2)

@@ -11,42 +11,42 @@ use Rattle.listen.proofs.Blanks.{Stands, stands_first, stands_next, stands_there
 use Rattle.listen.proofs.pass_blank.Statement.{statement}
 use Rattle.listen.proofs.pass_blank.Tie as tie
 
-abbrev invariant-loop : tie.invariant-loop
+abbrev invariant-loop : tie.invariant-loop-at
 invariant-loop chunk cr at₀ waits₀ at waits = Stands chunk cr waits at
 
-abbrev decreases-loop : tie.decreases-loop
+abbrev decreases-loop : tie.decreases-loop-at
 decreases-loop chunk cr at₀ waits₀ at waits = length chunk - at
 
-loop-holds : tie.Need-loop-init invariant-loop decreases-loop
-loop-holds c = let a = c.before.args in stands_first a.chunk.now a.cr
+loop-holds : tie.Need-loop-at-init invariant-loop decreases-loop
+loop-holds c = let a = c.args in stands_first a.chunk.now a.cr
 
-shared-slice-read-byte : tie.Need-shared-slice-read-byte invariant-loop decreases-loop
+shared-slice-read-byte : tie.Need-bounds-chunk-at invariant-loop decreases-loop
 shared-slice-read-byte c = omega arith
 
-returns : tie.Need-returns invariant-loop decreases-loop
+returns : tie.Need-returns-then-not-is_blank invariant-loop decreases-loop
 returns c =
-    let a = c.before.before.before.before.before.before.args in
-    let l = c.before.before.before.before.loop in
-    stands_there a.chunk.now a.cr l.waits l.at c.before.before.before.loop-test.true l.invariant (sym c.before.is_blank.ensures ∙ not-true c.before.is_blank.result c.if1.true)
+    let a = c.args in
+    let l = c.loop-at in
+    stands_there a.chunk.now a.cr l.waits l.at c.loop-at-test.true l.invariant (sym c.is_blank.ensures ∙ not-true c.is_blank.result c.if-not-is_blank.true)
 
-add_at : tie.Need-overflow-add-at invariant-loop decreases-loop
-add_at c = omega (arith, c.before.before.before.before.loop-test.true)
+add_at : tie.Need-overflow_add-at invariant-loop decreases-loop
+add_at c = omega (arith, c.loop-at-test.true)
 
-loop-less : tie.Need-loop-smaller invariant-loop decreases-loop
-loop-less c = omega (arith, c.before.before.before.before.loop-test.true)
+loop-less : tie.Need-loop-at-smaller invariant-loop decreases-loop
+loop-less c = omega (arith, c.loop-at-test.true)
 
-loop-again : tie.Need-loop-preserved invariant-loop decreases-loop
+loop-again : tie.Need-loop-at-preserved invariant-loop decreases-loop
 loop-again c =
-    let a = c.before.before.before.before.before.before.before.args in
-    let l = c.before.before.before.before.before.loop in
-    subst (λ (w : Bool). Stands a.chunk.now a.cr w (l.at + 1)) (sym c.is-cr.ensures)
-    (stands_next a.chunk.now a.cr l.waits l.at c.before.before.before.before.loop-test.true l.invariant (sym c.before.before.is_blank.ensures ∙ not-false c.before.before.is_blank.result c.before.if1.false))
+    let a = c.args in
+    let l = c.loop-at in
+    subst (λ (w : Bool). Stands a.chunk.now a.cr w (l.at + 1)) (sym c.is_cr-waits.ensures)
+    (stands_next a.chunk.now a.cr l.waits l.at c.loop-at-test.true l.invariant (sym c.is_blank.ensures ∙ not-false c.is_blank.result c.if-not-is_blank.false))
 
-returns-2 : tie.Need-returns-2 invariant-loop decreases-loop
+returns-2 : tie.Need-returns invariant-loop decreases-loop
 returns-2 c =
-    let a = c.before.before.before.args in
-    let l = c.before.loop in
-    stands_last a.chunk.now a.cr l.waits l.at c.loop-test.false l.invariant
+    let a = c.args in
+    let l = c.loop-at in
+    stands_last a.chunk.now a.cr l.waits l.at c.loop-at-test.false l.invariant
 
 pub pass_blank_spec : {M : Type 1} → statement M
 pass_blank_spec =

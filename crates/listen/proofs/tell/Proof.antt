@@ -8,20 +8,19 @@ use Rattle.listen.specs.Helpers.{Fits}
 use Rattle.listen.proofs.tell.Statement.{statement}
 use Rattle.listen.proofs.tell.Tie as tie
 
-add-decide : tie.Need-overflow-add-decide
+add-decide : tie.Need-overflow_add-before
 add-decide c =
-    let s = c.before.before.before in
-    let h = subst (Fits s.args.before s.args.whole) c.before.reply2.given.1 s.requires in
+    let h = subst (Fits c.args.before c.args.whole) c.in-Decided.is c.requires in
     omega (arith, h)
 
-returns : tie.Need-returns
-returns c = let a = c.before.before.before.args in sym (ap (step_by a.s a.before a.whole) c.before.reply.given.1)
+returns : tie.Need-returns-in-WantsMore
+returns c = let a = c.args in sym (ap (step_by a.s a.before a.whole) c.in-WantsMore.is)
 
-returns-2 : tie.Need-returns-2
-returns-2 c = let a = c.before.before.before.before.args in c.decide.ensures ∙ sym (ap (step_by a.s a.before a.whole) c.before.before.reply2.given.1)
+returns-2 : tie.Need-returns-in-Decided
+returns-2 c = let a = c.args in c.decide.ensures ∙ sym (ap (step_by a.s a.before a.whole) c.in-Decided.is)
 
-returns-3 : tie.Need-returns-3
-returns-3 c = let a = c.before.before.before.args in c.stay.ensures ∙ sym (ap (step_by a.s a.before a.whole) c.before.enum_told.given.1)
+returns-3 : tie.Need-returns-in-CarryTooSmall
+returns-3 c = let a = c.args in c.stay.ensures ∙ sym (ap (step_by a.s a.before a.whole) c.in-CarryTooSmall.is)
 
 pub tell_spec : {M : Type 1} → statement M
 tell_spec =

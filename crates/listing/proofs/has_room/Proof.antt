@@ -8,11 +8,11 @@ use Rattle.listing.proofs.Lines.{room_half}
 use Rattle.listing.proofs.has_room.Statement.{statement}
 use Rattle.listing.proofs.has_room.Tie as tie
 
-returns : tie.Need-returns
-returns c = let a = c.before.args in sym (lt-leb (2 * a.given + 32) a.out (omega arith))
+returns : tie.Need-returns-then-out-lt32
+returns c = let a = c.args in sym (lt-leb (2 * a.given + 32) a.out (omega arith))
 
-returns-2 : tie.Need-returns-2
-returns-2 c = let a = c.before.args in room_half a.given a.out c.if1.false
+returns-2 : tie.Need-returns
+returns-2 c = let a = c.args in room_half a.given a.out c.if-out-lt32.false
 
 pub has_room_spec : {M : Type 1} → statement M
 has_room_spec = tie.close (tie.spec returns returns-2)

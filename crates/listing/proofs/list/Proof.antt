@@ -15,54 +15,54 @@ use borrow.Author.Rules.{rules}
 use Rattle.listing.proofs.list.Statement.{statement}
 use Rattle.listing.proofs.list.Tie as tie
 
-returns : tie.Need-returns
+returns : tie.Need-returns-then-not-text_room
 returns c =
-    let a = c.before.before.before.before.args in
-    lists_full a.text.now a.out.now (leb-false _ _ (sym c.before.text_room.ensures ∙ not-true _ c.if1.true))
+    let a = c.args in
+    lists_full a.text.now a.out.now (leb-false _ _ (sym c.text_room.ensures ∙ not-true _ c.if-not-text_room.true))
 
 -- past the first test there is room
-roomy : (c : tie.Else1) → 3 * length c.before.before.before.before.args.text.now + 32 ≤ length c.before.before.before.before.args.out.now
-roomy c = leb-true _ _ (sym c.before.text_room.ensures ∙ not-false _ c.if1.false)
+roomy : (c : tie.Else-not-text_room) → 3 * length c.args.text.now + 32 ≤ length c.args.out.now
+roomy c = leb-true _ _ (sym c.text_room.ensures ∙ not-false _ c.if-not-text_room.false)
 
-put-text-requires : tie.Need-put-text-requires
-put-text-requires c κs = omega (arith, roomy c.before.before.before)
+put-text-requires : tie.Need-put_text-requires
+put-text-requires c κs = omega (arith, roomy c.before.before.before.before)
 
-returns-2 : tie.Need-returns-2
+returns-2 : tie.Need-returns-then-text-gt-LONGEST_TEXT
 returns-2 c =
-    let a = c.before.before.before.before.before.before.before.before.before.before.args in
-    let p = c.before.before.put-text in
-    lists_wrote a.text.now a.out.now p.result p.new.1.0 (ended (text "input too long")) (roomy c.before.before.before.before.before.before) (listing_long a.text.now (omega (arith, c.before.before.before.before.before.if2.true))) p.ensures
+    let a = c.args in
+    let p = c.put_text in
+    lists_wrote a.text.now a.out.now p.result p.new.out (ended (text "input too long")) (roomy c.before.before.before.before.before.before.before) (listing_long a.text.now (omega (arith, c.if-text-gt-LONGEST_TEXT.true))) p.ensures
 
-put-first-requires : tie.Need-put-first-requires
+put-first-requires : tie.Need-put_first-first-requires
 put-first-requires c κs = omega (arith, roomy c.before.before)
 
-put-entries-requires : tie.Need-put-entries-requires
+put-entries-requires : tie.Need-put_entries-entries-requires
 put-entries-requires c κs =
-    let p = c.before.before.before.put_first in
-    record { small = omega (arith, c.before.before.before.before.before.if2.false); room = omega (arith, roomy c.before.before.before.before.before.before, answers_room c.before.before.before.before.before.before.before.before.before.before.args.text.now, p.ensures.place, p.auto) }
+    let p = c.put_first-first in
+    record { small = omega (arith, c.if-text-gt-LONGEST_TEXT.false); room = omega (arith, roomy c.before.before.before.before.before.before, answers_room c.args.text.now, p.ensures.place, p.auto) }
 
-put-last-requires : tie.Need-put-last-requires
+put-last-requires : tie.Need-put_last-requires
 put-last-requires c κs =
-    let a = c.before.before.before.before.before.before.before.before.before.before.before.before.before.before.args in
-    let p = c.before.before.before.before.before.before.before.put_first in
-    let e = c.before.before.before.put_entries in
-    omega (arith, roomy c.before.before.before.before.before.before.before.before.before.before, answers_room a.text.now, p.ensures.place, p.auto, e.ensures.puts.place, e.auto, count_length a.text.now (omega (arith, c.before.before.before.before.before.before.before.before.before.if2.false)) e.result.count e.ensures.counts)
+    let a = c.args in
+    let p = c.put_first-first in
+    let e = c.put_entries-entries in
+    omega (arith, roomy c.before.before.before.before.before.before.before.before.before.before, answers_room a.text.now, p.ensures.place, p.auto, e.ensures.puts.place, e.auto, count_length a.text.now (omega (arith, c.if-text-gt-LONGEST_TEXT.false)) e.result.count e.ensures.counts)
 
-returns-3 : tie.Need-returns-3
+returns-3 : tie.Need-returns
 returns-3 c =
-    let a = c.before.before.before.before.before.before.before.before.before.before.before.before.before.before.before.before.before.args in
-    let e = c.before.before.before.before.before.before.put_entries in
-    let p = c.before.before.put_last in
+    let a = c.args in
+    let e = c.put_entries-entries in
+    let p = c.put_last in
     let o = a.out.now in
     let xs = entries (answers a.text.now) in
     let room = roomy c.before.before.before.before.before.before.before.before.before.before.before.before.before in
-    let small : length a.text.now ≤ 65536 = omega (arith, c.before.before.before.before.before.before.before.before.before.before.before.before.if2.false) in
+    let small : length a.text.now ≤ 65536 = omega (arith, c.if-text-gt-LONGEST_TEXT.false) in
     let n = answers_room a.text.now in
     let l = length-append heading xs in
-    lists_wrote a.text.now o p.result p.new.1.0
+    lists_wrote a.text.now o p.result p.new.out
     (heading ++ xs ++ count_line e.result.count) room
     (listing_short a.text.now small e.result.count e.ensures.counts)
-    (put_then o 0 (omega arith) (put_then o 0 (omega arith) c.before.before.before.before.before.before.before.before.before.before.put_first.ensures e.ensures.puts) p.ensures)
+    (put_then o 0 (omega arith) (put_then o 0 (omega arith) c.put_first-first.ensures e.ensures.puts) p.ensures)
 
 pub list_spec : {M : Type 1} → statement M
 list_spec =

@@ -11,19 +11,19 @@ use borrow.Author.Rules.{rules}
 use Rattle.listing.proofs.list_first.Statement.{statement}
 use Rattle.listing.proofs.list_first.Tie as tie
 
-returns : tie.Need-returns
+returns : tie.Need-returns-then-not-has_room
 returns c =
-    let a = c.before.before.before.args in
-    writes_none (line_room 0 (length a.out.now)) heading a.out.now (sym c.before.has_room.ensures ∙ not-true _ c.if1.true)
+    let a = c.args in
+    writes_none (line_room 0 (length a.out.now)) heading a.out.now (sym c.has_room.ensures ∙ not-true _ c.if-not-has_room.true)
 
-put-first-requires : tie.Need-put-first-requires
-put-first-requires c κs = omega (arith, leb-true 32 (length c.before.before.before.before.args.out.now) (sym c.before.before.has_room.ensures ∙ not-false _ c.before.if1.false))
+put-first-requires : tie.Need-put_first-requires
+put-first-requires c κs = omega (arith, leb-true 32 (length c.args.out.now) (sym c.has_room.ensures ∙ not-false _ c.if-not-has_room.false))
 
-returns-2 : tie.Need-returns-2
+returns-2 : tie.Need-returns
 returns-2 c =
-    let a = c.before.before.before.before.before.before.before.args in
-    let p = c.before.before.put_first in
-    writes_put (line_room 0 (length a.out.now)) heading a.out.now p.result p.new.0 (sym c.before.before.before.before.before.has_room.ensures ∙ not-false _ c.before.before.before.before.if1.false) p.ensures
+    let a = c.args in
+    let p = c.put_first in
+    writes_put (line_room 0 (length a.out.now)) heading a.out.now p.result p.new.out (sym c.has_room.ensures ∙ not-false _ c.if-not-has_room.false) p.ensures
 
 pub list_first_spec : {M : Type 1} → statement M
 list_first_spec = tie.close (tie.spec (λ c κs. search rules) returns put-first-requires (λ c. search rules) returns-2)

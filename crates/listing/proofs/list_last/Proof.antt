@@ -12,21 +12,21 @@ use borrow.Author.Rules.{rules}
 use Rattle.listing.proofs.list_last.Statement.{statement}
 use Rattle.listing.proofs.list_last.Tie as tie
 
-returns : tie.Need-returns
+returns : tie.Need-returns-then-not-has_room
 returns c =
-    let a = c.before.before.before.args in
-    writes_none (line_room 0 (length a.out.now)) (count_line a.count) a.out.now (sym c.before.has_room.ensures ∙ not-true _ c.if1.true)
+    let a = c.args in
+    writes_none (line_room 0 (length a.out.now)) (count_line a.count) a.out.now (sym c.has_room.ensures ∙ not-true _ c.if-not-has_room.true)
 
-put-last-requires : tie.Need-put-last-requires
+put-last-requires : tie.Need-put_last-requires
 put-last-requires c κs =
-    let a = c.before.before.before.before.args in
-    omega (arith, count_fits a.count c.before.before.before.before.ranges.count.fits, leb-true 32 (length a.out.now) (sym c.before.before.has_room.ensures ∙ not-false _ c.before.if1.false))
+    let a = c.args in
+    omega (arith, count_fits a.count c.ranges.count.fits, leb-true 32 (length a.out.now) (sym c.has_room.ensures ∙ not-false _ c.if-not-has_room.false))
 
-returns-2 : tie.Need-returns-2
+returns-2 : tie.Need-returns
 returns-2 c =
-    let a = c.before.before.before.before.before.before.before.args in
-    let p = c.before.before.put_last in
-    writes_put (line_room 0 (length a.out.now)) (count_line a.count) a.out.now p.result p.new.1.0 (sym c.before.before.before.before.before.has_room.ensures ∙ not-false _ c.before.before.before.before.if1.false) p.ensures
+    let a = c.args in
+    let p = c.put_last in
+    writes_put (line_room 0 (length a.out.now)) (count_line a.count) a.out.now p.result p.new.out (sym c.has_room.ensures ∙ not-false _ c.if-not-has_room.false) p.ensures
 
 pub list_last_spec : {M : Type 1} → statement M
 list_last_spec = tie.close (tie.spec (λ c κs. search rules) returns put-last-requires (λ c. search rules) returns-2)

@@ -13,11 +13,11 @@ use Rattle.listing.proofs.put_byte.Tie as tie
 returns : tie.Need-returns
 unfolding spelt
 returns c =
-    let a = c.before.before.before.before.before.before.before.before.before.before.before.args in
+    let a = c.args in
     let s : a.b < 256 = search rules in
     let h : a.b / 16 % 16 ≡ a.b / 16 = omega arith in
-    put_as a.out.now a.at (ap₂ (λ (x y : ℕ). x ∷ y ∷ []) (c.before.before.before.before.before.before.before.before.before.capital_digit.ensures.answer ∙ ap capital_digit h) c.before.before.before.before.capital-digit2.ensures.answer)
-    (put_then a.out.now a.at (omega (arith, c.before.before.before.before.before.before.before.before.before.before.before.requires)) c.before.before.before.before.before.before.before.put-char.ensures c.before.before.put-char2.ensures)
+    put_as a.out.now a.at (ap₂ (λ (x y : ℕ). x ∷ y ∷ []) (c.capital_digit.ensures.answer ∙ ap capital_digit h) c.capital_digit-2.ensures.answer)
+    (put_then a.out.now a.at (omega (arith, c.requires)) c.put_char-low.ensures c.put_char.ensures)
 
 pub put_byte_spec : {M : Type 1} → statement M
 put_byte_spec =

@@ -8,42 +8,42 @@ use borrow.Author.Rules.{rules}
 use Rattle.listing.proofs.put_data.Statement.{statement}
 use Rattle.listing.proofs.put_data.Tie as tie
 
-put-text-requires : tie.Need-put-text-requires
-put-text-requires c κs = let a = c.before.before.before.before.args in omega (arith, c.before.before.before.before.requires, data_length a.offset a.payload.now)
+put-text-requires : tie.Need-put_text-address-requires
+put-text-requires c κs = let a = c.args in omega (arith, c.requires, data_length a.offset a.payload.now)
 
-put-word-requires : tie.Need-put-word-requires
-put-word-requires c κs = let a = c.before.before.before.before.before.before.before.before.args in omega (arith, c.before.before.before.before.before.before.before.before.requires, data_length a.offset a.payload.now, c.before.before.before.put-text.ensures.place)
+put-word-requires : tie.Need-put_word-behind-requires
+put-word-requires c κs = let a = c.args in omega (arith, c.requires, data_length a.offset a.payload.now, c.put_text-address.ensures.place)
 
-returns : tie.Need-returns
+returns : tie.Need-returns-then-payload-eq0
 unfolding spelt
 returns c =
-    let a = c.before.before.before.before.before.before.before.before.before.before.before.before.args in
-    put_as a.out.now a.at (data_none a.offset a.payload.now c.if1.true)
-    (put_then a.out.now a.at (omega (arith, c.before.before.before.before.before.before.before.before.before.before.before.before.requires, data_length a.offset a.payload.now)) c.before.before.before.before.before.before.before.put-text.ensures c.before.before.before.put_word.ensures)
+    let a = c.args in
+    put_as a.out.now a.at (data_none a.offset a.payload.now c.if-payload-eq0.true)
+    (put_then a.out.now a.at (omega (arith, c.requires, data_length a.offset a.payload.now)) c.put_text-address.ensures c.put_word-behind.ensures)
 
-put-char-requires : tie.Need-put-char-requires
+put-char-requires : tie.Need-put_char-bytes-requires
 unfolding spelt
 put-char-requires c κs =
-    let a = c.before.before.before.before.before.before.before.before.before.before.before.before.before.args in
-    omega (arith, c.before.before.before.before.before.before.before.before.before.before.before.before.before.requires, c.before.if1.false, data_length a.offset a.payload.now, payload_length a.payload.now (omega (arith, c.before.if1.false)), c.before.before.before.before.before.before.before.before.put-text.ensures.place, c.before.before.before.before.put_word.ensures.place, c.before.before.before.before.put_word.auto)
+    let a = c.args in
+    omega (arith, c.requires, c.if-payload-eq0.false, data_length a.offset a.payload.now, payload_length a.payload.now (omega (arith, c.if-payload-eq0.false)), c.put_text-address.ensures.place, c.put_word-behind.ensures.place, c.put_word-behind.auto)
 
-put-bytes-requires : tie.Need-put-bytes-requires
+put-bytes-requires : tie.Need-put_bytes-requires
 unfolding spelt
 put-bytes-requires c κs =
-    let a = c.before.before.before.before.before.before.before.before.before.before.before.before.before.before.before.before.before.args in
-    omega (arith, c.before.before.before.before.before.before.before.before.before.before.before.before.before.before.before.before.before.requires, c.before.before.before.before.before.if1.false, data_length a.offset a.payload.now, payload_length a.payload.now (omega (arith, c.before.before.before.before.before.if1.false)), c.before.before.before.before.before.before.before.before.before.before.before.before.put-text.ensures.place, c.before.before.before.before.before.before.before.before.put_word.ensures.place, c.before.before.before.put-char.ensures.place, c.before.before.before.put-char.auto, c.before.before.before.before.before.before.before.before.put_word.auto, c.before.before.before.before.before.before.before.before.before.before.before.before.put-text.auto)
+    let a = c.args in
+    omega (arith, c.requires, c.if-payload-eq0.false, data_length a.offset a.payload.now, payload_length a.payload.now (omega (arith, c.if-payload-eq0.false)), c.put_text-address.ensures.place, c.put_word-behind.ensures.place, c.put_char-bytes.ensures.place, c.put_char-bytes.auto, c.put_word-behind.auto, c.put_text-address.auto)
 
-returns-2 : tie.Need-returns-2
+returns-2 : tie.Need-returns
 unfolding spelt
 returns-2 c =
-    let a = c.before.before.before.before.before.before.before.before.before.before.before.before.before.before.before.before.before.before.before.before.args in
+    let a = c.args in
     let o = a.out.now in
     let n = data_length a.offset a.payload.now in
-    let m = payload_length a.payload.now (omega (arith, c.before.before.before.before.before.before.before.before.if1.false)) in
-    put_as o a.at (data_some a.offset a.payload.now (omega (arith, c.before.before.before.before.before.before.before.before.if1.false)))
-    (put_then o a.at (omega (arith, c.before.before.before.before.before.before.before.before.before.before.before.before.before.before.before.before.before.before.before.before.requires))
-    (put_then o a.at (omega (arith, c.before.before.before.before.before.before.before.before.before.before.before.before.before.before.before.before.before.before.before.before.requires)) (put_then o a.at (omega (arith, c.before.before.before.before.before.before.before.before.before.before.before.before.before.before.before.before.before.before.before.before.requires)) c.before.before.before.before.before.before.before.before.before.before.before.before.before.before.before.put-text.ensures c.before.before.before.before.before.before.before.before.before.before.before.put_word.ensures) c.before.before.before.before.before.before.put-char.ensures)
-    c.before.before.put-bytes.ensures)
+    let m = payload_length a.payload.now (omega (arith, c.if-payload-eq0.false)) in
+    put_as o a.at (data_some a.offset a.payload.now (omega (arith, c.if-payload-eq0.false)))
+    (put_then o a.at (omega (arith, c.requires))
+    (put_then o a.at (omega (arith, c.requires)) (put_then o a.at (omega (arith, c.requires)) c.put_text-address.ensures c.put_word-behind.ensures) c.put_char-bytes.ensures)
+    c.put_bytes.ensures)
 
 pub put_data_spec : {M : Type 1} → statement M
 put_data_spec =

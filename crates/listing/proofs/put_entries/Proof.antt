@@ -10,74 +10,74 @@ use borrow.Author.Rules.{rules}
 use Rattle.listing.proofs.put_entries.Statement.{statement}
 use Rattle.listing.proofs.put_entries.Tie as tie
 
-abbrev invariant-loop : tie.invariant-loop
+abbrev invariant-loop : tie.invariant-loop-pool
 invariant-loop text out₀ at pool₀ state₀ place₀ count₀ out pool state place count = Turn text out₀ at out pool state place count
 
-abbrev decreases-loop : tie.decreases-loop
+abbrev decreases-loop : tie.decreases-loop-pool
 decreases-loop text out₀ at pool₀ state₀ place₀ count₀ out pool state place count = length (left state text)
 
 -- a call that did not say "done"
-answered : (c : tie.Else1 invariant-loop decreases-loop)
-    → let n = c.before.before.before.next in
-    let t = c.before.before.before.before.before.loop in
-    Shown c.before.before.before.before.before.before.before.before.before.before.args.text.now t.state n.result.reply n.result.state n.new.1.1.0
+answered : (c : tie.Else-done invariant-loop decreases-loop)
+    → let n = c.next-step in
+    let t = c.loop-pool in
+    Shown c.args.text.now t.state n.result.reply n.result.state n.new.pool
 answered c =
-    let t = c.before.before.before.before.before.loop in
-    let n = c.before.before.before.next in
-    let a = c.before.before.before.before.before.before.before.before.before.before.args in
-    turned a.text.now t.state t.pool t.invariant.way n.result n.new.1.1.0 n.ensures
-    (sym c.before.«done».ensures ∙ c.if1.false)
+    let t = c.loop-pool in
+    let n = c.next-step in
+    let a = c.args in
+    turned a.text.now t.state t.pool t.invariant.way n.result n.new.pool n.ensures
+    (sym c.done.ensures ∙ c.if-done.false)
 
-loop-holds : tie.Need-loop-init invariant-loop decreases-loop
+loop-holds : tie.Need-loop-pool-init invariant-loop decreases-loop
 loop-holds c =
-    let a = c.before.before.before.before.args in
-    turn_first a.text.now a.out.now a.at _ c.new-with-options.result (c.new-with-options.ensures.answer ∙ ap new_state c.before.listing_options.ensures.answer) refl (omega arith)
+    let a = c.args in
+    turn_first a.text.now a.out.now a.at _ c.new_with_options-state.result (c.new_with_options-state.ensures.answer ∙ ap new_state c.listing_options.ensures.answer) refl (omega arith)
 
-slice-aggregate-next : tie.Need-slice-aggregate-next invariant-loop decreases-loop
-slice-aggregate-next c = omega (arith, c.before.loop.invariant.way.pool_size)
+slice-aggregate-next : tie.Need-slice_bounds-next-end invariant-loop decreases-loop
+slice-aggregate-next c = omega (arith, c.loop-pool.invariant.way.pool_size)
 
-returns : tie.Need-returns invariant-loop decreases-loop
+returns : tie.Need-returns-then-done invariant-loop decreases-loop
 returns c =
-    let a = c.before.before.before.before.before.before.before.before.before.before.args in
-    let t = c.before.before.before.before.before.loop in
-    let n = c.before.before.before.next in
-    turn_last a.text.now a.out.now a.at t.out t.pool t.state t.place t.count t.invariant c.before.before.before.before.before.before.before.before.before.before.requires.room
-    (ran_out a.text.now t.state t.pool t.invariant.way n.result n.new.1.1.0 n.ensures (sym c.before.done.ensures ∙ c.if1.true))
+    let a = c.args in
+    let t = c.loop-pool in
+    let n = c.next-step in
+    turn_last a.text.now a.out.now a.at t.out t.pool t.state t.place t.count t.invariant c.requires.room
+    (ran_out a.text.now t.state t.pool t.invariant.way n.result n.new.pool n.ensures (sym c.done.ensures ∙ c.if-done.true))
 
-put-reply-requires : tie.Need-put-reply-requires invariant-loop decreases-loop
+put-reply-requires : tie.Need-put_reply-place-requires invariant-loop decreases-loop
 put-reply-requires c κs =
-    let a = c.before.before.before.before.before.before.before.before.before.before.before.before.args in
-    let t = c.before.before.before.before.before.before.before.loop in
-    let n = c.before.before.before.before.before.next in
+    let a = c.args in
+    let t = c.loop-pool in
+    let n = c.next-step in
     let h = answered c.before.before in
-    turn_room a.text.now a.out.now a.at t.out t.pool t.state t.place t.count t.invariant c.before.before.before.before.before.before.before.before.before.before.before.before.requires.room n.result.reply n.result.state n.new.1.1.0 h
+    turn_room a.text.now a.out.now a.at t.out t.pool t.state t.place t.count t.invariant c.requires.room n.result.reply n.result.state n.new.pool h
 
-add-count : tie.Need-overflow-add-count invariant-loop decreases-loop
+add-count : tie.Need-overflow_add-count invariant-loop decreases-loop
 add-count c =
-    let a = c.before.before.before.before.before.before.before.before.before.before.before.before.before.before.before.before.args in
-    let t = c.before.before.before.before.before.before.before.before.before.before.before.loop in
-    let n = c.before.before.before.before.before.before.before.before.before.next in
+    let a = c.args in
+    let t = c.loop-pool in
+    let n = c.next-step in
     let h = answered c.before.before.before.before.before.before in
-    let k = turn_count a.text.now a.out.now a.at t.out t.pool t.state t.place t.count t.invariant c.before.before.before.before.before.before.before.before.before.before.before.before.before.before.before.before.requires.room n.result.reply n.result.state n.new.1.1.0 h in
-    omega (arith, answers_most a.text.now, c.before.before.before.before.before.before.before.before.before.before.before.before.before.before.before.before.requires.small)
+    let k = turn_count a.text.now a.out.now a.at t.out t.pool t.state t.place t.count t.invariant c.requires.room n.result.reply n.result.state n.new.pool h in
+    omega (arith, answers_most a.text.now, c.requires.small)
 
-loop-less : tie.Need-loop-smaller invariant-loop decreases-loop
+loop-less : tie.Need-loop-pool-smaller invariant-loop decreases-loop
 loop-less c =
-    let a = c.before.before.before.before.before.before.before.before.before.before.before.before.before.before.before.before.args in
-    let t = c.before.before.before.before.before.before.before.before.before.before.before.loop in
-    let n = c.before.before.before.before.before.before.before.before.before.next in
+    let a = c.args in
+    let t = c.loop-pool in
+    let n = c.next-step in
     let h = answered c.before.before.before.before.before.before in
     omega (arith, ap length h.listed)
 
-loop-again : tie.Need-loop-preserved invariant-loop decreases-loop
+loop-again : tie.Need-loop-pool-preserved invariant-loop decreases-loop
 loop-again c =
-    let a = c.before.before.before.before.before.before.before.before.before.before.before.before.before.before.before.before.args in
-    let t = c.before.before.before.before.before.before.before.before.before.before.before.loop in
-    let n = c.before.before.before.before.before.before.before.before.before.next in
+    let a = c.args in
+    let t = c.loop-pool in
+    let n = c.next-step in
     let h = answered c.before.before.before.before.before.before in
-    let p = c.before.before.before.put-reply in
-    turn_more a.text.now a.out.now a.at t.out t.pool t.state t.place t.count t.invariant c.before.before.before.before.before.before.before.before.before.before.before.before.before.before.before.before.requires.room n.result.reply n.result.state n.new.1.1.0 h
-    p.new.1.1.0 p.result p.ensures p.auto.1.1.0 (n.auto.1.1.0 ∙ t.invariant.way.pool_size)
+    let p = c.put_reply-place in
+    turn_more a.text.now a.out.now a.at t.out t.pool t.state t.place t.count t.invariant c.requires.room n.result.reply n.result.state n.new.pool h
+    p.new.out p.result p.ensures p.auto.out (n.auto.pool ∙ t.invariant.way.pool_size)
 
 pub put_entries_spec : {M : Type 1} → statement M
 put_entries_spec =

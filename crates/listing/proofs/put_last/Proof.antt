@@ -11,19 +11,19 @@ use borrow.Author.Rules.{rules}
 use Rattle.listing.proofs.put_last.Statement.{statement}
 use Rattle.listing.proofs.put_last.Tie as tie
 
-put-decimal-requires : tie.Need-put-decimal-requires
-put-decimal-requires c κs = omega (arith, c.before.before.requires, count_line_length c.before.before.args.count)
+put-decimal-requires : tie.Need-put_decimal-behind-requires
+put-decimal-requires c κs = omega (arith, c.requires, count_line_length c.args.count)
 
-put-text-requires : tie.Need-put-text-requires
+put-text-requires : tie.Need-put_text-requires
 put-text-requires c κs =
-    let p = c.before.before.before.before.put-decimal in
-    omega (arith, c.before.before.before.before.before.before.before.requires, count_line_length c.before.before.before.before.before.before.before.args.count, p.ensures.place, p.auto)
+    let p = c.put_decimal-behind in
+    omega (arith, c.requires, count_line_length c.args.count, p.ensures.place, p.auto)
 
 returns : tie.Need-returns
 returns c =
-    let a = c.before.before.before.before.before.before.before.before.before.before.args in
+    let a = c.args in
     put_as a.out.now a.at (sym (append_assoc (decimal a.count) (text " answers") (10 ∷ [])))
-    (put_then a.out.now a.at (omega (arith, c.before.before.before.before.before.before.before.before.before.before.requires, count_line_length a.count)) c.before.before.before.before.before.before.before.put-decimal.ensures c.before.before.put-text.ensures)
+    (put_then a.out.now a.at (omega (arith, c.requires, count_line_length a.count)) c.put_decimal-behind.ensures c.put_text.ensures)
 
 pub put_last_spec : {M : Type 1} → statement M
 put_last_spec =

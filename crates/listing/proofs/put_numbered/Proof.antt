@@ -10,11 +10,11 @@ use Rattle.listing.proofs.put_numbered.Tie as tie
 returns : tie.Need-returns
 unfolding numbered
 returns c =
-    let a = c.before.before.before.before.before.before.before.before.before.before.before.before.before.before.before.before.before.args in
+    let a = c.args in
     let o = a.out.now in
-    put_then o a.at (omega (arith, c.before.before.before.before.before.before.before.before.before.before.before.before.before.before.before.before.before.requires))
-    (put_then o a.at (omega (arith, c.before.before.before.before.before.before.before.before.before.before.before.before.before.before.before.before.before.requires)) (put_then o a.at (omega (arith, c.before.before.before.before.before.before.before.before.before.before.before.before.before.before.before.before.before.requires)) c.before.before.before.before.before.before.before.before.before.before.before.before.before.before.put-char.ensures c.before.before.before.before.before.before.before.before.before.before.put-char2.ensures) c.before.before.before.before.before.before.put-char3.ensures)
-    c.before.before.put_word.ensures
+    put_then o a.at (omega (arith, c.requires))
+    (put_then o a.at (omega (arith, c.requires)) (put_then o a.at (omega (arith, c.requires)) c.put_char-digit.ensures c.put_char-space.ensures) c.put_char-number.ensures)
+    c.put_word.ensures
 
 pub put_numbered_spec : {M : Type 1} → statement M
 put_numbered_spec =

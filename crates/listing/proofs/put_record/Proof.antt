@@ -15,78 +15,76 @@ use borrow.Author.Rules.{rules}
 use Rattle.listing.proofs.put_record.Statement.{statement}
 use Rattle.listing.proofs.put_record.Tie as tie
 
-add-end : tie.Need-overflow-add-end
-add-end c = let l = subst (λ (x : Record). Inside x (length c.before.before.before.before.before.args.pool.now)) c.before.given.given.1 c.before.before.before.before.before.requires.lies in omega (arith, l)
+add-end : tie.Need-overflow_add-end
+add-end c = let l = subst (λ (x : Record). Inside x (length c.args.pool.now)) c.in-Data.is c.requires.lies in omega (arith, l)
 
-part-put-data-end : tie.Need-slice-bounds-put-data-end
-part-put-data-end c = subst (λ (x : Record). Inside x (length c.before.before.before.before.before.args.pool.now)) c.before.given.given.1 c.before.before.before.before.before.requires.lies
+part-put-data-end : tie.Need-slice_bounds-put_data-end
+part-put-data-end c = subst (λ (x : Record). Inside x (length c.args.pool.now)) c.in-Data.is c.requires.lies
 
-put-data-requires : tie.Need-put-data-requires
+put-data-requires : tie.Need-put_data-requires
 put-data-requires c κs =
-    let a = c.before.before.before.before.before.before.before.args in
-    let g = c.before.before.before.given.given.0 in
-    let n : g.1.0 + g.1.1.0 - g.1.0 ≡ g.1.1.0 = omega arith in
-    subst (λ (k : ℕ). a.at + length (record_entry (data_at g.0 (take k (drop g.1.0 a.pool.now)))) ≤ length a.out.now) (sym n)
-    (subst (λ (x : Record). a.at + length (record_entry (meant x a.pool.now)) ≤ length a.out.now) c.before.before.before.given.given.1 c.before.before.before.before.before.before.before.requires.room)
+    let a = c.args in
+    let n : c.in-Data.from + c.in-Data.len - c.in-Data.from ≡ c.in-Data.len = omega arith in
+    subst (λ (k : ℕ). a.at + length (record_entry (data_at c.in-Data.offset (take k (drop c.in-Data.from a.pool.now)))) ≤ length a.out.now) (sym n)
+    (subst (λ (x : Record). a.at + length (record_entry (meant x a.pool.now)) ≤ length a.out.now) c.in-Data.is c.requires.room)
 
-put-char-requires : tie.Need-put-char-requires
+put-char-requires : tie.Need-put_char-requires
 unfolding record_entry numbered spelt
-put-char-requires c κs = omega (arith, c.before.before.before.before.before.requires.room, ap (λ (x : Record). length (record_entry (meant x c.before.before.before.before.before.args.pool.now))) c.before.enum_told.given.1)
+put-char-requires c κs = omega (arith, c.requires.room, ap (λ (x : Record). length (record_entry (meant x c.args.pool.now))) c.in-EndOfFile.is)
 
-put-numbered-requires : tie.Need-put-numbered-requires
+put-numbered-requires : tie.Need-put_numbered-requires
 unfolding record_entry numbered spelt
-put-numbered-requires c κs = omega (arith, c.before.before.before.before.before.before.requires.room, ap (λ (x : Record). length (record_entry (meant x c.before.before.before.before.before.before.args.pool.now))) c.before.before.given2.given.1)
+put-numbered-requires c κs = omega (arith, c.requires.room, ap (λ (x : Record). length (record_entry (meant x c.args.pool.now))) c.in-ExtendedSegmentAddress.is)
 
-put-long-requires : tie.Need-put-long-requires
+put-long-requires : tie.Need-put_long-requires
 unfolding record_entry numbered spelt
-put-long-requires c κs = omega (arith, c.before.before.before.before.before.before.requires.room, ap (λ (x : Record). length (record_entry (meant x c.before.before.before.before.before.before.args.pool.now))) c.before.before.given3.given.1)
+put-long-requires c κs = omega (arith, c.requires.room, ap (λ (x : Record). length (record_entry (meant x c.args.pool.now))) c.in-StartSegmentAddress.is)
 
-put-numbered-requires-2 : tie.Need-put-numbered-requires-2
+put-numbered-requires-2 : tie.Need-put_numbered-requires-in-ExtendedLinearAddress
 unfolding record_entry numbered spelt
-put-numbered-requires-2 c κs = omega (arith, c.before.before.before.before.before.before.requires.room, ap (λ (x : Record). length (record_entry (meant x c.before.before.before.before.before.before.args.pool.now))) c.before.before.given4.given.1)
+put-numbered-requires-2 c κs = omega (arith, c.requires.room, ap (λ (x : Record). length (record_entry (meant x c.args.pool.now))) c.in-ExtendedLinearAddress.is)
 
-put-long-requires-2 : tie.Need-put-long-requires-2
+put-long-requires-2 : tie.Need-put_long-requires-in-StartLinearAddress
 unfolding record_entry numbered spelt
-put-long-requires-2 c κs = omega (arith, c.before.before.before.before.before.before.requires.room, ap (λ (x : Record). length (record_entry (meant x c.before.before.before.before.before.before.args.pool.now))) c.before.before.given5.given.1)
+put-long-requires-2 c κs = omega (arith, c.requires.room, ap (λ (x : Record). length (record_entry (meant x c.args.pool.now))) c.in-StartLinearAddress.is)
 
-returns : tie.Need-returns
+returns : tie.Need-returns-in-Data
 returns c =
-    let a = c.before.before.before.before.before.before.before.before.before.before.args in
-    let g = c.before.before.before.before.before.before.given.given.0 in
-    let n : g.1.0 + g.1.1.0 - g.1.0 ≡ g.1.1.0 = omega arith in
+    let a = c.args in
+    let n : c.in-Data.from + c.in-Data.len - c.in-Data.from ≡ c.in-Data.len = omega arith in
     put_as a.out.now a.at
-    (ap (λ (k : ℕ). record_entry (data_at g.0 (take k (drop g.1.0 a.pool.now)))) n ∙ ap (λ (x : Record). record_entry (meant x a.pool.now)) (sym c.before.before.before.before.before.before.given.given.1))
-    c.before.before.put_data.ensures
+    (ap (λ (k : ℕ). record_entry (data_at c.in-Data.offset (take k (drop c.in-Data.from a.pool.now)))) n ∙ ap (λ (x : Record). record_entry (meant x a.pool.now)) (sym c.in-Data.is))
+    c.put_data.ensures
 
-returns-2 : tie.Need-returns-2
+returns-2 : tie.Need-returns-in-EndOfFile
 unfolding record_entry numbered
 returns-2 c =
-    let a = c.before.before.before.before.before.before.before.before.args in
-    put_as a.out.now a.at (ap (λ (x : Record). record_entry (meant x a.pool.now)) (sym c.before.before.before.before.enum_told.given.1)) c.before.before.put-char.ensures
+    let a = c.args in
+    put_as a.out.now a.at (ap (λ (x : Record). record_entry (meant x a.pool.now)) (sym c.in-EndOfFile.is)) c.put_char.ensures
 
-returns-3 : tie.Need-returns-3
+returns-3 : tie.Need-returns-in-ExtendedSegmentAddress
 unfolding record_entry numbered
 returns-3 c =
-    let a = c.before.before.before.before.before.before.before.before.before.args in
-    put_as a.out.now a.at (ap (λ (x : Record). record_entry (meant x a.pool.now)) (sym c.before.before.before.before.before.given2.given.1)) c.before.before.put-numbered.ensures
+    let a = c.args in
+    put_as a.out.now a.at (ap (λ (x : Record). record_entry (meant x a.pool.now)) (sym c.in-ExtendedSegmentAddress.is)) c.put_numbered.ensures
 
-returns-4 : tie.Need-returns-4
+returns-4 : tie.Need-returns-in-StartSegmentAddress
 unfolding record_entry numbered
 returns-4 c =
-    let a = c.before.before.before.before.before.before.before.before.before.args in
-    put_as a.out.now a.at (ap (λ (x : Record). record_entry (meant x a.pool.now)) (sym c.before.before.before.before.before.given3.given.1)) c.before.before.put-long.ensures
+    let a = c.args in
+    put_as a.out.now a.at (ap (λ (x : Record). record_entry (meant x a.pool.now)) (sym c.in-StartSegmentAddress.is)) c.put_long.ensures
 
-returns-5 : tie.Need-returns-5
+returns-5 : tie.Need-returns-in-ExtendedLinearAddress
 unfolding record_entry numbered
 returns-5 c =
-    let a = c.before.before.before.before.before.before.before.before.before.args in
-    put_as a.out.now a.at (ap (λ (x : Record). record_entry (meant x a.pool.now)) (sym c.before.before.before.before.before.given4.given.1)) c.before.before.put-numbered2.ensures
+    let a = c.args in
+    put_as a.out.now a.at (ap (λ (x : Record). record_entry (meant x a.pool.now)) (sym c.in-ExtendedLinearAddress.is)) c.put_numbered-in-ExtendedLinearAddress.ensures
 
-returns-6 : tie.Need-returns-6
+returns-6 : tie.Need-returns-in-StartLinearAddress
 unfolding record_entry numbered
 returns-6 c =
-    let a = c.before.before.before.before.before.before.before.before.before.args in
-    put_as a.out.now a.at (ap (λ (x : Record). record_entry (meant x a.pool.now)) (sym c.before.before.before.before.before.given5.given.1)) c.before.before.put-long2.ensures
+    let a = c.args in
+    put_as a.out.now a.at (ap (λ (x : Record). record_entry (meant x a.pool.now)) (sym c.in-StartLinearAddress.is)) c.put_long-in-StartLinearAddress.ensures
 
 pub put_record_spec : {M : Type 1} → statement M
 put_record_spec =

@@ -21,33 +21,30 @@ use Rattle.listing.proofs.put_refusal.Tie as tie
 values_of : (e : ReaderError) {f : Figures} → FiguresOf e f → values_put f.values ≡ values_shown (refusal_of e)
 values_of e x = ap values_put x.values_are ∙ values_so e
 
-put-text-requires : tie.Need-put-text-requires
-put-text-requires c κs = let s = c.before.before.before.before in omega (arith, s.requires, refusal_length (refusal_of s.args.e))
+put-text-requires : tie.Need-put_text-number-requires
+put-text-requires c κs = omega (arith, c.requires, refusal_length (refusal_of c.args.e))
 
-put-decimal-requires : tie.Need-put-decimal-requires
+put-decimal-requires : tie.Need-put_decimal-values-requires
 put-decimal-requires c κs =
-    let s = c.before.before.before.before.before.before.before.before.before in
-    let n = ap (λ (k : ℕ). length (decimal k)) c.before.before.before.before.before.before.before.figures.ensures.number_is in
-    omega (arith, s.requires, refusal_length (refusal_of s.args.e), c.before.before.before.before.put-text.ensures.place, c.before.before.before.before.put-text.auto)
+    let n = ap (λ (k : ℕ). length (decimal k)) c.figures-figures.ensures.number_is in
+    omega (arith, c.requires, refusal_length (refusal_of c.args.e), c.put_text-number.ensures.place, c.put_text-number.auto)
 
-put-values-requires : tie.Need-put-values-requires
+put-values-requires : tie.Need-put_values-requires
 put-values-requires c κs =
-    let s = c.before.before.before.before.before.before.before.before.before.before.before.before.before in
-    let f = c.before.before.before.before.before.before.before.before.before.before.before.figures.ensures in
+    let f = c.figures-figures.ensures in
     let n = ap (λ (k : ℕ). length (decimal k)) f.number_is in
-    let v = ap length (values_of s.args.e f) in
-    omega (arith, s.requires, refusal_length (refusal_of s.args.e), c.before.before.before.before.before.before.before.before.put-text.ensures.place, c.before.before.before.before.before.before.before.before.put-text.auto, c.before.before.before.put-decimal.ensures.place, c.before.before.before.put-decimal.auto)
+    let v = ap length (values_of c.args.e f) in
+    omega (arith, c.requires, refusal_length (refusal_of c.args.e), c.put_text-number.ensures.place, c.put_text-number.auto, c.put_decimal-values.ensures.place, c.put_decimal-values.auto)
 
 returns : tie.Need-returns
 returns c =
-    let s = c.before.before.before.before.before.before.before.before.before.before.before.before.before.before.before.before in
-    let a = s.args in
+    let a = c.args in
     let r = refusal_of a.e in
-    let f = c.before.before.before.before.before.before.before.before.before.before.before.before.before.before.figures.ensures in
+    let f = c.figures-figures.ensures in
     let n = ap (λ (k : ℕ). length (decimal k)) f.number_is in
     let l = refusal_length r in
     put_as a.out.now a.at (ap₂ (λ (k : ℕ) (vs : List ℕ). text "! " ++ decimal k ++ vs) f.number_is (values_of a.e f) ∙ sym (refusal_is r))
-    (put_then a.out.now a.at (omega (arith, s.requires)) (put_then a.out.now a.at (omega (arith, s.requires)) c.before.before.before.before.before.before.before.before.before.before.before.put-text.ensures c.before.before.before.before.before.before.put-decimal.ensures) c.before.before.put-values.ensures)
+    (put_then a.out.now a.at (omega (arith, c.requires)) (put_then a.out.now a.at (omega (arith, c.requires)) c.put_text-number.ensures c.put_decimal-values.ensures) c.put_values.ensures)
 
 pub put_refusal_spec : {M : Type 1} → statement M
 put_refusal_spec =

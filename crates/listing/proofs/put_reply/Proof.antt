@@ -14,60 +14,60 @@ use borrow.Author.Rules.{rules}
 use Rattle.listing.proofs.put_reply.Statement.{statement}
 use Rattle.listing.proofs.put_reply.Tie as tie
 
-put-record-requires : tie.Need-put-record-requires
+put-record-requires : tie.Need-put_record-end-requires
 put-record-requires c κs =
-    let a = c.before.before.before.before.before.before.args in
-    let r = c.before.before.reply.given.0.0 in
-    let l = ap (λ (x : Reply). length (shown x a.pool.now)) c.before.before.reply.given.1 in
+    let a = c.args in
+    let r = c.in-Read.given in
+    let l = ap (λ (x : Reply). length (shown x a.pool.now)) c.in-Read.is in
     let n = length-append (record_entry (meant r a.pool.now)) (10 ∷ []) in
-    record { lies = subst (λ (x : Reply). Lies x a.pool.now) c.before.before.reply.given.1 c.before.before.before.before.before.before.requires.lies; room = omega (arith, c.before.before.before.before.before.before.requires.room) }
+    record { lies = subst (λ (x : Reply). Lies x a.pool.now) c.in-Read.is c.requires.lies; room = omega (arith, c.requires.room) }
 
-put-char-requires : tie.Need-put-char-requires
+put-char-requires : tie.Need-put_char-requires
 put-char-requires c κs =
-    let a = c.before.before.before.before.before.before.before.before.before.before.args in
-    let r = c.before.before.before.before.before.before.reply.given.0.0 in
-    let l = ap (λ (x : Reply). length (shown x a.pool.now)) c.before.before.before.before.before.before.reply.given.1 in
+    let a = c.args in
+    let r = c.in-Read.given in
+    let l = ap (λ (x : Reply). length (shown x a.pool.now)) c.in-Read.is in
     let n = length-append (record_entry (meant r a.pool.now)) (10 ∷ []) in
-    omega (arith, c.before.before.before.before.before.before.before.before.before.before.requires.room, c.before.before.before.put_record.ensures.place, c.before.before.before.put_record.auto)
+    omega (arith, c.requires.room, c.put_record-end.ensures.place, c.put_record-end.auto)
 
-put-refusal-requires : tie.Need-put-refusal-requires
+put-refusal-requires : tie.Need-put_refusal-end-requires
 put-refusal-requires c κs =
-    let a = c.before.before.before.before.before.before.args in
-    let e = c.before.before.reply2.given.0.0 in
-    let l = ap (λ (x : Reply). length (shown x a.pool.now)) c.before.before.reply2.given.1 in
+    let a = c.args in
+    let e = c.in-Refused.e in
+    let l = ap (λ (x : Reply). length (shown x a.pool.now)) c.in-Refused.is in
     let n = length-append (refusal_entry (refusal_of e)) (10 ∷ []) in
-    omega (arith, c.before.before.before.before.before.before.requires.room)
+    omega (arith, c.requires.room)
 
-put-char-requires-2 : tie.Need-put-char-requires-2
+put-char-requires-2 : tie.Need-put_char-requires-in-Refused
 put-char-requires-2 c κs =
-    let a = c.before.before.before.before.before.before.before.before.before.before.args in
-    let e = c.before.before.before.before.before.before.reply2.given.0.0 in
-    let l = ap (λ (x : Reply). length (shown x a.pool.now)) c.before.before.before.before.before.before.reply2.given.1 in
+    let a = c.args in
+    let e = c.in-Refused.e in
+    let l = ap (λ (x : Reply). length (shown x a.pool.now)) c.in-Refused.is in
     let n = length-append (refusal_entry (refusal_of e)) (10 ∷ []) in
-    omega (arith, c.before.before.before.before.before.before.before.before.before.before.requires.room, c.before.before.before.put-refusal.ensures.place, c.before.before.before.put-refusal.auto)
+    omega (arith, c.requires.room, c.put_refusal-end.ensures.place, c.put_refusal-end.auto)
 
-returns : tie.Need-returns
+returns : tie.Need-returns-in-Read
 returns c =
-    let a = c.before.before.before.before.before.before.before.before.before.before.before.before.before.args in
-    let r = c.before.before.before.before.before.before.before.before.before.reply.given.0.0 in
-    let l = ap (λ (x : Reply). length (shown x a.pool.now)) c.before.before.before.before.before.before.before.before.before.reply.given.1 in
+    let a = c.args in
+    let r = c.in-Read.given in
+    let l = ap (λ (x : Reply). length (shown x a.pool.now)) c.in-Read.is in
     let n = length-append (record_entry (meant r a.pool.now)) (10 ∷ []) in
-    put_as a.out.now a.at (ap (λ (x : Reply). shown x a.pool.now) (sym c.before.before.before.before.before.before.before.before.before.reply.given.1))
-    (put_then a.out.now a.at (omega (arith, c.before.before.before.before.before.before.before.before.before.before.before.before.before.requires.room)) c.before.before.before.before.before.before.put_record.ensures c.before.before.put-char.ensures)
+    put_as a.out.now a.at (ap (λ (x : Reply). shown x a.pool.now) (sym c.in-Read.is))
+    (put_then a.out.now a.at (omega (arith, c.requires.room)) c.put_record-end.ensures c.put_char.ensures)
 
-returns-2 : tie.Need-returns-2
+returns-2 : tie.Need-returns-in-Refused
 returns-2 c =
-    let a = c.before.before.before.before.before.before.before.before.before.before.before.before.before.args in
-    let e = c.before.before.before.before.before.before.before.before.before.reply2.given.0.0 in
-    let l = ap (λ (x : Reply). length (shown x a.pool.now)) c.before.before.before.before.before.before.before.before.before.reply2.given.1 in
+    let a = c.args in
+    let e = c.in-Refused.e in
+    let l = ap (λ (x : Reply). length (shown x a.pool.now)) c.in-Refused.is in
     let n = length-append (refusal_entry (refusal_of e)) (10 ∷ []) in
-    put_as a.out.now a.at (ap (λ (x : Reply). shown x a.pool.now) (sym c.before.before.before.before.before.before.before.before.before.reply2.given.1))
-    (put_then a.out.now a.at (omega (arith, c.before.before.before.before.before.before.before.before.before.before.before.before.before.requires.room)) c.before.before.before.before.before.before.put-refusal.ensures c.before.before.put-char2.ensures)
+    put_as a.out.now a.at (ap (λ (x : Reply). shown x a.pool.now) (sym c.in-Refused.is))
+    (put_then a.out.now a.at (omega (arith, c.requires.room)) c.put_refusal-end.ensures c.put_char-in-Refused.ensures)
 
-returns-3 : tie.Need-returns-3
+returns-3 : tie.Need-returns-in-Done
 returns-3 c =
-    let a = c.before.before.before.before.args in
-    put_as a.out.now a.at (ap (λ (x : Reply). shown x a.pool.now) (sym c.enum_told.given.1)) (put_none a.out.now a.at)
+    let a = c.args in
+    put_as a.out.now a.at (ap (λ (x : Reply). shown x a.pool.now) (sym c.in-Done.is)) (put_none a.out.now a.at)
 
 pub put_reply_spec : {M : Type 1} → statement M
 put_reply_spec =

@@ -11,8 +11,8 @@ use Rattle.listing.proofs.put_text.Tie as tie
 
 returns : tie.Need-returns
 returns c =
-    let a = c.before.before.before.before.before.before.args in
-    let k = c.before.before.copy in
+    let a = c.args in
+    let k = c.copy-n in
     let out : List ℕ = a.out.now in
     record {
       place = ap (λ (n : ℕ). a.at + n) k.ensures.0;

@@ -8,8 +8,8 @@ use Rattle.listing.proofs.put_value.Tie as tie
 
 returns : tie.Need-returns
 returns c =
-    let a = c.before.before.before.before.before.before.before.before.before.args in
-    put_then a.out.now a.at (omega (arith, c.before.before.before.before.before.before.before.before.before.requires)) c.before.before.before.before.before.before.put-char.ensures c.before.before.put_byte.ensures
+    let a = c.args in
+    put_then a.out.now a.at (omega (arith, c.requires)) c.put_char-digits.ensures c.put_byte.ensures
 
 pub put_value_spec : {M : Type 1} → statement M
 put_value_spec = tie.close (tie.spec (λ c κs. search rules) (λ c κs. search rules) (λ c. search rules) returns)

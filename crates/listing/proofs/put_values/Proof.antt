@@ -11,47 +11,47 @@ use borrow.Author.Rules.{rules}
 use Rattle.listing.proofs.put_values.Statement.{statement}
 use Rattle.listing.proofs.put_values.Tie as tie
 
-put-place-requires : tie.Need-put-place-requires
+put-place-requires : tie.Need-put_place-requires
 unfolding values_put spelt
-put-place-requires c κs = omega (arith, c.before.before.before.before.before.requires, ap (λ (x : Values). length (values_put x)) c.before.before.values.given.1)
+put-place-requires c κs = omega (arith, c.requires, ap (λ (x : Values). length (values_put x)) c.in-Position.is)
 
-put-value-requires : tie.Need-put-value-requires
+put-value-requires : tie.Need-put_value-requires
 unfolding values_put spelt
-put-value-requires c κs = omega (arith, c.before.before.before.before.before.requires, ap (λ (x : Values). length (values_put x)) c.before.before.values2.given.1)
+put-value-requires c κs = omega (arith, c.requires, ap (λ (x : Values). length (values_put x)) c.in-Byte.is)
 
-put-value-requires-2 : tie.Need-put-value-requires-2
+put-value-requires-2 : tie.Need-put_value-next-requires
 unfolding values_put spelt
-put-value-requires-2 c κs = omega (arith, c.before.before.before.before.before.requires, ap (λ (x : Values). length (values_put x)) c.before.before.values3.given.1)
+put-value-requires-2 c κs = omega (arith, c.requires, ap (λ (x : Values). length (values_put x)) c.in-Bytes.is)
 
-put-value-requires-3 : tie.Need-put-value-requires-3
+put-value-requires-3 : tie.Need-put_value-requires-in-Bytes
 unfolding values_put spelt
 put-value-requires-3 c κs =
-    omega (arith, c.before.before.before.before.before.before.before.before.before.requires, ap (λ (x : Values). length (values_put x)) c.before.before.before.before.before.before.values3.given.1, c.before.before.before.put-value2.ensures.place, c.before.before.before.put-value2.auto)
+    omega (arith, c.requires, ap (λ (x : Values). length (values_put x)) c.in-Bytes.is, c.put_value-next.ensures.place, c.put_value-next.auto)
 
-returns : tie.Need-returns
+returns : tie.Need-returns-in-Nothing
 unfolding values_put
 returns c =
-    let a = c.before.before.before.args in
-    put_as a.out.now a.at (ap values_put (sym c.enum_told.given.1)) (put_none a.out.now a.at)
+    let a = c.args in
+    put_as a.out.now a.at (ap values_put (sym c.in-Nothing.is)) (put_none a.out.now a.at)
 
-returns-2 : tie.Need-returns-2
+returns-2 : tie.Need-returns-in-Position
 unfolding values_put
 returns-2 c =
-    let a = c.before.before.before.before.before.before.before.before.args in
-    put_as a.out.now a.at (ap values_put (sym c.before.before.before.before.before.values.given.1)) c.before.before.put-place.ensures
+    let a = c.args in
+    put_as a.out.now a.at (ap values_put (sym c.in-Position.is)) c.put_place.ensures
 
-returns-3 : tie.Need-returns-3
+returns-3 : tie.Need-returns-in-Byte
 unfolding values_put
 returns-3 c =
-    let a = c.before.before.before.before.before.before.before.before.args in
-    put_as a.out.now a.at (ap values_put (sym c.before.before.before.before.before.values2.given.1)) c.before.before.put-value.ensures
+    let a = c.args in
+    put_as a.out.now a.at (ap values_put (sym c.in-Byte.is)) c.put_value.ensures
 
-returns-4 : tie.Need-returns-4
+returns-4 : tie.Need-returns-in-Bytes
 unfolding values_put spelt
 returns-4 c =
-    let a = c.before.before.before.before.before.before.before.before.before.before.before.before.args in
-    put_as a.out.now a.at (ap values_put (sym c.before.before.before.before.before.before.before.before.before.values3.given.1))
-    (put_then a.out.now a.at (omega (arith, c.before.before.before.before.before.before.before.before.before.before.before.before.requires, ap (λ (x : Values). length (values_put x)) c.before.before.before.before.before.before.before.before.before.values3.given.1)) c.before.before.before.before.before.before.put-value2.ensures c.before.before.put-value3.ensures)
+    let a = c.args in
+    put_as a.out.now a.at (ap values_put (sym c.in-Bytes.is))
+    (put_then a.out.now a.at (omega (arith, c.requires, ap (λ (x : Values). length (values_put x)) c.in-Bytes.is)) c.put_value-next.ensures c.put_value-in-Bytes.ensures)
 
 pub put_values_spec : {M : Type 1} → statement M
 put_values_spec =

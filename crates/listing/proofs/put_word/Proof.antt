@@ -7,15 +7,15 @@ use borrow.Author.Rules.{rules}
 use Rattle.listing.proofs.put_word.Statement.{statement}
 use Rattle.listing.proofs.put_word.Tie as tie
 
-put-byte-requires-2 : tie.Need-put-byte-requires-2
+put-byte-requires-2 : tie.Need-put_byte-requires
 unfolding spelt
-put-byte-requires-2 c κs = omega (arith, c.before.before.before.before.before.before.requires, c.before.before.before.put_byte.ensures.place, c.before.before.before.put_byte.auto)
+put-byte-requires-2 c κs = omega (arith, c.requires, c.put_byte-low.ensures.place, c.put_byte-low.auto)
 
 returns : tie.Need-returns
 unfolding spelt
 returns c =
-    let a = c.before.before.before.before.before.before.before.before.before.args in
-    put_then a.out.now a.at (omega (arith, c.before.before.before.before.before.before.before.before.before.requires)) c.before.before.before.before.before.before.put_byte.ensures c.before.before.put-byte2.ensures
+    let a = c.args in
+    put_then a.out.now a.at (omega (arith, c.requires)) c.put_byte-low.ensures c.put_byte.ensures
 
 pub put_word_spec : {M : Type 1} → statement M
 put_word_spec =

@@ -9,49 +9,46 @@ use borrow.Author.Rules.{rules}
 use Rattle.listing.proofs.record_room.Statement.{statement}
 use Rattle.listing.proofs.record_room.Tie as tie
 
-returns : tie.Need-returns
+returns : tie.Need-returns-then-at-pool
 returns c =
-    let a = c.before.before.before.before.args in
-    let g = c.before.before.given.given in
-    sym (ap (λ (x : Record). record_room x a.pool a.out) g.1 ∙ data_outside g.0.0 g.0.1.0 g.0.1.1.0 a.pool a.out (omega (arith, c.if1.true)))
+    let a = c.args in
+    sym (ap (λ (x : Record). record_room x a.pool a.out) c.in-Data.is ∙ data_outside c.in-Data.offset c.in-Data.at c.in-Data.len a.pool a.out (omega (arith, c.if-at-pool.true)))
 
-returns-2 : tie.Need-returns-2
+returns-2 : tie.Need-returns-then-len-pool
 returns-2 c =
-    let a = c.before.before.before.before.before.args in
-    let g = c.before.before.before.given.given in
-    sym (ap (λ (x : Record). record_room x a.pool a.out) g.1 ∙ data_outside g.0.0 g.0.1.0 g.0.1.1.0 a.pool a.out (omega (arith, c.if2.true, c.before.if1.false)))
+    let a = c.args in
+    sym (ap (λ (x : Record). record_room x a.pool a.out) c.in-Data.is ∙ data_outside c.in-Data.offset c.in-Data.at c.in-Data.len a.pool a.out (omega (arith, c.if-len-pool.true, c.if-at-pool.false)))
 
-returns-3 : tie.Need-returns-3
+returns-3 : tie.Need-returns-else-len-pool
 returns-3 c =
-    let a = c.before.before.before.before.before.before.args in
-    let g = c.before.before.before.before.given.given in
+    let a = c.args in
     c.has_room.ensures
-    ∙ sym (ap (λ (x : Record). record_room x a.pool a.out) g.1 ∙ data_inside g.0.0 g.0.1.0 g.0.1.1.0 a.pool a.out (omega (arith, c.before.if2.false, c.before.before.if1.false)))
+    ∙ sym (ap (λ (x : Record). record_room x a.pool a.out) c.in-Data.is ∙ data_inside c.in-Data.offset c.in-Data.at c.in-Data.len a.pool a.out (omega (arith, c.if-len-pool.false, c.if-at-pool.false)))
 
-returns-4 : tie.Need-returns-4
+returns-4 : tie.Need-returns-in-EndOfFile
 returns-4 c =
-    let a = c.before.before.before.args in
-    c.has-room2.ensures ∙ ap (λ (x : Record). record_room x a.pool a.out) (sym c.before.enum_told.given.1)
+    let a = c.args in
+    c.has_room-in-EndOfFile.ensures ∙ ap (λ (x : Record). record_room x a.pool a.out) (sym c.in-EndOfFile.is)
 
-returns-5 : tie.Need-returns-5
+returns-5 : tie.Need-returns-in-ExtendedSegmentAddress
 returns-5 c =
-    let a = c.before.before.before.args in
-    c.has-room3.ensures ∙ ap (λ (x : Record). record_room x a.pool a.out) (sym c.before.enum-told2.given.1)
+    let a = c.args in
+    c.has_room-in-ExtendedSegmentAddress.ensures ∙ ap (λ (x : Record). record_room x a.pool a.out) (sym c.in-ExtendedSegmentAddress.is)
 
-returns-6 : tie.Need-returns-6
+returns-6 : tie.Need-returns-in-StartSegmentAddress
 returns-6 c =
-    let a = c.before.before.before.args in
-    c.has-room4.ensures ∙ ap (λ (x : Record). record_room x a.pool a.out) (sym c.before.enum-told3.given.1)
+    let a = c.args in
+    c.has_room-in-StartSegmentAddress.ensures ∙ ap (λ (x : Record). record_room x a.pool a.out) (sym c.in-StartSegmentAddress.is)
 
-returns-7 : tie.Need-returns-7
+returns-7 : tie.Need-returns-in-ExtendedLinearAddress
 returns-7 c =
-    let a = c.before.before.before.args in
-    c.has-room5.ensures ∙ ap (λ (x : Record). record_room x a.pool a.out) (sym c.before.enum-told4.given.1)
+    let a = c.args in
+    c.has_room-in-ExtendedLinearAddress.ensures ∙ ap (λ (x : Record). record_room x a.pool a.out) (sym c.in-ExtendedLinearAddress.is)
 
-returns-8 : tie.Need-returns-8
+returns-8 : tie.Need-returns-in-StartLinearAddress
 returns-8 c =
-    let a = c.before.before.before.args in
-    c.has-room6.ensures ∙ ap (λ (x : Record). record_room x a.pool a.out) (sym c.before.enum-told5.given.1)
+    let a = c.args in
+    c.has_room-in-StartLinearAddress.ensures ∙ ap (λ (x : Record). record_room x a.pool a.out) (sym c.in-StartLinearAddress.is)
 
 pub record_room_spec : {M : Type 1} → statement M
 record_room_spec =

@@ -7,20 +7,20 @@ use borrow.Author.Rules.{rules}
 use Rattle.listing.proofs.reply_room.Statement.{statement}
 use Rattle.listing.proofs.reply_room.Tie as tie
 
-returns : tie.Need-returns
+returns : tie.Need-returns-in-Read
 returns c =
-    let a = c.before.before.before.before.args in
-    c.record_room.ensures ∙ ap (λ (x : Reply). reply_room x a.pool a.out) (sym c.before.before.reply.given.1)
+    let a = c.args in
+    c.record_room.ensures ∙ ap (λ (x : Reply). reply_room x a.pool a.out) (sym c.in-Read.is)
 
-returns-2 : tie.Need-returns-2
+returns-2 : tie.Need-returns-in-Refused
 returns-2 c =
-    let a = c.before.before.before.args in
-    c.has_room.ensures ∙ ap (λ (x : Reply). reply_room x a.pool a.out) (sym c.before.enum_told.given.1)
+    let a = c.args in
+    c.has_room.ensures ∙ ap (λ (x : Reply). reply_room x a.pool a.out) (sym c.in-Refused.is)
 
-returns-3 : tie.Need-returns-3
+returns-3 : tie.Need-returns-in-Done
 returns-3 c =
-    let a = c.before.before.before.args in
-    c.has-room2.ensures ∙ ap (λ (x : Reply). reply_room x a.pool a.out) (sym c.before.enum-told2.given.1)
+    let a = c.args in
+    c.has_room-in-Done.ensures ∙ ap (λ (x : Reply). reply_room x a.pool a.out) (sym c.in-Done.is)
 
 pub reply_room_spec : {M : Type 1} → statement M
 reply_room_spec =

@@ -9,11 +9,11 @@ use borrow.Author.Rules.{rules}
 use Rattle.listing.proofs.text_room.Statement.{statement}
 use Rattle.listing.proofs.text_room.Tie as tie
 
-returns : tie.Need-returns
-returns c = let a = c.before.args in sym (lt-leb (3 * a.given + 32) a.out (omega arith))
+returns : tie.Need-returns-then-out-given
+returns c = let a = c.args in sym (lt-leb (3 * a.given + 32) a.out (omega arith))
 
-returns-2 : tie.Need-returns-2
-returns-2 c = let a = c.before.before.args in c.has_room.ensures ∙ room_behind a.given a.out c.before.if1.false
+returns-2 : tie.Need-returns
+returns-2 c = let a = c.args in c.has_room.ensures ∙ room_behind a.given a.out c.if-out-given.false
 
 pub text_room_spec : {M : Type 1} → statement M
 text_room_spec = tie.close (tie.spec returns (λ c κs. search rules) returns-2)

@@ -9,14 +9,14 @@ use borrow.Author.Rules.{rules}
 use Rattle.listing.proofs.text_status.Statement.{statement}
 use Rattle.listing.proofs.text_status.Tie as tie
 
-returns : tie.Need-returns
-returns c = record { answer = sym ((two_means c.before.before.args.text.now).0.1 (omega arith)) }
+returns : tie.Need-returns-then-text-gt-LONGEST_TEXT
+returns c = record { answer = sym ((two_means c.args.text.now).0.1 (omega arith)) }
 
-returns-2 : tie.Need-returns-2
+returns-2 : tie.Need-returns
 returns-2 c =
-    let input = c.before.before.before.before.args.text.now in
+    let input = c.args.text.now in
     record {
-      answer = c.exit-status.ensures.answer ∙ ap status_of c.before.text-verdict.ensures ∙ status_by_verdict (answers input) ∙ sym ((two_means input).1 (omega arith));
+      answer = c.exit_status.ensures.answer ∙ ap status_of c.text_verdict.ensures ∙ status_by_verdict (answers input) ∙ sym ((two_means input).1 (omega arith));
     }
 
 pub text_status_spec : {M : Type 1} → statement M

@@ -8,15 +8,15 @@ use borrow.Author.Rules.{rules}
 use Rattle.listing.proofs.verdict_after.Statement.{statement}
 use Rattle.listing.proofs.verdict_after.Tie as tie
 
-returns : tie.Need-returns
+returns : tie.Need-returns-in-Read
 returns c =
-    let a = c.before.before.before.before.args in
+    let a = c.args in
     record {
-      answer = ap (λ (k : ℕ). after_record a.verdict (eqb k 1)) c.record-type.ensures.answer ∙ ap (after_reply a.verdict) (sym c.before.before.reply.given.1);
+      answer = ap (λ (k : ℕ). after_record a.verdict (eqb k 1)) c.record_type.ensures.answer ∙ ap (after_reply a.verdict) (sym c.in-Read.is);
     }
 
-returns-2 : tie.Need-returns-2
-returns-2 c = record { answer = ap (after_reply c.before.before.args.verdict) (sym c.enum_told.given.1) }
+returns-2 : tie.Need-returns-in-Refused
+returns-2 c = record { answer = ap (after_reply c.args.verdict) (sym c.in-Refused.is) }
 
 pub verdict_after_spec : {M : Type 1} → statement M
 verdict_after_spec =

@@ -5,23 +5,23 @@ use Rattle.std.proofs.Common.{rules}
 use Rattle.loader.proofs.base_behind.Statement.{statement}
 use Rattle.loader.proofs.base_behind.Tie as tie
 
-returns : tie.Need-returns
-returns c = behind_segment c.before.before.before.args.base c.before.before.before.args.given _ c.before.given.given.1
+returns : tie.Need-returns-in-ExtendedSegmentAddress
+returns c = behind_segment c.args.base c.args.given _ c.in-ExtendedSegmentAddress.is
 
-returns-2 : tie.Need-returns-2
-returns-2 c = behind_linear c.before.before.before.args.base c.before.before.before.args.given _ c.before.given2.given.1
+returns-2 : tie.Need-returns-in-ExtendedLinearAddress
+returns-2 c = behind_linear c.args.base c.args.given _ c.in-ExtendedLinearAddress.is
 
-returns-3 : tie.Need-returns-3
-returns-3 c = behind_data c.before.before.args.base c.before.before.args.given _ _ _ c.enum_told.given.1
+returns-3 : tie.Need-returns-in-Data
+returns-3 c = behind_data c.args.base c.args.given _ _ _ c.in-Data.is
 
-returns-4 : tie.Need-returns-4
-returns-4 c = behind_end c.before.before.args.base c.before.before.args.given c.enum-told2.given.1
+returns-4 : tie.Need-returns-in-EndOfFile
+returns-4 c = behind_end c.args.base c.args.given c.in-EndOfFile.is
 
-returns-5 : tie.Need-returns-5
-returns-5 c = behind_cs_ip c.before.before.args.base c.before.before.args.given _ _ c.enum-told3.given.1
+returns-5 : tie.Need-returns-in-StartSegmentAddress
+returns-5 c = behind_cs_ip c.args.base c.args.given _ _ c.in-StartSegmentAddress.is
 
-returns-6 : tie.Need-returns-6
-returns-6 c = behind_eip c.before.before.args.base c.before.before.args.given _ c.enum-told4.given.1
+returns-6 : tie.Need-returns-in-StartLinearAddress
+returns-6 c = behind_eip c.args.base c.args.given _ c.in-StartLinearAddress.is
 
 pub base_behind_spec : {M : Type 1} → statement M
 base_behind_spec =

@@ -5,13 +5,13 @@ use Rattle.std.proofs.Common.{arith, rules}
 use Rattle.loader.proofs.byte_address.Statement.{statement}
 use Rattle.loader.proofs.byte_address.Tie as tie
 
-returns : tie.Need-returns
+returns : tie.Need-returns-in-Segment
 unfolding byte_address
-returns c = rw c.before.base.given.1
+returns c = rw c.in-Segment.is
 
-returns-2 : tie.Need-returns-2
+returns-2 : tie.Need-returns-in-Linear
 unfolding byte_address
-returns-2 c = rw c.before.before.base2.given.1 (omega (arith, c.wrapping-add-u32.ensures))
+returns-2 c = rw c.in-Linear.is (omega (arith, c.wrapping_add_u32.ensures))
 
 pub byte_address_spec : {M : Type 1} → statement M
 byte_address_spec =

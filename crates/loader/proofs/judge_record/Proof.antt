@@ -14,58 +14,53 @@ use Rattle.loader.proofs.judge_record.Statement.{statement}
 use Rattle.loader.proofs.judge_record.Tie as tie
 
 survey-requires : tie.Need-survey-requires
-survey-requires c κs = subst Short c.before.given.given.1 c.before.before.before.before.before.requires.0
+survey-requires c κs = subst Short c.in-Data.is c.requires.0
 
-byte-address-requires : tie.Need-byte-address-requires
+byte-address-requires : tie.Need-byte_address-address-requires
 byte-address-requires c κs =
-    let short = subst Short c.before.before.before.before.before.given.given.1 c.before.before.before.before.before.before.before.before.before.requires.0 in
-    omega (arith, short, c.before.before.before.survey.ensures.among c.before.i.given.0.0 (ap first_byte c.before.i.given.1))
+    let short = subst Short c.in-Data.is c.requires.0 in
+    omega (arith, short, c.survey.ensures.among c.in-Outside.i (ap first_byte c.in-Outside.is))
 
-returns : tie.Need-returns
+returns : tie.Need-returns-in-Inside
 returns c = λ pool lies.
-    let a = c.before.before.before.before.before.before.before.before.before.args in
-    let g = c.before.before.before.before.before.given.given in
-    met_inside (inside_of a.owner (rows_in a.rows.now)) a.number a.base a.tally a.given pool lies g.0.0 g.0.1.0 g.0.1.1.0 g.1
-    (subst (λ (r : Reach). Surveyed (byte_address (based a.base) g.0.0) g.0.1.1.0 (inside_of a.owner (rows_in a.rows.now)) r) c.before.enum_told.given.1 c.before.before.before.survey.ensures) c.before.before.before.before.before.before.before.base_behind.result c.before.before.before.before.before.before.before.base_behind.ensures
+    let a = c.args in
+    met_inside (inside_of a.owner (rows_in a.rows.now)) a.number a.base a.tally a.given pool lies c.in-Data.offset c.in-Data.at c.in-Data.len c.in-Data.is
+    (subst (λ (r : Reach). Surveyed (byte_address (based a.base) c.in-Data.offset) c.in-Data.len (inside_of a.owner (rows_in a.rows.now)) r) c.in-Inside.is c.survey.ensures) c.base_behind-after.result c.base_behind-after.ensures
 
-returns-2 : tie.Need-returns-2
+returns-2 : tie.Need-returns-in-Outside
 returns-2 c = λ pool lies.
-    let a = c.before.before.before.before.before.before.before.before.before.before.args in
-    let g = c.before.before.before.before.before.before.given.given in
-    let i = c.before.before.i.given in
-    rw c.byte_address.ensures (met_outside (inside_of a.owner (rows_in a.rows.now)) a.number a.base a.tally a.given pool lies g.0.0 g.0.1.0 g.0.1.1.0 i.0.0 g.1
-    (subst (λ (r : Reach). Surveyed (byte_address (based a.base) g.0.0) g.0.1.1.0 (inside_of a.owner (rows_in a.rows.now)) r) i.1 c.before.before.before.before.survey.ensures))
+    let a = c.args in
+    rw c.byte_address-address.ensures (met_outside (inside_of a.owner (rows_in a.rows.now)) a.number a.base a.tally a.given pool lies c.in-Data.offset c.in-Data.at c.in-Data.len c.in-Outside.i c.in-Data.is
+    (subst (λ (r : Reach). Surveyed (byte_address (based a.base) c.in-Data.offset) c.in-Data.len (inside_of a.owner (rows_in a.rows.now)) r) c.in-Outside.is c.survey.ensures))
 
-returns-3 : tie.Need-returns-3
-returns-3 c = λ pool lies. let a = c.before.before.before.before.args in met_end (inside_of a.owner (rows_in a.rows.now)) a.number a.base a.tally a.given pool lies c.enum-told2.given.1
+returns-3 : tie.Need-returns-in-EndOfFile
+returns-3 c = λ pool lies. let a = c.args in met_end (inside_of a.owner (rows_in a.rows.now)) a.number a.base a.tally a.given pool lies c.in-EndOfFile.is
 
-returns-4 : tie.Need-returns-4
+returns-4 : tie.Need-returns-in-ExtendedSegmentAddress
 unfolding does stated_by
 returns-4 c = λ pool lies.
-    let a = c.before.before.before.before.args in
-    met_quiet (inside_of a.owner (rows_in a.rows.now)) a.number a.base a.tally a.given pool lies (rw c.enum-told3.given.1) (rw c.enum-told3.given.1) c.before.before.base_behind.result c.before.before.base_behind.ensures
+    let a = c.args in
+    met_quiet (inside_of a.owner (rows_in a.rows.now)) a.number a.base a.tally a.given pool lies (rw c.in-ExtendedSegmentAddress.is) (rw c.in-ExtendedSegmentAddress.is) c.base_behind-after.result c.base_behind-after.ensures
 
-returns-5 : tie.Need-returns-5
+returns-5 : tie.Need-returns-in-StartSegmentAddress
 unfolding does stated_by
 returns-5 c = λ pool lies.
-    let a = c.before.before.before.before.before.before.args in
-    let g = c.before.before.given2.given in
-    met_start (inside_of a.owner (rows_in a.rows.now)) a.number a.base a.tally a.given pool lies (cs_with_ip g.0.0 g.0.1.0) (Segment g.0.0 g.0.1.0) refl (rw g.1) (rw g.1)
-    c.before.before.before.before.base_behind.result c.before.before.before.before.base_behind.ensures c.judge_start.result c.judge_start.ensures
+    let a = c.args in
+    met_start (inside_of a.owner (rows_in a.rows.now)) a.number a.base a.tally a.given pool lies (cs_with_ip c.in-StartSegmentAddress.cs c.in-StartSegmentAddress.ip) (Segment c.in-StartSegmentAddress.cs c.in-StartSegmentAddress.ip) refl (rw c.in-StartSegmentAddress.is) (rw c.in-StartSegmentAddress.is)
+    c.base_behind-after.result c.base_behind-after.ensures c.judge_start.result c.judge_start.ensures
 
-returns-6 : tie.Need-returns-6
+returns-6 : tie.Need-returns-in-ExtendedLinearAddress
 unfolding does stated_by
 returns-6 c = λ pool lies.
-    let a = c.before.before.before.before.args in
-    met_quiet (inside_of a.owner (rows_in a.rows.now)) a.number a.base a.tally a.given pool lies (rw c.enum-told4.given.1) (rw c.enum-told4.given.1) c.before.before.base_behind.result c.before.before.base_behind.ensures
+    let a = c.args in
+    met_quiet (inside_of a.owner (rows_in a.rows.now)) a.number a.base a.tally a.given pool lies (rw c.in-ExtendedLinearAddress.is) (rw c.in-ExtendedLinearAddress.is) c.base_behind-after.result c.base_behind-after.ensures
 
-returns-7 : tie.Need-returns-7
+returns-7 : tie.Need-returns-in-StartLinearAddress
 unfolding does stated_by
 returns-7 c = λ pool lies.
-    let a = c.before.before.before.before.before.before.args in
-    let g = c.before.before.given3.given in
-    met_start (inside_of a.owner (rows_in a.rows.now)) a.number a.base a.tally a.given pool lies (linear_address g.0.0) (Linear g.0.0) refl (rw g.1) (rw g.1)
-    c.before.before.before.before.base_behind.result c.before.before.before.before.base_behind.ensures c.judge-start2.result c.judge-start2.ensures
+    let a = c.args in
+    met_start (inside_of a.owner (rows_in a.rows.now)) a.number a.base a.tally a.given pool lies (linear_address c.in-StartLinearAddress.address) (Linear c.in-StartLinearAddress.address) refl (rw c.in-StartLinearAddress.is) (rw c.in-StartLinearAddress.is)
+    c.base_behind-after.result c.base_behind-after.ensures c.judge_start-in-StartLinearAddress.result c.judge_start-in-StartLinearAddress.ensures
 
 pub judge_record_spec : {M : Type 1} → statement M
 judge_record_spec =

@@ -10,32 +10,32 @@ use Rattle.loader.proofs.load.Statement.{statement}
 use Rattle.loader.proofs.load.Tie as tie
 
 -- the window is not refused
-fit : (c : tie.Else1) → let s = c.before.before.before.before.before.args in unfit s.first (length s.page.now) (length s.marks.now) ≡ false
-fit c = sym c.before.is-unfit.ensures.answer ∙ c.if1.false
+fit : (c : tie.Else-is_unfit) → let s = c.args in unfit s.first (length s.page.now) (length s.marks.now) ≡ false
+fit c = sym c.is_unfit.ensures.answer ∙ c.if-is_unfit.false
 
-returns : tie.Need-returns
+returns : tie.Need-returns-then-is_unfit
 returns c =
-    let s = c.before.before.before.before.before.args in
-    load_unfit intel s.text.now s.first s.page.now s.marks.now (sym c.before.is-unfit.ensures.answer ∙ c.if1.true)
+    let s = c.args in
+    load_unfit intel s.text.now s.first s.page.now s.marks.now (sym c.is_unfit.ensures.answer ∙ c.if-is_unfit.true)
 
-write-text-requires : tie.Need-write-text-requires
-write-text-requires c κs = let s = c.before.before.before.before.before.before.before.before.before.before.before.before.before.before.before.before.args in alone_sound s.first s.page.now s.marks.now (fit c.before.before.before.before.before.before.before.before.before.before.before)
+write-text-requires : tie.Need-write_text-requires
+write-text-requires c κs = let s = c.args in alone_sound s.first s.page.now s.marks.now (fit c.before.before.before.before.before.before.before.before.before.before.before)
 
-returns-2 : tie.Need-returns-2
+returns-2 : tie.Need-returns-then-is_accepted
 returns-2 c =
-    let s = c.before.before.before.before.before.before.before.before.before.before.before.before.before.before.before.before.before.before.before.before.before.args in
-    let t = c.before.before.before.before.before.before.before.before.before.before.before.before.before.before.judge-text in
-    let w = c.before.before.before.before.write-text in
+    let s = c.args in
+    let t = c.judge_text-answer in
+    let w = c.write_text in
     load_accepted intel s.text.now s.first s.page.now s.marks.now (fit c.before.before.before.before.before.before.before.before.before.before.before.before.before.before.before.before) t.result
-    (alone_judged s.first (length s.page.now) (steps_of s.text.now) t.result t.ensures) (sym c.before.before.before.before.before.before.before.before.before.before.before.before.before.is_accepted.ensures.answer ∙ c.before.before.before.before.before.before.before.before.before.before.before.before.if2.true)
-    c.before.before.before.before.before.before.before.before.before.before.clear.new.0 w.new.1.1.1.0 w.new.1.1.1.1.0 c.before.before.before.before.before.before.before.before.before.before.clear.ensures.left (alone_painted s.first (length s.page.now) (placements s.text.now) _ _ _ _ w.ensures)
+    (alone_judged s.first (length s.page.now) (steps_of s.text.now) t.result t.ensures) (sym c.is_accepted.ensures.answer ∙ c.if-is_accepted.true)
+    c.clear.new.marks w.new.page w.new.marks c.clear.ensures.left (alone_painted s.first (length s.page.now) (placements s.text.now) _ _ _ _ w.ensures)
 
-returns-3 : tie.Need-returns-3
+returns-3 : tie.Need-returns-else-is_accepted
 returns-3 c =
-    let s = c.before.before.before.before.before.before.before.before.before.args in
-    let t = c.before.before.judge-text in
+    let s = c.args in
+    let t = c.judge_text-answer in
     load_refused intel s.text.now s.first s.page.now s.marks.now (fit c.before.before.before.before) t.result
-    (alone_judged s.first (length s.page.now) (steps_of s.text.now) t.result t.ensures) (sym c.before.is_accepted.ensures.answer ∙ c.if2.false)
+    (alone_judged s.first (length s.page.now) (steps_of s.text.now) t.result t.ensures) (sym c.is_accepted.ensures.answer ∙ c.if-is_accepted.false)
 
 pub load_spec : {M : Type 1} → statement M
 load_spec =

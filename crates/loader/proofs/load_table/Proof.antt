@@ -9,32 +9,32 @@ use Rattle.loader.proofs.load_table.Statement.{statement}
 use Rattle.loader.proofs.load_table.Tie as tie
 
 -- the table is not refused
-fit : (c : tie.Else1) → let s = c.before.before.before.before.before.before.args in fits s.owner (length s.pool.now) (length s.marks.now) (rows_in s.rows.now) ≡ true
-fit c = not-false _ (sym c.before.is-bad-table.ensures.answer ∙ c.if1.false)
+fit : (c : tie.Else-is_bad_table) → let s = c.args in fits s.owner (length s.pool.now) (length s.marks.now) (rows_in s.rows.now) ≡ true
+fit c = not-false _ (sym c.is_bad_table.ensures.answer ∙ c.if-is_bad_table.false)
 
-returns : tie.Need-returns
+returns : tie.Need-returns-then-is_bad_table
 returns c =
-    let s = c.before.before.before.before.before.before.args in
-    load_bad_table intel s.owner (rows_in s.rows.now) s.text.now s.pool.now s.marks.now (not-true _ (sym c.before.is-bad-table.ensures.answer ∙ c.if1.true))
+    let s = c.args in
+    load_bad_table intel s.owner (rows_in s.rows.now) s.text.now s.pool.now s.marks.now (not-true _ (sym c.is_bad_table.ensures.answer ∙ c.if-is_bad_table.true))
 
-write-text-requires : tie.Need-write-text-requires
+write-text-requires : tie.Need-write_text-requires
 write-text-requires c κs =
-    let s = c.before.before.before.before.before.before.before.before.before.before.before.before.before.before.before.args in
+    let s = c.args in
     fits_sound s.owner (length s.pool.now) (length s.marks.now) (rows_in s.rows.now) (fit c.before.before.before.before.before.before.before.before.before)
 
-returns-2 : tie.Need-returns-2
+returns-2 : tie.Need-returns-then-is_accepted
 returns-2 c =
-    let s = c.before.before.before.before.before.before.before.before.before.before.before.before.before.before.before.before.before.before.before.before.args in
-    let t = c.before.before.before.before.before.before.before.before.before.before.before.before.before.judge-text in
-    let w = c.before.before.before.before.write-text in
+    let s = c.args in
+    let t = c.judge_text-answer in
+    let w = c.write_text in
     load_table_accepted intel s.owner (rows_in s.rows.now) s.text.now s.pool.now s.marks.now (fit c.before.before.before.before.before.before.before.before.before.before.before.before.before.before) t.result t.ensures
-    (sym c.before.before.before.before.before.before.before.before.before.before.before.before.is_accepted.ensures.answer ∙ c.before.before.before.before.before.before.before.before.before.before.before.if2.true) (λ i. omega (arith, c.before.before.before.before.before.before.before.before.before.before.before.before.before.before.before.before.slice-known2.given i)) c.before.before.before.before.before.before.before.before.before.clear-marks.new.1.1.0 w.new.1.1.1.0 w.new.1.1.1.1.0 c.before.before.before.before.before.before.before.before.before.clear-marks.ensures w.ensures
+    (sym c.is_accepted.ensures.answer ∙ c.if-is_accepted.true) (λ i. omega (arith, c.slice_known-2-1.given i)) c.clear_marks.new.marks w.new.page w.new.marks c.clear_marks.ensures w.ensures
 
-returns-3 : tie.Need-returns-3
+returns-3 : tie.Need-returns-else-is_accepted
 returns-3 c =
-    let s = c.before.before.before.before.before.before.before.before.before.args in
-    let t = c.before.before.judge-text in
-    load_table_refused intel s.owner (rows_in s.rows.now) s.text.now s.pool.now s.marks.now (fit c.before.before.before) t.result t.ensures (sym c.before.is_accepted.ensures.answer ∙ c.if2.false)
+    let s = c.args in
+    let t = c.judge_text-answer in
+    load_table_refused intel s.owner (rows_in s.rows.now) s.text.now s.pool.now s.marks.now (fit c.before.before.before) t.result t.ensures (sym c.is_accepted.ensures.answer ∙ c.if-is_accepted.false)
 
 pub load_table_spec : {M : Type 1} → statement M
 load_table_spec =

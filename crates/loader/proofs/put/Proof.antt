@@ -10,34 +10,32 @@ use Rattle.loader.proofs.Runs.{few, runs}
 use Rattle.loader.proofs.put.Statement.{statement}
 use Rattle.loader.proofs.put.Tie as tie
 
-slice-aggregate-put-run : tie.Need-slice-aggregate-put-run
-slice-aggregate-put-run c = sym (length-take-le c.before.before.first_run.result c.before.before.before.before.before.before.before.args.bytes.now (omega (arith, c.before.before.first_run.ensures)))
+slice-aggregate-put-run : tie.Need-slice_bounds-put_run-end
+slice-aggregate-put-run c = sym (length-take-le c.first_run-run.result c.args.bytes.now (omega (arith, c.first_run-run.ensures)))
 
-byte-address-requires-2 : tie.Need-byte-address-requires-2
-byte-address-requires-2 c κs = omega (arith, c.before.before.before.before.before.before.before.before.before.before.first_run.ensures)
+byte-address-requires-2 : tie.Need-byte_address-requires-then-run-bytes
+byte-address-requires-2 c κs = omega (arith, c.first_run-run.ensures)
 
-returns : tie.Need-returns
+returns : tie.Need-returns-then-run-bytes
 returns c =
-    let s = c.before.before.before.before.before.before.before.before.before.before.before.before.before.before.before.before.before.before.before.before.before.before.before.before in
-    let a = s.args in
-    let k = c.before.before.before.before.before.before.before.before.before.before.before.before.before.before.before.before.before.before.before.first_run in
+    let a = c.args in
+    let k = c.first_run-run in
     let rows = rows_in a.rows.now in
-    let p = c.before.before.before.before.before.before.before.before.before.before.before.before.before.before.put-run in
-    let q = c.before.before.before.before.put-run2 in
+    let p = c.put_run in
+    let q = c.put_run-then-run-bytes in
     stored_twice (byte_address (based a.base) a.offset) (site_of a.owner rows) a.bytes.now a.page.now a.marks.now k.result
-    (few a.base a.offset (length a.bytes.now) (search rules) s.requires.0 k.result k.ensures) (runs a.base a.offset (length a.bytes.now) (search rules) s.requires.0 k.result k.ensures)
-    c.before.before.before.before.before.before.before.before.before.before.before.before.before.before.before.before.before.before.byte_address.result c.before.before.before.before.before.before.before.before.before.before.before.before.before.before.before.before.before.before.byte_address.ensures _ _ (put_through_site a.owner rows _ _ _ _ _ _ s.requires.1 p.ensures)
-    c.before.before.before.before.before.before.before.before.byte-address2.result c.before.before.before.before.before.before.before.before.byte-address2.ensures _ _ (put_through_site a.owner rows _ _ _ _ _ _ (rw p.auto.1.1.1.1.0 s.requires.1) q.ensures)
+    (few a.base a.offset (length a.bytes.now) (search rules) c.requires.0 k.result k.ensures) (runs a.base a.offset (length a.bytes.now) (search rules) c.requires.0 k.result k.ensures)
+    c.byte_address.result c.byte_address.ensures _ _ (put_through_site a.owner rows _ _ _ _ _ _ c.requires.1 p.ensures)
+    c.byte_address-then-run-bytes.result c.byte_address-then-run-bytes.ensures _ _ (put_through_site a.owner rows _ _ _ _ _ _ (rw p.auto.page c.requires.1) q.ensures)
 
-returns-2 : tie.Need-returns-2
+returns-2 : tie.Need-returns-else-run-bytes
 returns-2 c =
-    let s = c.before.before.before.before.before.before.before.before.before.before.before.before.before.before.before in
-    let a = s.args in
-    let k = c.before.before.before.before.before.before.before.before.before.before.first_run in
+    let a = c.args in
+    let k = c.first_run-run in
     let rows = rows_in a.rows.now in
     stored_once (byte_address (based a.base) a.offset) (site_of a.owner rows) a.bytes.now a.page.now a.marks.now k.result
-    (few a.base a.offset (length a.bytes.now) (search rules) s.requires.0 k.result k.ensures) (runs a.base a.offset (length a.bytes.now) (search rules) s.requires.0 k.result k.ensures)
-    c.before.before.before.before.before.before.before.before.before.byte_address.result c.before.before.before.before.before.before.before.before.before.byte_address.ensures _ _ (put_through_site a.owner rows _ _ _ _ _ _ s.requires.1 c.before.before.before.before.before.put-run.ensures) (omega (arith, c.if1.false))
+    (few a.base a.offset (length a.bytes.now) (search rules) c.requires.0 k.result k.ensures) (runs a.base a.offset (length a.bytes.now) (search rules) c.requires.0 k.result k.ensures)
+    c.byte_address.result c.byte_address.ensures _ _ (put_through_site a.owner rows _ _ _ _ _ _ c.requires.1 c.put_run.ensures) (omega (arith, c.if-run-bytes.false))
 
 pub put_spec : {M : Type 1} → statement M
 put_spec =

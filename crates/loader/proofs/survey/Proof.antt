@@ -10,58 +10,54 @@ use Rattle.loader.proofs.Runs.{few, runs}
 use Rattle.loader.proofs.survey.Statement.{statement}
 use Rattle.loader.proofs.survey.Tie as tie
 
-returns : tie.Need-returns
+returns : tie.Need-returns-then-run-len
 returns c =
-    let s = c.before.before.before.before.before in
-    let a = s.args in
-    let k = c.before.before.before.first_run in
+    let a = c.args in
+    let k = c.first_run-run in
     code_whole (byte_address (based a.base) a.offset) a.len (inside_of a.owner (rows_in a.rows.now)) k.result
-    (few a.base a.offset a.len (search rules) s.requires k.result k.ensures) (runs a.base a.offset a.len (search rules) s.requires k.result k.ensures)
-    c.before.byte_address.result c.before.byte_address.ensures c.before.before.if1.true c.first_outside.result c.first_outside.ensures
+    (few a.base a.offset a.len (search rules) c.requires k.result k.ensures) (runs a.base a.offset a.len (search rules) c.requires k.result k.ensures)
+    c.byte_address.result c.byte_address.ensures c.if-run-len.true c.first_outside.result c.first_outside.ensures
 
-cast-2 : tie.Need-overflow-cast-first-outside-2
-cast-2 c = omega (arith, c.before.before.first_run.ensures, c.before.before.before.before.requires)
+cast-2 : tie.Need-overflow_cast-run
+cast-2 c = omega (arith, c.first_run-run.ensures, c.requires)
 
-byte-address-requires-3 : tie.Need-byte-address-requires-3
-byte-address-requires-3 c κs = omega (arith, c.before.before.before.before.before.first_run.ensures)
+byte-address-requires-3 : tie.Need-byte_address-requires-in-Inside
+byte-address-requires-3 c κs = omega (arith, c.first_run-run.ensures)
 
-sub-first-outside : tie.Need-overflow-sub-first-outside
-sub-first-outside c = omega (arith, c.before.before.before.before.before.before.first_run.ensures)
+sub-first-outside : tie.Need-overflow_sub-len
+sub-first-outside c = omega (arith, c.first_run-run.ensures)
 
-cast-3 : tie.Need-overflow-cast-first-outside-3
-cast-3 c = omega (arith, c.before.before.before.before.before.before.first_run.ensures, c.before.before.before.before.before.before.before.before.requires)
+cast-3 : tie.Need-overflow_cast-len-in-Inside
+cast-3 c = omega (arith, c.first_run-run.ensures, c.requires)
 
-add-t21 : tie.Need-overflow-add-t21
-add-t21 c = omega (arith, c.before.before.before.first-outside3.ensures.among c.before.i2.given.0.0 (ap first_byte c.before.i2.given.1))
+add-t21 : tie.Need-overflow_add-result
+add-t21 c = omega (arith, c.first_outside-in-Inside.ensures.among c.in-Outside-first_outside.i (ap first_byte c.in-Outside-first_outside.is))
 
-returns-2 : tie.Need-returns-2
+returns-2 : tie.Need-returns-in-Outside
 returns-2 c =
-    let s = c.before.before.before.before.before.before.before.before in
-    let a = s.args in
-    let k = c.before.before.before.before.before.before.first_run in
+    let a = c.args in
+    let k = c.first_run-run in
     code_low (byte_address (based a.base) a.offset) a.len (inside_of a.owner (rows_in a.rows.now)) k.result
-    (few a.base a.offset a.len (search rules) s.requires k.result k.ensures) (runs a.base a.offset a.len (search rules) s.requires k.result k.ensures)
-    c.before.before.before.before.byte-address2.result c.before.before.before.before.byte-address2.ensures c.before.before.before.first-outside2.result c.before.before.before.first-outside2.ensures c.before.i.given.0.0 c.before.i.given.1
+    (few a.base a.offset a.len (search rules) c.requires k.result k.ensures) (runs a.base a.offset a.len (search rules) c.requires k.result k.ensures)
+    c.byte_address-2.result c.byte_address-2.ensures c.first_outside-2.result c.first_outside-2.ensures c.in-Outside.i c.in-Outside.is
 
-returns-3 : tie.Need-returns-3
+returns-3 : tie.Need-returns-in-Outside-first_outside
 returns-3 c =
-    let s = c.before.before.before.before.before.before.before.before.before.before.before.before in
-    let a = s.args in
-    let k = c.before.before.before.before.before.before.before.before.before.before.first_run in
+    let a = c.args in
+    let k = c.first_run-run in
     code_high (byte_address (based a.base) a.offset) a.len (inside_of a.owner (rows_in a.rows.now)) k.result
-    (few a.base a.offset a.len (search rules) s.requires k.result k.ensures) (runs a.base a.offset a.len (search rules) s.requires k.result k.ensures)
-    c.before.before.before.before.before.before.before.before.byte-address2.result c.before.before.before.before.before.before.before.before.byte-address2.ensures c.before.before.before.before.before.before.before.first-outside2.result c.before.before.before.before.before.before.before.first-outside2.ensures c.before.before.before.before.before.enum_told.given.1
-    c.before.before.before.before.byte-address3.result c.before.before.before.before.byte-address3.ensures c.before.before.before.first-outside3.result c.before.before.before.first-outside3.ensures c.before.i2.given.0.0 c.before.i2.given.1
+    (few a.base a.offset a.len (search rules) c.requires k.result k.ensures) (runs a.base a.offset a.len (search rules) c.requires k.result k.ensures)
+    c.byte_address-2.result c.byte_address-2.ensures c.first_outside-2.result c.first_outside-2.ensures c.in-Inside.is
+    c.byte_address-in-Inside.result c.byte_address-in-Inside.ensures c.first_outside-in-Inside.result c.first_outside-in-Inside.ensures c.in-Outside-first_outside.i c.in-Outside-first_outside.is
 
-returns-4 : tie.Need-returns-4
+returns-4 : tie.Need-returns-in-Inside-first_outside
 returns-4 c =
-    let s = c.before.before.before.before.before.before.before.before.before.before.before in
-    let a = s.args in
-    let k = c.before.before.before.before.before.before.before.before.before.first_run in
+    let a = c.args in
+    let k = c.first_run-run in
     code_inside (byte_address (based a.base) a.offset) a.len (inside_of a.owner (rows_in a.rows.now)) k.result
-    (few a.base a.offset a.len (search rules) s.requires k.result k.ensures) (runs a.base a.offset a.len (search rules) s.requires k.result k.ensures)
-    c.before.before.before.before.before.before.before.byte-address2.result c.before.before.before.before.before.before.before.byte-address2.ensures c.before.before.before.before.before.before.first-outside2.result c.before.before.before.before.before.before.first-outside2.ensures c.before.before.before.before.enum_told.given.1
-    c.before.before.before.byte-address3.result c.before.before.before.byte-address3.ensures c.before.before.first-outside3.result c.before.before.first-outside3.ensures c.enum-told2.given.1
+    (few a.base a.offset a.len (search rules) c.requires k.result k.ensures) (runs a.base a.offset a.len (search rules) c.requires k.result k.ensures)
+    c.byte_address-2.result c.byte_address-2.ensures c.first_outside-2.result c.first_outside-2.ensures c.in-Inside.is
+    c.byte_address-in-Inside.result c.byte_address-in-Inside.ensures c.first_outside-in-Inside.result c.first_outside-in-Inside.ensures c.in-Inside-first_outside.is
 
 pub survey_spec : {M : Type 1} → statement M
 survey_spec =

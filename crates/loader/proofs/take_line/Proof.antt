@@ -12,54 +12,52 @@ use borrow.Author.Tests.{eqb-false}
 use Rattle.loader.proofs.take_line.Statement.{statement}
 use Rattle.loader.proofs.take_line.Tie as tie
 
-returns : tie.Need-returns
+returns : tie.Need-returns-then-is_unfit
 returns c =
-    let s = c.before.before.before.before.before.args in
-    let u = c.before.is-unfit.ensures.answer in
+    let s = c.args in
+    let u = c.is_unfit.ensures.answer in
     none_taken s.line.now s.number s.base s.tally s.first s.page.now s.marks.now
     (⊎_elim
     (λ w. closed_unfit s.tally.records s.first (length s.page.now) (length s.marks.now) (sym u ∙ w.taken))
     (λ w. closed_full s.tally.records s.first (length s.page.now) (length s.marks.now) (sym u ∙ w.0.left) (omega (arith, eqb-true s.tally.records (2 ^ 64 - 1) w.2.taken)))
-    c.if1.branch)
+    c.then-is_unfit.branch)
 
 -- the window is not refused, and the tally can count on
-fit : (c : tie.Else2) → let s = c.before.before.before.before.before.before.before.args in unfit s.first (length s.page.now) (length s.marks.now) ≡ false
-fit c = sym c.before.before.before.is-unfit.ensures.answer ∙ c.before.before.if1.false
+fit : (c : tie.Else-tally-eq-MOST_RECORDS) → let s = c.args in unfit s.first (length s.page.now) (length s.marks.now) ≡ false
+fit c = sym c.is_unfit.ensures.answer ∙ c.if-is_unfit.false
 
-counts-on : (c : tie.Else2) → c.before.before.before.before.before.before.before.args.tally.records + 1 ≢ 2 ^ 64
-counts-on c = let n = eqb-false c.before.before.before.before.before.before.before.args.tally.records (2 ^ 64 - 1) c.if2.false in λ e. n (omega arith)
+counts-on : (c : tie.Else-tally-eq-MOST_RECORDS) → c.args.tally.records + 1 ≢ 2 ^ 64
+counts-on c = let n = eqb-false c.args.tally.records (2 ^ 64 - 1) c.if-tally-eq-MOST_RECORDS.false in λ e. n (omega arith)
 
-not-shut : (c : tie.Else2) → let s = c.before.before.before.before.before.before.before.args in closed s.tally.records s.first (length s.page.now) (length s.marks.now) ≡ false
-not-shut c = let s = c.before.before.before.before.before.before.before.args in not_closed s.tally.records s.first (length s.page.now) (length s.marks.now) (fit c) (counts-on c)
+not-shut : (c : tie.Else-tally-eq-MOST_RECORDS) → let s = c.args in closed s.tally.records s.first (length s.page.now) (length s.marks.now) ≡ false
+not-shut c = let s = c.args in not_closed s.tally.records s.first (length s.page.now) (length s.marks.now) (fit c) (counts-on c)
 
 -- the record that was read
-said : (c : tie.After-given) → let s = c.before.before.before.before.before.before.before.before.before.before.before.before.args in let n = c.before.before.before.read-record in ReadAs s.line.now n.new.1.0 c.given.given.0.0
+said : (c : tie.In-Read-2) → let s = c.args in let n = c.read_record in ReadAs s.line.now n.new.pool c.in-Read.given
 said c =
-    let s = c.before.before.before.before.before.before.before.before.before.before.before.before.args in
-    let n = c.before.before.before.read-record in
-    line_read s.line.now (replicate 255 0) n.new.1.0 refl c.given.given.0.0 (subst (λ (a : Answer). ReadRecord s.line.now (replicate 255 0) 0 a n.new.1.0) c.given.given.1 n.ensures)
+    let s = c.args in
+    let n = c.read_record in
+    line_read s.line.now (replicate 255 0) n.new.pool refl c.in-Read.given (subst (λ (a : Answer). ReadRecord s.line.now (replicate 255 0) 0 a n.new.pool) c.in-Read.is n.ensures)
 
-room : (c : tie.After-read-record) → length c.read-record.new.1.0 ≡ 255
-room c = c.read-record.auto.1.0
+room : (c : tie.After-read_record) → length c.read_record.new.pool ≡ 255
+room c = c.read_record.auto.pool
 
-take-record-requires : tie.Need-take-record-requires
+take-record-requires : tie.Need-take_record-requires
 take-record-requires c κs =
-    ((said c.before.before.before.before).lies (room c.before.before.before.before.before.before.before), omega (arith, counts-on c.before.before.before.before.before.before.before.before.before, c.before.before.before.before.before.before.before.before.before.before.struct_known.given), fit c.before.before.before.before.before.before.before.before.before)
+    ((said c.before.before.before.before).lies (room c.before.before.before.before.before.before.before), omega (arith, counts-on c.before.before.before.before.before.before.before.before.before, c.struct_known-1.given), fit c.before.before.before.before.before.before.before.before.before)
 
-returns-2 : tie.Need-returns-2
+returns-2 : tie.Need-returns-in-Read
 returns-2 c =
-    let s = c.before.before.before.before.before.before.before.before.before.before.before.before.before.before.before.before.before.before.before.before.before.args in
-    let x = c.before.before.before.before.before.before.before.before.before in
-    let t = c.before.before.before.before.take-record in
-    taken_read s.line.now s.number s.base s.tally s.first s.page.now s.marks.now (not-shut c.before.before.before.before.before.before.before.before.before.before.before.before.before.before) c.before.before.before.before.before.before.before.before.before.before.before.before.read-record.new.1.0 x.given.given.0.0 (said x) t.result _ _ t.ensures
+    let s = c.args in
+    let t = c.take_record in
+    taken_read s.line.now s.number s.base s.tally s.first s.page.now s.marks.now (not-shut c.before.before.before.before.before.before.before.before.before.before.before.before.before.before) c.read_record.new.pool c.in-Read.given (said c.before.before.before.before.before.before.before.before.before) t.result _ _ t.ensures
 
-returns-3 : tie.Need-returns-3
+returns-3 : tie.Need-returns-in-Refused
 returns-3 c =
-    let s = c.before.before.before.before.before.before.before.before.before.before.before.before.before.args in
-    let n = c.before.before.before.before.read-record in
-    let g = c.before.e.given in
-    taken_refused s.line.now s.number s.base s.tally s.first s.page.now s.marks.now (not-shut c.before.before.before.before.before.before) g.0.0
-    (line_refused s.line.now (replicate 255 0) n.new.1.0 refl g.0.0 (subst (λ (a : Answer). ReadRecord s.line.now (replicate 255 0) 0 a n.new.1.0) g.1 n.ensures))
+    let s = c.args in
+    let n = c.read_record in
+    taken_refused s.line.now s.number s.base s.tally s.first s.page.now s.marks.now (not-shut c.before.before.before.before.before.before) c.in-Refused.e
+    (line_refused s.line.now (replicate 255 0) n.new.pool refl c.in-Refused.e (subst (λ (a : Answer). ReadRecord s.line.now (replicate 255 0) 0 a n.new.pool) c.in-Refused.is n.ensures))
 
 pub take_line_spec : {M : Type 1} → statement M
 take_line_spec =

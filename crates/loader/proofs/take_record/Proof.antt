@@ -14,42 +14,37 @@ use Rattle.loader.proofs.take_record.Statement.{statement}
 use Rattle.loader.proofs.take_record.Tie as tie
 
 -- page and marks are as they were
-left : (c : tie.Else1)
-    → let a = c.before.before.before.before.before.before.before.before.before.before.before.args in
-    (c.before.before.before.before.before.put_whole.new.1.1.1.1.0 ≡ a.page.now) × (c.before.before.before.before.before.put_whole.new.1.1.1.1.1.0 ≡ a.marks.now)
-left c = c.before.before.before.before.before.put_whole.ensures.kept c.if1.false
+left : (c : tie.Else-put_whole)
+    → let a = c.args in
+    (c.put_whole.new.page ≡ a.page.now) × (c.put_whole.new.marks ≡ a.marks.now)
+left c = c.put_whole.ensures.kept c.if-put_whole.false
 
-returns : tie.Need-returns
-returns c = let a = c.before.before.before.before.before.before.before.before.before.before.before.before.args in c.before.before.before.before.before.before.put_whole.ensures.took c.before.if1.true a.number a.tally
+returns : tie.Need-returns-then-put_whole
+returns c = let a = c.args in c.put_whole.ensures.took c.if-put_whole.true a.number a.tally
 
-judge-record-requires : tie.Need-judge-record-requires
-judge-record-requires c κs = let s = c.before.before.before.before.before.before.before.before.before.before.before.before in (short_record s.args.given s.args.pool.now s.requires.0, s.requires.1)
+judge-record-requires : tie.Need-judge_record-requires
+judge-record-requires c κs = (short_record c.args.given c.args.pool.now c.requires.0, c.requires.1)
 
-write-record-requires : tie.Need-write-record-requires
+write-record-requires : tie.Need-write_record-requires
 write-record-requires c κs =
-    let s = c.before.before.before.before.before.before.before.before.before.before.before.before.before.before.before.before.before.before.before in
-    let l = c.before.before.before.before.before.before.before.before.before.before.before.before.before.put_whole.new in
-    (s.requires.0, alone_sound s.args.first l.1.1.1.1.0 l.1.1.1.1.1.0 (let e = left c.before.before.before.before.before.before.before.before in rw (e.0, e.1) s.requires.2))
+    let l = c.put_whole.new in
+    (c.requires.0, alone_sound c.args.first l.page l.marks (let e = left c.before.before.before.before.before.before.before.before in rw (e.0, e.1) c.requires.2))
 
-returns-2 : tie.Need-returns-2
+returns-2 : tie.Need-returns-in-On
 returns-2 c =
-    let s = c.before.before.before.before.before.before.before.before.before.before.before.before.before.before.before.before.before.before.before.before.before.before.before.before in
-    let a = s.args in
-    let l = c.before.before.before.before.before.before.before.before.before.before.before.before.before.before.before.before.before.before.put_whole.new in
-    let g = c.before.before.before.before.before.before.before.before.before.next.given in
-    took_by_table a.number a.base a.tally a.given a.pool.now a.first a.page.now a.marks.now l.1.1.1.1.0 l.1.1.1.1.1.0 (left c.before.before.before.before.before.before.before.before.before.before.before.before.before) (On g.0.0 g.0.1.0)
-    (subst (Met (inside_of 1 (rows_in (alone a.first (length l.1.1.1.1.0)))) a.number a.base a.tally (meant a.given a.pool.now)) g.1 (c.before.before.before.before.before.before.before.before.before.before.before.judge-record.ensures a.pool.now s.requires.0))
-    _ _ c.before.before.before.before.write-record.ensures
+    let a = c.args in
+    let l = c.put_whole.new in
+    took_by_table a.number a.base a.tally a.given a.pool.now a.first a.page.now a.marks.now l.page l.marks (left c.before.before.before.before.before.before.before.before.before.before.before.before.before) (On c.in-On.next c.in-On.t)
+    (subst (Met (inside_of 1 (rows_in (alone a.first (length l.page)))) a.number a.base a.tally (meant a.given a.pool.now)) c.in-On.is (c.judge_record.ensures a.pool.now c.requires.0))
+    _ _ c.write_record.ensures
 
-returns-3 : tie.Need-returns-3
+returns-3 : tie.Need-returns-in-Stop
 returns-3 c =
-    let s = c.before.before.before.before.before.before.before.before.before.before.before.before.before.before.before.before in
-    let a = s.args in
-    let l = c.before.before.before.before.before.before.before.before.before.before.put_whole.new in
-    let g = c.before.answer.given in
-    took_by_table a.number a.base a.tally a.given a.pool.now a.first a.page.now a.marks.now l.1.1.1.1.0 l.1.1.1.1.1.0 (left c.before.before.before.before.before) (Stop g.0.0)
-    (subst (Met (inside_of 1 (rows_in (alone a.first (length l.1.1.1.1.0)))) a.number a.base a.tally (meant a.given a.pool.now)) g.1 (c.before.before.before.judge-record.ensures a.pool.now s.requires.0))
-    _ _ (painted_nothing _ l.1.1.1.1.0 l.1.1.1.1.1.0)
+    let a = c.args in
+    let l = c.put_whole.new in
+    took_by_table a.number a.base a.tally a.given a.pool.now a.first a.page.now a.marks.now l.page l.marks (left c.before.before.before.before.before) (Stop c.in-Stop.answer)
+    (subst (Met (inside_of 1 (rows_in (alone a.first (length l.page)))) a.number a.base a.tally (meant a.given a.pool.now)) c.in-Stop.is (c.judge_record.ensures a.pool.now c.requires.0))
+    _ _ (painted_nothing _ l.page l.marks)
 
 pub take_record_spec : {M : Type 1} → statement M
 take_record_spec =

@@ -8,39 +8,34 @@ use Rattle.loader.proofs.write_next.Statement.{statement}
 use Rattle.loader.proofs.write_next.Tie as tie
 
 -- the record that was read
-one : (c : tie.After-reply)
-    → let s = c.before.before.before.before.before.before.before.before.before.before.before.before.before in
-    let n = c.before.before.before.before.before.next in
-    One s.args.w.state s.args.text.now s.args.pool.now n.result n.new.1.1.0 s.requires.0.options s.requires.0.countable s.requires.1 n.ensures c.reply.given.0.0
+one : (c : tie.In-Read-2)
+    →    let n = c.next-step in
+    One c.args.w.state c.args.text.now c.args.pool.now n.result n.new.pool c.requires.0.options c.requires.0.countable c.requires.1 n.ensures c.in-Read.given
 one c =
-    let s = c.before.before.before.before.before.before.before.before.before.before.before.before.before in
-    let n = c.before.before.before.before.before.next in
-    came_read s.args.w.state s.args.text.now s.args.pool.now n.result n.new.1.1.0 s.requires.0.options s.requires.0.countable s.requires.1 n.ensures c.reply.given.0.0 c.reply.given.1
+    let n = c.next-step in
+    came_read c.args.w.state c.args.text.now c.args.pool.now n.result n.new.pool c.requires.0.options c.requires.0.countable c.requires.1 n.ensures c.in-Read.given c.in-Read.is
 
-write-record-requires : tie.Need-write-record-requires
-write-record-requires c κs = ((one c.before.before.before.before).lies (c.before.before.before.before.before.before.before.before.before.next.auto.1.1.0 ∙ c.before.before.before.before.before.before.before.before.before.before.before.before.before.before.before.before.before.requires.1), c.before.before.before.before.before.before.before.before.before.before.before.before.before.before.before.before.before.requires.2)
+write-record-requires : tie.Need-write_record-requires
+write-record-requires c κs = ((one c.before.before.before).lies (c.next-step.auto.pool ∙ c.requires.1), c.requires.2)
 
-returns : tie.Need-returns
+returns : tie.Need-returns-in-Read
 returns c =
-    let s = c.before.before.before.before.before.before.before.before.before.before.before.before.before.before.before.before.before.before.before.before.before.before.before in
-    let n = c.before.before.before.before.before.before.before.before.before.before.before.before.before.before.before.next in
-    let t = c.before.before.before.before.before.write-record in
-    wrote s.args.text.now s.args.w s.args.pool.now n.result n.new.1.1.0 s.requires.0 s.requires.1 n.ensures
-    (site_of s.args.owner (rows_in s.args.rows.now)) s.args.page.now s.args.marks.now _ _ _ (one c.before.before.before.before.before.before.before.before.before.before) c.base_behind.result t.ensures c.base_behind.ensures
+    let n = c.next-step in
+    let t = c.write_record in
+    wrote c.args.text.now c.args.w c.args.pool.now n.result n.new.pool c.requires.0 c.requires.1 n.ensures
+    (site_of c.args.owner (rows_in c.args.rows.now)) c.args.page.now c.args.marks.now _ _ _ (one c.before.before.before.before.before.before.before.before.before) c.base_behind.result t.ensures c.base_behind.ensures
 
-returns-2 : tie.Need-returns-2
+returns-2 : tie.Need-returns-in-Refused
 returns-2 c =
-    let s = c.before.before.before.before.before.before.before.before.before.before.before.before.before in
-    let n = c.before.before.before.before.before.next in
-    let u = came_refused s.args.w.state s.args.text.now s.args.pool.now n.result n.new.1.1.0 s.requires.0.options s.requires.0.countable s.requires.1 n.ensures c.enum_told.given.0.0 c.enum_told.given.1 in
-    (refused_states s.args.text.now s.args.w s.args.pool.now n.result n.new.1.1.0 s.requires.0 s.requires.1 n.ensures n.result.state.line c.enum_told.given.0.0 u.0 u.1, refl, refl)
+    let n = c.next-step in
+    let u = came_refused c.args.w.state c.args.text.now c.args.pool.now n.result n.new.pool c.requires.0.options c.requires.0.countable c.requires.1 n.ensures c.in-Refused.field-0 c.in-Refused.is in
+    (refused_states c.args.text.now c.args.w c.args.pool.now n.result n.new.pool c.requires.0 c.requires.1 n.ensures n.result.state.line c.in-Refused.field-0 u.0 u.1, refl, refl)
 
-returns-3 : tie.Need-returns-3
+returns-3 : tie.Need-returns-in-Done
 returns-3 c =
-    let s = c.before.before.before.before.before.before.before.before.before.before.before.before.before in
-    let n = c.before.before.before.before.before.next in (
-      done_states s.args.text.now s.args.w s.args.pool.now n.result n.new.1.1.0 s.requires.0 s.requires.1 n.ensures
-          (came_done s.args.w.state s.args.text.now s.args.pool.now n.result n.new.1.1.0 s.requires.0.options s.requires.0.countable s.requires.1 n.ensures c.enum-told2.given.1),
+    let n = c.next-step in (
+      done_states c.args.text.now c.args.w c.args.pool.now n.result n.new.pool c.requires.0 c.requires.1 n.ensures
+          (came_done c.args.w.state c.args.text.now c.args.pool.now n.result n.new.pool c.requires.0.options c.requires.0.countable c.requires.1 n.ensures c.in-Done.is),
       refl,
       refl,
     )

@@ -11,61 +11,56 @@ use Rattle.loader.proofs.write_record.Statement.{statement}
 use Rattle.loader.proofs.write_record.Tie as tie
 
 -- where the payload lies
-lies : (c : tie.After-known-told)
-    → let g = c.before.given.given.0 in
-    let p = c.before.before.before.before.before.before.before.args.pool.now in
-    LiesIn (Data g.0 g.1.0 g.1.1.0) p
+lies : (c : tie.In-Data)
+    →    let p = c.args.pool.now in
+    LiesIn (Data c.in-Data.offset c.in-Data.at c.in-Data.len) p
 lies c =
-    let s = c.before.before.before.before.before.before.before in
-    subst (λ (x : Record). LiesIn x s.args.pool.now) c.before.given.given.1 s.requires.0
+    subst (λ (x : Record). LiesIn x c.args.pool.now) c.in-Data.is c.requires.0
 
-add-end : tie.Need-overflow-add-end
+add-end : tie.Need-overflow_add-end
 add-end c = omega (arith, lies c)
 
-part-put-end : tie.Need-slice-bounds-put-end
+part-put-end : tie.Need-slice_bounds-put-end
 part-put-end c = (lies c).0
 
 put-requires : tie.Need-put-requires
 put-requires c κs =
-    let g = c.before.before.before.before.given.given in
-    (part_small g.0.1.0 g.0.1.1.0 c.before.before.before.before.before.before.before.before.before.before.args.pool.now (lies c.before.before.before).1, c.before.before.before.before.before.before.before.before.before.before.requires.1)
+    (part_small c.in-Data.at c.in-Data.len c.args.pool.now (lies c.before.before.before).1, c.requires.1)
 
-returns : tie.Need-returns
+returns : tie.Need-returns-in-Data
 returns c =
-    let s = c.before.before.before.before.before.before.before.before.before.before.before.before.before.before.before in
-    let g = c.before.before.before.before.before.before.before.before.before.given.given in
-    let p = c.before.before.before.before.put in
-    painted_data (site_of s.args.owner (rows_in s.args.rows.now)) (based s.args.base) s.args.given s.args.pool.now s.args.page.now s.args.marks.now g.0.0 g.0.1.0 g.0.1.1.0 _ _ g.1 p.ensures
+    let p = c.put in
+    painted_data (site_of c.args.owner (rows_in c.args.rows.now)) (based c.args.base) c.args.given c.args.pool.now c.args.page.now c.args.marks.now c.in-Data.offset c.in-Data.at c.in-Data.len _ _ c.in-Data.is p.ensures
 
-returns-2 : tie.Need-returns-2
+returns-2 : tie.Need-returns-in-EndOfFile
 unfolding stated_by
 returns-2 c =
-    let a = c.before.before.before.before.before.before.args in
-    idle (site_of a.owner (rows_in a.rows.now)) (based a.base) a.given a.pool.now a.page.now a.marks.now (rw c.enum_told.given.1)
+    let a = c.args in
+    idle (site_of a.owner (rows_in a.rows.now)) (based a.base) a.given a.pool.now a.page.now a.marks.now (rw c.in-EndOfFile.is)
 
-returns-3 : tie.Need-returns-3
+returns-3 : tie.Need-returns-in-ExtendedSegmentAddress
 unfolding stated_by
 returns-3 c =
-    let a = c.before.before.before.before.before.before.args in
-    idle (site_of a.owner (rows_in a.rows.now)) (based a.base) a.given a.pool.now a.page.now a.marks.now (rw c.enum-told2.given.1)
+    let a = c.args in
+    idle (site_of a.owner (rows_in a.rows.now)) (based a.base) a.given a.pool.now a.page.now a.marks.now (rw c.in-ExtendedSegmentAddress.is)
 
-returns-4 : tie.Need-returns-4
+returns-4 : tie.Need-returns-in-StartSegmentAddress
 unfolding stated_by
 returns-4 c =
-    let a = c.before.before.before.before.before.before.args in
-    idle (site_of a.owner (rows_in a.rows.now)) (based a.base) a.given a.pool.now a.page.now a.marks.now (rw c.enum-told3.given.1)
+    let a = c.args in
+    idle (site_of a.owner (rows_in a.rows.now)) (based a.base) a.given a.pool.now a.page.now a.marks.now (rw c.in-StartSegmentAddress.is)
 
-returns-5 : tie.Need-returns-5
+returns-5 : tie.Need-returns-in-ExtendedLinearAddress
 unfolding stated_by
 returns-5 c =
-    let a = c.before.before.before.before.before.before.args in
-    idle (site_of a.owner (rows_in a.rows.now)) (based a.base) a.given a.pool.now a.page.now a.marks.now (rw c.enum-told4.given.1)
+    let a = c.args in
+    idle (site_of a.owner (rows_in a.rows.now)) (based a.base) a.given a.pool.now a.page.now a.marks.now (rw c.in-ExtendedLinearAddress.is)
 
-returns-6 : tie.Need-returns-6
+returns-6 : tie.Need-returns-in-StartLinearAddress
 unfolding stated_by
 returns-6 c =
-    let a = c.before.before.before.before.before.before.args in
-    idle (site_of a.owner (rows_in a.rows.now)) (based a.base) a.given a.pool.now a.page.now a.marks.now (rw c.enum-told5.given.1)
+    let a = c.args in
+    idle (site_of a.owner (rows_in a.rows.now)) (based a.base) a.given a.pool.now a.page.now a.marks.now (rw c.in-StartLinearAddress.is)
 
 pub write_record_spec : {M : Type 1} → statement M
 write_record_spec =

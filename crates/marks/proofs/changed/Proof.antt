@@ -7,15 +7,15 @@ use Rattle.marks.proofs.Bits.{cleared_byte}
 use Rattle.marks.proofs.changed.Statement.{statement}
 use Rattle.marks.proofs.changed.Tie as tie
 
-returns : tie.Need-returns
+returns : tie.Need-returns-then-set
 unfolding with_bits
-returns c = let s = c.before.args in ap (λ (on : Bool). with_bits on s.byte s.mask) (sym c.if1.true)
+returns c = let s = c.args in ap (λ (on : Bool). with_bits on s.byte s.mask) (sym c.if-set.true)
 
-returns-2 : tie.Need-returns-2
+returns-2 : tie.Need-returns
 returns-2 c =
-    let s = c.before.args in
-    cleared_byte s.byte s.mask c.before.ranges.byte.fits c.before.ranges.mask.fits
-    ∙ ap (λ (on : Bool). with_bits on s.byte s.mask) (sym c.if1.false)
+    let s = c.args in
+    cleared_byte s.byte s.mask c.ranges.byte.fits c.ranges.mask.fits
+    ∙ ap (λ (on : Bool). with_bits on s.byte s.mask) (sym c.if-set.false)
 
 pub changed_spec : {M : Type 1} → statement M
 changed_spec = tie.close (tie.spec returns returns-2)

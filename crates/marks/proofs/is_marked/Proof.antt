@@ -11,22 +11,22 @@ use borrow.Author.Rules.{rules}
 use Rattle.marks.proofs.is_marked.Statement.{statement}
 use Rattle.marks.proofs.is_marked.Tie as tie
 
-shared-slice-read-result : tie.Need-shared-slice-read-result
+shared-slice-read-result : tie.Need-bounds-marks-at
 shared-slice-read-result c = search rules
 
-cast-result : tie.Need-overflow-cast-result
+cast-result : tie.Need-overflow_cast-result
 cast-result c = search rules
 
-shr-result : tie.Need-overflow-shr-result
+shr-result : tie.Need-overflow_shr-result
 shr-result c = search rules
 
-returns : tie.Need-returns
+returns : tie.Need-returns-then-at-marks
 unfolding mark_at bit byte_of
 returns c = record { answer = (λ e. eqb-true _ 1 e, λ e. eq-eqb _ 1 e) }
 
-returns-2 : tie.Need-returns-2
+returns-2 : tie.Need-returns
 returns-2 c =
-    let s = c.before.args in
+    let s = c.args in
     let z = outside s.marks.now s.place (omega arith) in
     record { answer = (λ e. absurd (no e), λ e. absurd (omega arith)) }
   where

@@ -6,10 +6,10 @@ use borrow.Author.Rules.{rules}
 use Rattle.marks.proofs.row_length.Statement.{statement}
 use Rattle.marks.proofs.row_length.Tie as tie
 
-add-result : tie.Need-overflow-add-result
+add-result : tie.Need-overflow_add-result
 add-result c = search rules
 
-add-result-2 : tie.Need-overflow-add-result-2
+add-result-2 : tie.Need-overflow_add-result-2
 add-result-2 c = search rules
 
 returns : tie.Need-returns

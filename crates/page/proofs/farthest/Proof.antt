@@ -7,13 +7,13 @@ use borrow.Author.Rules.{rules}
 use Rattle.page.proofs.farthest.Statement.{statement}
 use Rattle.page.proofs.farthest.Tie as tie
 
-add-result : tie.Need-overflow-add-result
-add-result c = omega (arith, c.before.before.requires, c.least2.ensures, c.before.before.well-formed.1.1.0)
+add-result : tie.Need-overflow_add-result
+add-result c = omega (arith, c.requires, c.least-2.ensures, c.well-formed.1.1.0)
 
 returns : tie.Need-returns
 returns c =
-    let a = c.before.before.args in
-    rw (c.least2.ensures, c.before.least.ensures) (ap (λ (room : ℕ). a.place + min (min 16 room) (a.end - a.place)) (omega arith))
+    let a = c.args in
+    rw (c.least-2.ensures, c.least.ensures) (ap (λ (room : ℕ). a.place + min (min 16 room) (a.end - a.place)) (omega arith))
 
 pub farthest_spec : {M : Type 1} → statement M
 farthest_spec = tie.close (tie.spec (λ c. search rules) (λ c. search rules) (λ c κs. search rules) (λ c. search rules) (λ c κs. search rules) add-result returns)

@@ -15,45 +15,44 @@ use Rattle.page.proofs.Loops.{Surveying, at_first, under_way, passes_one, fewer_
 use Rattle.page.proofs.survey.Statement.{statement}
 use Rattle.page.proofs.survey.Tie as tie
 
-abbrev invariant-loop : tie.invariant-loop
+abbrev invariant-loop : tie.invariant-loop-finished
 invariant-loop first page marks s₀ w₀ finished₀ s w finished = Surveying first page (flags (length page) marks) s w finished
 
-abbrev decreases-loop : tie.decreases-loop
+abbrev decreases-loop : tie.decreases-loop-finished
 decreases-loop first page marks s₀ w₀ finished₀ s w finished = length (to_come first (flags (length page) marks) w)
 
-loop-holds : tie.Need-loop-init invariant-loop decreases-loop
+loop-holds : tie.Need-loop-finished-init invariant-loop decreases-loop
 loop-holds c =
-    let a = c.before.before.before.before.args in
-    record { rs = []; passed = at_first a.first (flags (length a.page.now) a.marks.now) c.begin.result c.begin.ensures; surveys = no-records c.before.new.ensures }
+    let a = c.args in
+    record { rs = []; passed = at_first a.first (flags (length a.page.now) a.marks.now) c.begin-w.result c.begin-w.ensures; surveys = no-records c.new-s.ensures }
 
-next-record-requires : tie.Need-next-record-requires invariant-loop decreases-loop
+next-record-requires : tie.Need-next_record-step-requires invariant-loop decreases-loop
 next-record-requires c κs =
-    let s = c.before.before.before.before.before.before in
-    let l = c.before.loop in
-    under_way s.args.first (flags (length s.args.page.now) s.args.marks.now) l.invariant.rs l.w l.finished l.invariant.passed (not-true l.finished c.loop-test.true) (omega (arith, flags_length (length s.args.page.now) s.args.marks.now, s.requires))
+    let l = c.loop-finished in
+    under_way c.args.first (flags (length c.args.page.now) c.args.marks.now) l.invariant.rs l.w l.finished l.invariant.passed (not-true l.finished c.loop-finished-test.true) (omega (arith, flags_length (length c.args.page.now) c.args.marks.now, c.requires))
 
-loop-less : tie.Need-loop-smaller invariant-loop decreases-loop
+loop-less : tie.Need-loop-finished-smaller invariant-loop decreases-loop
 loop-less c =
-    let a = c.before.before.before.before.before.before.before.before.before.args in
-    let n = c.before.before.next-record in
-    fewer_left a.first (flags (length a.page.now) a.marks.now) c.before.before.before.before.loop.w n.result n.ensures
+    let a = c.args in
+    let n = c.next_record-step in
+    fewer_left a.first (flags (length a.page.now) a.marks.now) c.loop-finished.w n.result n.ensures
 
-loop-again : tie.Need-loop-preserved invariant-loop decreases-loop
+loop-again : tie.Need-loop-finished-preserved invariant-loop decreases-loop
 loop-again c =
-    let a = c.before.before.before.before.before.before.before.before.before.args in
-    let l = c.before.before.before.before.loop in
-    let n = c.before.before.next-record in
+    let a = c.args in
+    let l = c.loop-finished in
+    let n = c.next_record-step in
     record {
       rs = l.invariant.rs ++ (n.result.given ∷ []);
       passed = passes_one a.first (flags (length a.page.now) a.marks.now) l.invariant.rs l.w l.finished n.result l.invariant.passed n.ensures;
-      surveys = then_add l.invariant.surveys c.before.add.ensures refl;
+      surveys = then_add l.invariant.surveys c.add-s.ensures refl;
     }
 
 returns : tie.Need-returns invariant-loop decreases-loop
 returns c =
-    let a = c.before.before.before.before.before.before.args in
-    let l = c.before.loop in
-    subst (λ (rs : List Record). Surveys a.page.now rs l.s) (passed_all a.first (flags (length a.page.now) a.marks.now) l.invariant.rs l.w l.finished l.invariant.passed (not-false l.finished c.loop-test.false)) l.invariant.surveys
+    let a = c.args in
+    let l = c.loop-finished in
+    subst (λ (rs : List Record). Surveys a.page.now rs l.s) (passed_all a.first (flags (length a.page.now) a.marks.now) l.invariant.rs l.w l.finished l.invariant.passed (not-false l.finished c.loop-finished-test.false)) l.invariant.surveys
 
 pub survey_spec : {M : Type 1} → statement M
 survey_spec = tie.close (tie.spec invariant-loop decreases-loop (λ c κs. search rules) (λ c κs. search rules) loop-holds next-record-requires (λ c κs. search rules) loop-less loop-again returns)

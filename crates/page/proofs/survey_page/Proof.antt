@@ -12,30 +12,30 @@ use Rattle.page.proofs.survey_page.Statement.{statement}
 use Rattle.page.proofs.survey_page.Tie as tie
 
 -- the window is not refused
-fit : (c : tie.Else1) → let a = c.before.before.before.before.args in unfit a.first (length a.page.now) (length a.marks.now) ≡ false
-fit c = sym c.before.is-unfit.ensures.answer ∙ c.if1.false
+fit : (c : tie.Else-is_unfit) → let a = c.args in unfit a.first (length a.page.now) (length a.marks.now) ≡ false
+fit c = sym c.is_unfit.ensures.answer ∙ c.if-is_unfit.false
 
-returns : tie.Need-returns
+returns : tie.Need-returns-then-is_unfit
 returns c =
-    let a = c.before.before.before.before.args in
-    text_unfit a.first a.page.now a.marks.now (sym c.before.is-unfit.ensures.answer ∙ c.if1.true)
+    let a = c.args in
+    text_unfit a.first a.page.now a.marks.now (sym c.is_unfit.ensures.answer ∙ c.if-is_unfit.true)
 
-returns-2 : tie.Need-returns-2
+returns-2 : tie.Need-returns-in-At
 returns-2 c =
-    let a = c.before.before.before.before.before.before.before.before.args in
-    let u = sym c.before.before.before.first_unused.ensures.answer ∙ ap told_unused c.before.place.given.1 in
+    let a = c.args in
+    let u = sym c.first_unused.ensures.answer ∙ ap told_unused c.in-At.is in
     text_bad a.first a.page.now a.marks.now (fit c.before.before.before.before) _ u
 
 survey-requires : tie.Need-survey-requires
 survey-requires c κs =
-    let a = c.before.before.before.before.before.before.before.args in
+    let a = c.args in
     (good_window a.first a.page.now a.marks.now (fit c.before.before.before)).below
 
-returns-3 : tie.Need-returns-3
+returns-3 : tie.Need-returns-in-Clear
 returns-3 c =
-    let a = c.before.before.before.before.before.before.before.before.args in
+    let a = c.args in
     let f = fit c.before.before.before.before in
-    let u = sym c.before.before.before.first_unused.ensures.answer ∙ ap told_unused c.before.enum_told.given.1 in
+    let u = sym c.first_unused.ensures.answer ∙ ap told_unused c.in-Clear.is in
     record {
       window = good_window a.first a.page.now a.marks.now f;
       text_is = text_good a.first a.page.now a.marks.now f u;

@@ -4,8 +4,8 @@ use Rattle.std.proofs.Common.{rules}
 use Rattle.query.proofs.answer_of.Statement.{statement}
 use Rattle.query.proofs.answer_of.Tie as tie
 
-returns-2 : tie.Need-returns-2
-returns-2 c = rw c.before.found.given.1
+returns-2 : tie.Need-returns-in-Byte
+returns-2 c = rw c.in-Byte.is
 
 pub answer_of_spec : {M : Type 1} → statement M
 answer_of_spec = tie.close (tie.spec (λ c. search rules) (λ c. search rules) (λ c. search rules) returns-2)

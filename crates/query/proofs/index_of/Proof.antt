@@ -5,22 +5,22 @@ use Rattle.query.proofs.Index.{index_linear, index_segment, index_apart}
 use Rattle.query.proofs.index_of.Statement.{statement}
 use Rattle.query.proofs.index_of.Tie as tie
 
-returns : tie.Need-returns
+returns : tie.Need-returns-then-aim
 returns c =
-    let a = c.before.before.args in
-    let d = c.before.wrapping-sub-u32 in
-    index_linear a.aim a.offset (omega arith) d.result c.if1.true (omega arith) d.ensures
+    let a = c.args in
+    let d = c.wrapping_sub_u32-i in
+    index_linear a.aim a.offset (omega arith) d.result c.if-aim.true (omega arith) d.ensures
 
-returns-2 : tie.Need-returns-2
+returns-2 : tie.Need-returns-then-aim-lt-SEGMENT
 returns-2 c =
-    let a = c.before.before.before.before.args in
-    let d = c.before.before.before.wrapping-sub-u32 in
-    index_segment a.aim a.offset (omega arith) d.result c.before.before.if1.false c.if2.true d.ensures
+    let a = c.args in
+    let d = c.wrapping_sub_u32-i in
+    index_segment a.aim a.offset (omega arith) d.result c.if-aim.false c.if-aim-lt-SEGMENT.true d.ensures
 
-returns-3 : tie.Need-returns-3
+returns-3 : tie.Need-returns
 returns-3 c =
-    let a = c.before.before.before.before.args in
-    index_apart a.aim a.offset (omega arith) c.before.before.if1.false c.if2.false
+    let a = c.args in
+    index_apart a.aim a.offset (omega arith) c.if-aim.false c.if-aim-lt-SEGMENT.false
 
 pub index_of_spec : {M : Type 1} → statement M
 index_of_spec = tie.close (tie.spec (λ c κs. search rules) returns returns-2 returns-3)

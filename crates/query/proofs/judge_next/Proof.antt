@@ -7,44 +7,37 @@ use Rattle.query.proofs.judge_next.Statement.{statement}
 use Rattle.query.proofs.judge_next.Tie as tie
 
 -- the record that was read
-one : (c : tie.After-reply)
-    → let s = c.before.before.before.before.before.before.before.before.before.before in
-    let n = c.before.before.before.before.before.next in
-    One s.args.w.state s.args.text.now s.args.pool.now n.result n.new.1.1.0 s.requires.0.options s.requires.0.countable s.requires.1 n.ensures c.reply.given.0.0
+one : (c : tie.In-Read-2)
+    →    let n = c.next-step in
+    One c.args.w.state c.args.text.now c.args.pool.now n.result n.new.pool c.requires.0.options c.requires.0.countable c.requires.1 n.ensures c.in-Read.given
 one c =
-    let s = c.before.before.before.before.before.before.before.before.before.before in
-    let n = c.before.before.before.before.before.next in
-    came_read s.args.w.state s.args.text.now s.args.pool.now n.result n.new.1.1.0 s.requires.0.options s.requires.0.countable s.requires.1 n.ensures c.reply.given.0.0 c.reply.given.1
+    let n = c.next-step in
+    came_read c.args.w.state c.args.text.now c.args.pool.now n.result n.new.pool c.requires.0.options c.requires.0.countable c.requires.1 n.ensures c.in-Read.given c.in-Read.is
 
-judge-record-requires : tie.Need-judge-record-requires
+judge-record-requires : tie.Need-judge_record-requires
 judge-record-requires c κs =
     let r = c.before.before.before in
-    let s = r.before.before.before.before.before.before.before.before.before.before in
-    let n = r.before.before.before.before.before.next in
-    (one r).lies (n.auto.1.1.0 ∙ s.requires.1)
+    let n = c.next-step in
+    (one c.before.before).lies (n.auto.pool ∙ c.requires.1)
 
-returns : tie.Need-returns
+returns : tie.Need-returns-in-Read
 returns c =
     let r = c.before.before.before.before in
-    let s = r.before.before.before.before.before.before.before.before.before.before in
-    let n = r.before.before.before.before.before.next in
-    judged_record s.args.address s.args.text.now s.args.w s.args.pool.now n.result n.new.1.1.0 s.requires.0 s.requires.1 n.ensures
-    r.reply.given.0.0 (one r) c.judge-record.result c.judge-record.ensures
+    let n = c.next-step in
+    judged_record c.args.address c.args.text.now c.args.w c.args.pool.now n.result n.new.pool c.requires.0 c.requires.1 n.ensures
+    c.in-Read.given (one c.before.before.before) c.judge_record.result c.judge_record.ensures
 
-returns-2 : tie.Need-returns-2
+returns-2 : tie.Need-returns-in-Refused
 returns-2 c =
-    let s = c.before.before.before.before.before.before.before.before.before.before.before in
-    let n = c.before.before.before.before.before.before.next in
-    let e = c.before.reply2.given in
-    let u = came_refused s.args.w.state s.args.text.now s.args.pool.now n.result n.new.1.1.0 s.requires.0.options s.requires.0.countable s.requires.1 n.ensures e.0.0 e.1 in
-    judged_refused s.args.address s.args.text.now s.args.w s.args.pool.now n.result n.new.1.1.0 s.requires.0 s.requires.1 n.ensures e.0.0 u.0 u.1
+    let n = c.next-step in
+    let u = came_refused c.args.w.state c.args.text.now c.args.pool.now n.result n.new.pool c.requires.0.options c.requires.0.countable c.requires.1 n.ensures c.in-Refused.e c.in-Refused.is in
+    judged_refused c.args.address c.args.text.now c.args.w c.args.pool.now n.result n.new.pool c.requires.0 c.requires.1 n.ensures c.in-Refused.e u.0 u.1
 
-returns-3 : tie.Need-returns-3
+returns-3 : tie.Need-returns-in-Done
 returns-3 c =
-    let s = c.before.before.before.before.before.before.before.before.before.before in
-    let n = c.before.before.before.before.before.next in
-    judged_done s.args.address s.args.text.now s.args.w s.args.pool.now n.result n.new.1.1.0 s.requires.0 s.requires.1 n.ensures
-    (came_done s.args.w.state s.args.text.now s.args.pool.now n.result n.new.1.1.0 s.requires.0.options s.requires.0.countable s.requires.1 n.ensures c.enum_told.given.1)
+    let n = c.next-step in
+    judged_done c.args.address c.args.text.now c.args.w c.args.pool.now n.result n.new.pool c.requires.0 c.requires.1 n.ensures
+    (came_done c.args.w.state c.args.text.now c.args.pool.now n.result n.new.pool c.requires.0.options c.requires.0.countable c.requires.1 n.ensures c.in-Done.is)
 
 pub judge_next_spec : {M : Type 1} → statement M
 judge_next_spec =

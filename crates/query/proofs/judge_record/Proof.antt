@@ -12,45 +12,39 @@ use Rattle.query.proofs.judge_record.Tie as tie
 
 note-requires : tie.Need-note-requires
 note-requires c κs =
-    let s = c.before.before.before.before.before.before in
-    subst (λ (x : Record). LiesIn x s.args.pool.now) c.before.given.given.1 s.requires
+    subst (λ (x : Record). LiesIn x c.args.pool.now) c.in-Data.is c.requires
 
-returns : tie.Need-returns
+returns : tie.Need-returns-in-Data
 returns c =
-    let a = c.before.before.before.before.before.before.before.args in
-    let g = c.before.before.given.given in
-    met_data a.address a.pool.now a.w a.given g.0.0 g.0.1.0 g.0.1.1.0 g.1 c.note.result c.note.ensures
+    let a = c.args in
+    met_data a.address a.pool.now a.w a.given c.in-Data.offset c.in-Data.at c.in-Data.len c.in-Data.is c.note.result c.note.ensures
 
-returns-2 : tie.Need-returns-2
+returns-2 : tie.Need-returns-in-EndOfFile
 returns-2 c =
-    let a = c.before.before.before.before.before.before.args in
-    met_end a.address a.pool.now a.w a.given c.before.enum_told.given.1 c.answer_of.result c.answer_of.ensures
+    let a = c.args in
+    met_end a.address a.pool.now a.w a.given c.in-EndOfFile.is c.answer_of.result c.answer_of.ensures
 
-returns-3 : tie.Need-returns-3
+returns-3 : tie.Need-returns-in-ExtendedSegmentAddress
 returns-3 c =
-    let a = c.before.before.before.before.before.before.before.args in
-    let g = c.before.before.given2.given in
-    met_segment a.address a.pool.now a.w a.given g.0.0 g.1 c.from_segment.result c.from_segment.ensures
+    let a = c.args in
+    met_segment a.address a.pool.now a.w a.given c.in-ExtendedSegmentAddress.number c.in-ExtendedSegmentAddress.is c.from_segment.result c.from_segment.ensures
 
-returns-4 : tie.Need-returns-4
+returns-4 : tie.Need-returns-in-StartSegmentAddress
 unfolding at_record
 returns-4 c =
-    let a = c.before.before.before.before.before.before.before.args in
-    let g = c.before.before.given3.given in
-    met_start a.address a.pool.now a.w a.given (cs_with_ip g.0.0 g.0.1.0) (Segment g.0.0 g.0.1.0) refl (λ k n. rw g.1) c.judge_start.result c.judge_start.ensures
+    let a = c.args in
+    met_start a.address a.pool.now a.w a.given (cs_with_ip c.in-StartSegmentAddress.cs c.in-StartSegmentAddress.ip) (Segment c.in-StartSegmentAddress.cs c.in-StartSegmentAddress.ip) refl (λ k n. rw c.in-StartSegmentAddress.is) c.judge_start.result c.judge_start.ensures
 
-returns-5 : tie.Need-returns-5
+returns-5 : tie.Need-returns-in-ExtendedLinearAddress
 returns-5 c =
-    let a = c.before.before.before.before.before.before.before.args in
-    let g = c.before.before.given4.given in
-    met_linear a.address a.pool.now a.w a.given g.0.0 g.1 c.from_linear.result c.from_linear.ensures
+    let a = c.args in
+    met_linear a.address a.pool.now a.w a.given c.in-ExtendedLinearAddress.number c.in-ExtendedLinearAddress.is c.from_linear.result c.from_linear.ensures
 
-returns-6 : tie.Need-returns-6
+returns-6 : tie.Need-returns-in-StartLinearAddress
 unfolding at_record
 returns-6 c =
-    let a = c.before.before.before.before.before.before.before.args in
-    let g = c.before.before.given5.given in
-    met_start a.address a.pool.now a.w a.given (linear_address g.0.0) (Linear g.0.0) refl (λ k n. rw g.1) c.judge-start2.result c.judge-start2.ensures
+    let a = c.args in
+    met_start a.address a.pool.now a.w a.given (linear_address c.in-StartLinearAddress.number) (Linear c.in-StartLinearAddress.number) refl (λ k n. rw c.in-StartLinearAddress.is) c.judge_start-in-StartLinearAddress.result c.judge_start-in-StartLinearAddress.ensures
 
 pub judge_record_spec : {M : Type 1} → statement M
 judge_record_spec =

@@ -5,15 +5,15 @@ use Rattle.query.proofs.Meeting.{start_refused, start_kept}
 use Rattle.query.proofs.judge_start.Statement.{statement}
 use Rattle.query.proofs.judge_start.Tie as tie
 
-returns : tie.Need-returns
+returns : tie.Need-returns-then-differs_from
 returns c =
-    let a = c.before.before.before.args in
-    start_refused a.w a.stated (sym c.before.differs-from.ensures.answer ∙ c.if1.true)
+    let a = c.args in
+    start_refused a.w a.stated (sym c.differs_from.ensures.answer ∙ c.if-differs_from.true)
 
-returns-2 : tie.Need-returns-2
+returns-2 : tie.Need-returns
 returns-2 c =
-    let a = c.before.before.before.before.args in
-    start_kept a.w a.stated (sym c.before.before.differs-from.ensures.answer ∙ c.before.if1.false)
+    let a = c.args in
+    start_kept a.w a.stated (sym c.differs_from.ensures.answer ∙ c.if-differs_from.false)
 
 pub judge_start_spec : {M : Type 1} → statement M
 judge_start_spec = tie.close (tie.spec (λ c κs. search rules) returns returns-2)

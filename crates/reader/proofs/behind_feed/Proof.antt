@@ -5,15 +5,13 @@ use Rattle.reader.proofs.Feeds.{behind_all, behind_LF}
 use Rattle.reader.proofs.behind_feed.Statement.{statement}
 use Rattle.reader.proofs.behind_feed.Tie as tie
 
-returns : tie.Need-returns
+returns : tie.Need-returns-then-feed-text
 returns c =
-    let s = c.before in
-    behind_LF s.args.text.now s.args.feed s.requires (λ e. omega arith)
+    behind_LF c.args.text.now c.args.feed c.requires (λ e. omega arith)
 
-returns-2 : tie.Need-returns-2
+returns-2 : tie.Need-returns
 returns-2 c =
-    let s = c.before in
-    behind_all s.args.text.now s.args.feed s.requires (omega (arith, s.requires.inside))
+    behind_all c.args.text.now c.args.feed c.requires (omega (arith, c.requires.inside))
 
 pub behind_feed_spec : {M : Type 1} → statement M
 behind_feed_spec = tie.close (tie.spec (λ c. search rules) returns returns-2)

@@ -7,25 +7,25 @@ use Rattle.reader.proofs.Sixteen.{none_at_first, among_more}
 use Rattle.reader.proofs.feed_among.Statement.{statement}
 use Rattle.reader.proofs.feed_among.Tie as tie
 
-abbrev invariant-loop : tie.invariant-loop
+abbrev invariant-loop : tie.invariant-loop-k
 invariant-loop text from seen₀ k₀ seen k = (k ≤ 16) × (seen ≡ 0 → NoFeed text from (from + k))
 
-abbrev decreases-loop : tie.decreases-loop
+abbrev decreases-loop : tie.decreases-loop-k
 decreases-loop text from seen₀ k₀ seen k = 16 - k
 
-loop-holds : tie.Need-loop-init invariant-loop decreases-loop
-loop-holds c = (omega arith, λ e. none_at_first c.before.args.text.now c.before.args.from)
+loop-holds : tie.Need-loop-k-init invariant-loop decreases-loop
+loop-holds c = (omega arith, λ e. none_at_first c.args.text.now c.args.from)
 
-loop-again : tie.Need-loop-preserved invariant-loop decreases-loop
+loop-again : tie.Need-loop-k-preserved invariant-loop decreases-loop
 loop-again c =
-    let a = c.before.before.before.before.before.args in
-    let s = c.before.before.before.loop in
-    (search rules, λ z. among_more a.text.now a.from s.k s.seen c.is-feed.result s.invariant.1 c.is-feed.ensures z)
+    let a = c.args in
+    let s = c.loop-k in
+    (search rules, λ z. among_more a.text.now a.from s.k s.seen c.is_feed-seen.result s.invariant.1 c.is_feed-seen.ensures z)
 
 returns : tie.Need-returns invariant-loop decreases-loop
 returns c = λ e.
-    let a = c.before.before.before.args in
-    let s = c.before.loop in
+    let a = c.args in
+    let s = c.loop-k in
     let n : s.k ≡ 16 = omega arith in
     subst (λ (k : ℕ). NoFeed a.text.now a.from (a.from + k)) n (s.invariant.1 (eqb-true s.seen 0 (not-false (eqb s.seen 0) e)))
 

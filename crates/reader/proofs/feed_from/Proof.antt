@@ -6,25 +6,25 @@ use Rattle.reader.proofs.Sixteen.{none_more}
 use Rattle.reader.proofs.feed_from.Statement.{statement}
 use Rattle.reader.proofs.feed_from.Tie as tie
 
-abbrev invariant-loop : tie.invariant-loop
+abbrev invariant-loop : tie.invariant-loop-i
 invariant-loop text from i₀ i = (i ≤ length text) × NoFeed text 0 i
 
-abbrev decreases-loop : tie.decreases-loop
+abbrev decreases-loop : tie.decreases-loop-i
 decreases-loop text from i₀ i = length text - i
 
-returns : tie.Need-returns invariant-loop decreases-loop
+returns : tie.Need-returns-then-text-i-eq-LF invariant-loop decreases-loop
 returns c =
-    let s = c.before.before.before.loop in
-    record { inside = s.invariant.0; before = λ k h. s.invariant.1 k (omega arith) h; found = λ h. c.if1.true }
+    let s = c.loop-i in
+    record { inside = s.invariant.0; before = λ k h. s.invariant.1 k (omega arith) h; found = λ h. c.if-text-i-eq-LF.true }
 
-loop-again : tie.Need-loop-preserved invariant-loop decreases-loop
+loop-again : tie.Need-loop-i-preserved invariant-loop decreases-loop
 loop-again c =
-    let s = c.before.before.before.loop in
-    (search rules, none_more c.before.before.before.before.args.text.now 0 s.i s.invariant.1 c.if1.false)
+    let s = c.loop-i in
+    (search rules, none_more c.args.text.now 0 s.i s.invariant.1 c.if-text-i-eq-LF.false)
 
-returns-2 : tie.Need-returns-2 invariant-loop decreases-loop
+returns-2 : tie.Need-returns invariant-loop decreases-loop
 returns-2 c =
-    let s = c.before.loop in
+    let s = c.loop-i in
     record { inside = s.invariant.0; before = λ k h. s.invariant.1 k (omega arith) h; found = λ h. absurd (omega arith) }
 
 pub feed_from_spec : {M : Type 1} → statement M

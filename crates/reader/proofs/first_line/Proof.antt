@@ -4,8 +4,8 @@ use Rattle.std.proofs.Common.{sym, length-take-le, rules}
 use Rattle.reader.proofs.first_line.Statement.{statement}
 use Rattle.reader.proofs.first_line.Tie as tie
 
-slice-aggregate-result : tie.Need-slice-aggregate-result
-slice-aggregate-result c = sym (length-take-le _ _ c.before.line-len.ensures.inside)
+slice-aggregate-result : tie.Need-slice_bounds-result-end
+slice-aggregate-result c = sym (length-take-le _ _ c.line_len-n.ensures.inside)
 
 pub first_line_spec : {M : Type 1} → statement M
 first_line_spec =

@@ -25,65 +25,58 @@ size-of-payload : (s : tie.Start) → length (payload-of s) ≡ s.args.m - 5
 size-of-payload s = part_length (bytes_of s) 4 (s.args.m - 5) (omega (arith, s.requires.room, s.requires.most, s.requires.least))
 
 -- where the sum is 0 the checksum agrees, and the fields decide
-agreed : (c : tie.Else1)
-    → let s = c.before.before.before in
-    whole s ≡ judge_fields (get_or (bytes_of s) 0 0) (word (bytes_of s) 1) (get_or (bytes_of s) 3 0) (payload-of s)
+agreed : (c : tie.Else-sum-ne0)
+    →    whole c.before.before.before ≡ judge_fields (get_or (bytes_of c.before.before.before) 0 0) (word (bytes_of c.before.before.before) 1) (get_or (bytes_of c.before.before.before) 3 0) (payload-of c.before.before.before)
 agreed c =
-    let s = c.before.before.before in
-    agrees (bytes_of s) s.args.m s.args.sum s.requires c.if1.false (c.before.before.shared-slice-known.given (s.args.m - 1)).fits
+    agrees (bytes_of c.before.before.before) c.args.m c.args.sum c.requires c.if-sum-ne0.false (c.shared_slice_known-1.given (c.args.m - 1)).fits
 
 -- behind the second test the length byte is right
-sized : (c : tie.Else2) → let s = c.before.before.before.before.before.before in get_or (bytes_of s) 0 0 ≡ length (payload-of s)
+sized : (c : tie.Else-wide-n) → get_or (bytes_of c.before.before.before.before.before.before) 0 0 ≡ length (payload-of c.before.before.before.before.before.before)
 sized c =
-    let s = c.before.before.before.before.before.before in
-    sym c.before.wide.ensures ∙ c.if2.false ∙ sym (size-of-payload s)
+    sym c.wide.ensures ∙ c.if-wide-n.false ∙ sym (size-of-payload c.before.before.before.before.before.before)
 
-returns : tie.Need-returns
+returns : tie.Need-returns-then-sum-ne0
 returns c =
-    let s = c.before.before.before.before.before in
-    refused (whole s) s.args.pool.now s.args.at (ChecksumMismatch c.wrapping-sub-u8.result (get_or (bytes_of s) (s.args.m - 1) 0))
-    (differs (bytes_of s) s.args.m s.args.sum s.requires c.wrapping-sub-u8.result c.before.before.if1.true c.wrapping-sub-u8.ensures (search rules))
+    refused (whole c.before.before.before.before.before) c.args.pool.now c.args.at (ChecksumMismatch c.wrapping_sub_u8-computed.result (get_or (bytes_of c.before.before.before.before.before) (c.args.m - 1) 0))
+    (differs (bytes_of c.before.before.before.before.before) c.args.m c.args.sum c.requires c.wrapping_sub_u8-computed.result c.if-sum-ne0.true c.wrapping_sub_u8-computed.ensures (search rules))
 
-returns-2 : tie.Need-returns-2
+returns-2 : tie.Need-returns-then-wide-n
 returns-2 c =
     let s = c.before.before.before.before.before.before in
-    refused (whole s) s.args.pool.now s.args.at PayloadLengthMismatch
+    refused (whole c.before.before.before.before.before.before) c.args.pool.now c.args.at PayloadLengthMismatch
     (agreed c.before.before.before
-    ∙ fields_mislaid (get_or (bytes_of s) 0 0) (word (bytes_of s) 1) (get_or (bytes_of s) 3 0) (payload-of s) (λ e. c.if2.true (c.before.wide.ensures ∙ e ∙ size-of-payload s)))
+    ∙ fields_mislaid (get_or (bytes_of c.before.before.before.before.before.before) 0 0) (word (bytes_of c.before.before.before.before.before.before) 1) (get_or (bytes_of c.before.before.before.before.before.before) 3 0) (payload-of c.before.before.before.before.before.before) (λ e. c.if-wide-n.true (c.wide.ensures ∙ e ∙ size-of-payload s)))
 
-returns-3 : tie.Need-returns-3
+returns-3 : tie.Need-returns-then-kind-eq-DATA
 returns-3 c =
-    let s = c.before.before.before.before.before.before.before.before.before.before.before.before in
-    let k = c.before.before.before.before.if3.true in
-    rw (agreed c.before.before.before.before.before.before.before.before.before ∙ plain (get_or (bytes_of s) 0 0) (word (bytes_of s) 1) (get_or (bytes_of s) 3 0) (payload-of s) (sized c.before.before.before.before.before.before) k) c.before.before.lay-down.ensures
+    let k = c.if-kind-eq-DATA.true in
+    rw (agreed c.before.before.before.before.before.before.before.before.before ∙ plain (get_or (bytes_of c.before.before.before.before.before.before.before.before.before.before.before.before) 0 0) (word (bytes_of c.before.before.before.before.before.before.before.before.before.before.before.before) 1) (get_or (bytes_of c.before.before.before.before.before.before.before.before.before.before.before.before) 3 0) (payload-of c.before.before.before.before.before.before.before.before.before.before.before.before) (sized c.before.before.before.before.before.before) k) c.lay_down.ensures
 
-returns-4 : tie.Need-returns-4
+returns-4 : tie.Need-returns-then-kind-gt-START_LINEAR_ADDRESS
 returns-4 c =
-    let s = c.before.before.before.before.before.before.before.before.before in
-    refused (whole s) s.args.pool.now s.args.at (UnsupportedRecordType (get_or (bytes_of s) 3 0))
+    refused (whole c.before.before.before.before.before.before.before.before.before) c.args.pool.now c.args.at (UnsupportedRecordType (get_or (bytes_of c.before.before.before.before.before.before.before.before.before) 3 0))
     (agreed c.before.before.before.before.before.before
-    ∙ fields_unknown (get_or (bytes_of s) 0 0) (word (bytes_of s) 1) (get_or (bytes_of s) 3 0) (payload-of s) (sized c.before.before.before) c.if4.true)
+    ∙ fields_unknown (get_or (bytes_of c.before.before.before.before.before.before.before.before.before) 0 0) (word (bytes_of c.before.before.before.before.before.before.before.before.before) 1) (get_or (bytes_of c.before.before.before.before.before.before.before.before.before) 3 0) (payload-of c.before.before.before.before.before.before.before.before.before) (sized c.before.before.before) c.if-kind-gt-START_LINEAR_ADDRESS.true)
 
-returns-5 : tie.Need-returns-5
+returns-5 : tie.Need-returns-then-size_of-n
 returns-5 c =
     let s = c.before.before.before.before.before.before.before.before.before.before.before in
-    let k = get_or (bytes_of s) 3 0 in
-    refused (whole s) s.args.pool.now s.args.at InvalidLengthForType
+    let k = get_or (bytes_of c.before.before.before.before.before.before.before.before.before.before.before) 3 0 in
+    refused (whole c.before.before.before.before.before.before.before.before.before.before.before) c.args.pool.now c.args.at InvalidLengthForType
     (agreed c.before.before.before.before.before.before.before.before
-    ∙ fields_misfit (get_or (bytes_of s) 0 0) (word (bytes_of s) 1) k (payload-of s) (sized c.before.before.before.before.before) c.before.before.if4.false
-    (size_misfits k (length (payload-of s)) c.before.before.before.if3.false (λ e. c.if5.true (c.before.type_size.ensures ∙ e ∙ size-of-payload s))))
+    ∙ fields_misfit (get_or (bytes_of c.before.before.before.before.before.before.before.before.before.before.before) 0 0) (word (bytes_of c.before.before.before.before.before.before.before.before.before.before.before) 1) k (payload-of c.before.before.before.before.before.before.before.before.before.before.before) (sized c.before.before.before.before.before) c.if-kind-gt-START_LINEAR_ADDRESS.false
+    (size_misfits k (length (payload-of c.before.before.before.before.before.before.before.before.before.before.before)) c.if-kind-eq-DATA.false (λ e. c.if-size_of-n.true (c.type_size.ensures ∙ e ∙ size-of-payload s))))
 
-returns-6 : tie.Need-returns-6
+returns-6 : tie.Need-returns
 returns-6 c =
-    let s = c.before.before.before.before.before.before.before.before.before.before.before.before in
-    let k = get_or (bytes_of s) 3 0 in
-    let z : size k ≡ s.args.m - 5 = sym c.before.before.type_size.ensures ∙ c.before.if5.false in
-    gave (whole s) s.args.pool.now s.args.at c.special.result k (word (bytes_of s) 1) (payload-of s)
+    let k = get_or (bytes_of c.before.before.before.before.before.before.before.before.before.before.before.before) 3 0 in
+    let z : size k ≡ c.args.m - 5 = sym c.type_size.ensures ∙ c.if-size_of-n.false in
+    gave (whole c.before.before.before.before.before.before.before.before.before.before.before.before) c.args.pool.now c.args.at c.special.result k (word (bytes_of c.before.before.before.before.before.before.before.before.before.before.before.before) 1) (payload-of c.before.before.before.before.before.before.before.before.before.before.before.before)
     (agreed c.before.before.before.before.before.before.before.before.before
-    ∙ fields_fit (get_or (bytes_of s) 0 0) (word (bytes_of s) 1) k (payload-of s) (sized c.before.before.before.before.before.before) c.before.before.before.if4.false
-    (size_fits k (length (payload-of s)) c.before.before.before.before.if3.false (z ∙ sym (size-of-payload s))))
-    (search rules) c.before.before.before.if4.false
-    (subst (λ (n : ℕ). Special k (take n (drop 4 (bytes_of s))) c.special.result) z c.special.ensures)
+    ∙ fields_fit (get_or (bytes_of c.before.before.before.before.before.before.before.before.before.before.before.before) 0 0) (word (bytes_of c.before.before.before.before.before.before.before.before.before.before.before.before) 1) k (payload-of c.before.before.before.before.before.before.before.before.before.before.before.before) (sized c.before.before.before.before.before.before) c.if-kind-gt-START_LINEAR_ADDRESS.false
+    (size_fits k (length (payload-of c.before.before.before.before.before.before.before.before.before.before.before.before)) c.if-kind-eq-DATA.false (z ∙ sym (size-of-payload c.before.before.before.before.before.before.before.before.before.before.before.before))))
+    (search rules) c.if-kind-gt-START_LINEAR_ADDRESS.false
+    (subst (λ (n : ℕ). Special k (take n (drop 4 (bytes_of c.before.before.before.before.before.before.before.before.before.before.before.before))) c.special.result) z c.special.ensures)
 
 pub judge_bytes_spec : {M : Type 1} → statement M
 judge_bytes_spec =

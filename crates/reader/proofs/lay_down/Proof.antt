@@ -7,25 +7,22 @@ use Rattle.reader.proofs.Answers.{full, placed}
 use Rattle.reader.proofs.lay_down.Statement.{statement}
 use Rattle.reader.proofs.lay_down.Tie as tie
 
-returns : tie.Need-returns
+returns : tie.Need-returns-then-n-pool
 returns c =
-    let s = c.before.before.before in
-    let n = part_length s.args.buf.now 4 s.args.n (omega arith) in
-    full (word s.args.buf.now 1) (take s.args.n (drop 4 s.args.buf.now)) s.args.pool.now s.args.at (omega arith)
+    let n = part_length c.args.buf.now 4 c.args.n (omega arith) in
+    full (word c.args.buf.now 1) (take c.args.n (drop 4 c.args.buf.now)) c.args.pool.now c.args.at (omega arith)
 
-returns-2 : tie.Need-returns-2
+returns-2 : tie.Need-returns-then-at-pool
 returns-2 c =
-    let s = c.before.before.before.before in
-    let n = part_length s.args.buf.now 4 s.args.n (omega arith) in
-    full (word s.args.buf.now 1) (take s.args.n (drop 4 s.args.buf.now)) s.args.pool.now s.args.at (omega arith)
+    let n = part_length c.args.buf.now 4 c.args.n (omega arith) in
+    full (word c.args.buf.now 1) (take c.args.n (drop 4 c.args.buf.now)) c.args.pool.now c.args.at (omega arith)
 
-returns-3 : tie.Need-returns-3
+returns-3 : tie.Need-returns
 returns-3 c =
-    let s = c.before.before.before.before.before.before.before.before.before.before.before in
-    let p = c.before.before.before.before.before.pour in
-    let n = part_length s.args.buf.now 4 s.args.n (omega arith) in
-    placed (word s.args.buf.now 1) (take s.args.n (drop 4 s.args.buf.now)) s.args.pool.now s.args.at
-    c.word16.result s.args.n p.new.1.1.0 (omega arith)
+    let p = c.pour in
+    let n = part_length c.args.buf.now 4 c.args.n (omega arith) in
+    placed (word c.args.buf.now 1) (take c.args.n (drop 4 c.args.buf.now)) c.args.pool.now c.args.at
+    c.word16.result c.args.n p.new.pool (omega arith)
     c.word16.ensures n p.ensures
 
 pub lay_down_spec : {M : Type 1} → statement M

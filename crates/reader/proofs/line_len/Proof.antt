@@ -5,19 +5,18 @@ use Rattle.reader.proofs.Feeds.{all_of_it, empty_line, with_LF_only, with_CR}
 use Rattle.reader.proofs.line_len.Statement.{statement}
 use Rattle.reader.proofs.line_len.Tie as tie
 
-returns : tie.Need-returns
+returns : tie.Need-returns-then-feed-text
 returns c =
-    let s = c.before in
-    all_of_it s.args.text.now s.args.feed s.requires (omega (arith, s.requires.inside))
+    all_of_it c.args.text.now c.args.feed c.requires (omega (arith, c.requires.inside))
 
-returns-2 : tie.Need-returns-2
-returns-2 c = empty_line _ _ c.before.before.requires c.before.if1.false c.if2.true
+returns-2 : tie.Need-returns-then-feed-eq0
+returns-2 c = empty_line _ _ c.requires c.if-feed-text.false c.if-feed-eq0.true
 
-returns-3 : tie.Need-returns-3
-returns-3 c = with_CR _ _ c.before.before.before.before.requires (search rules) (search rules) c.if3.true
+returns-3 : tie.Need-returns-then-text-before-eq-CR
+returns-3 c = with_CR _ _ c.requires (search rules) (search rules) c.if-text-before-eq-CR.true
 
-returns-4 : tie.Need-returns-4
-returns-4 c = with_LF_only _ _ c.before.before.before.before.requires (search rules) c.if3.false
+returns-4 : tie.Need-returns
+returns-4 c = with_LF_only _ _ c.requires (search rules) c.if-text-before-eq-CR.false
 
 pub line_len_spec : {M : Type 1} → statement M
 line_len_spec =

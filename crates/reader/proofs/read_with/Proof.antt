@@ -24,97 +24,90 @@ abbrev said : tie.Start → Said
 said s = judge (line_of s)
 
 -- what was decoded: the characters after the colon, all of them
-decoded : (c : tie.After-decode)
+decoded : (c : tie.After-decode-scan)
     → let s = c.before.before.before.before.before.before.before.before.before.before.before.before in
-    Decoded (drop 1 (line_of s)) s.args.buf.now c.decode.result.whole c.decode.result.sum c.decode.new.1.0
+    Decoded (drop 1 (line_of c.before.before.before.before.before.before.before.before.before.before.before.before)) c.args.buf.now c.decode-scan.result.whole c.decode-scan.result.sum c.decode-scan.new.buf
 decoded c =
     let s = c.before.before.before.before.before.before.before.before.before.before.before.before in
     let l = line_of s in
-    let room : ℕ = length s.args.buf.now in
-    let d : Decoded (pairs (take (length l - 1) (drop 1 l)) room) s.args.buf.now c.decode.result.whole c.decode.result.sum c.decode.new.1.0 = c.decode.ensures in
-    rw (rest_is l 1, pairs_all (drop 1 l) room (omega (arith, length-drop 1 l)) (omega (arith, length-drop 1 l, s.requires))) at d
+    let room : ℕ = length c.args.buf.now in
+    let d : Decoded (pairs (take (length l - 1) (drop 1 l)) room) c.args.buf.now c.decode-scan.result.whole c.decode-scan.result.sum c.decode-scan.new.buf = c.decode-scan.ensures in
+    rw (rest_is l 1, pairs_all (drop 1 l) room (omega (arith, length-drop 1 l)) (omega (arith, length-drop 1 l, c.requires))) at d
 
 -- after the sixth test each character is a digit
-all_good : (c : tie.Else6) → all_digits (drop 1 (line_of c.before.before.before.before.before.before.before.before.before.before.before.before.before.before.before)) ≡ true
-all_good c = sym (decoded c.before.before.before).digits ∙ not-false _ c.if6.false
+all_good : (c : tie.Else-not-whole) → all_digits (drop 1 (line_of c.before.before.before.before.before.before.before.before.before.before.before.before.before.before.before)) ≡ true
+all_good c = sym (decoded c.before.before.before).digits ∙ not-false _ c.if-not-whole.false
 
 -- and the decoded bytes are what the digits spell, with their sum
-spelt : (c : tie.Else6)
+spelt : (c : tie.Else-not-whole)
     → let l = line_of c.before.before.before.before.before.before.before.before.before.before.before.before.before.before.before in
-    (take ((length l - 1) / 2) c.before.before.before.decode.new.1.0 ≡ bytes (drop 1 l)) × (c.before.before.before.decode.result.sum ≡ sum (bytes (drop 1 l)) % 256)
+    (take ((length l - 1) / 2) c.decode-scan.new.buf ≡ bytes (drop 1 l)) × (c.decode-scan.result.sum ≡ sum (bytes (drop 1 l)) % 256)
 spelt c =
     let l = line_of c.before.before.before.before.before.before.before.before.before.before.before.before.before.before.before in
     let x = decoded_all (decoded c.before.before.before) (all_good c) in
-    (ap (λ (n : ℕ). take (n / 2) c.before.before.before.decode.new.1.0) (sym (length-drop 1 l)) ∙ x.0, x.1)
+    (ap (λ (n : ℕ). take (n / 2) c.decode-scan.new.buf) (sym (length-drop 1 l)) ∙ x.0, x.1)
 
-returns : tie.Need-returns
+returns : tie.Need-returns-then-line-eq0
 returns c =
-    let s = c.before.before.before.before in
-    refused (said s) s.args.pool.now s.args.at MissingStartCode
-    (judge_none (line_of s) (omega arith))
+    refused (said c.before.before.before.before) c.args.pool.now c.args.at MissingStartCode
+    (judge_none (line_of c.before.before.before.before) (omega arith))
 
-returns-2 : tie.Need-returns-2
+returns-2 : tie.Need-returns-then-line-ne-COLON
 returns-2 c =
-    let s = c.before.before.before.before.before.before in
-    refused (said s) s.args.pool.now s.args.at MissingStartCode
-    (judge_other (line_of s) c.if2.true)
+    refused (said c.before.before.before.before.before.before) c.args.pool.now c.args.at MissingStartCode
+    (judge_other (line_of c.before.before.before.before.before.before) c.if-line-ne-COLON.true)
 
-returns-3 : tie.Need-returns-3
+returns-3 : tie.Need-returns-then-n-lt-FEWEST_DIGITS
 returns-3 c =
-    let s = c.before.before.before.before.before.before.before.before in
-    chosen (said s) s.args.pool.now s.args.at (all_digits (drop 1 (line_of s))) c.digits-or.result RecordTooShort (invalid_at (line_of s))
-    (judge_short (line_of s) c.before.before.if2.false c.before.if3.true) c.digits-or.ensures
+    chosen (said c.before.before.before.before.before.before.before.before) c.args.pool.now c.args.at (all_digits (drop 1 (line_of c.before.before.before.before.before.before.before.before))) c.digits_or.result RecordTooShort (invalid_at (line_of c.before.before.before.before.before.before.before.before))
+    (judge_short (line_of c.before.before.before.before.before.before.before.before) c.if-line-ne-COLON.false c.if-n-lt-FEWEST_DIGITS.true) c.digits_or.ensures
 
-returns-4 : tie.Need-returns-4
+returns-4 : tie.Need-returns-then-n-gt-MOST_DIGITS
 returns-4 c =
-    let s = c.before.before.before.before.before.before.before.before.before in
-    chosen (said s) s.args.pool.now s.args.at (all_digits (drop 1 (line_of s))) c.digits-or2.result RecordTooLong (invalid_at (line_of s))
-    (judge_long (line_of s) c.before.before.before.if2.false c.before.if4.true) c.digits-or2.ensures
+    chosen (said c.before.before.before.before.before.before.before.before.before) c.args.pool.now c.args.at (all_digits (drop 1 (line_of c.before.before.before.before.before.before.before.before.before))) c.digits_or-then-n-gt-MOST_DIGITS.result RecordTooLong (invalid_at (line_of c.before.before.before.before.before.before.before.before.before))
+    (judge_long (line_of c.before.before.before.before.before.before.before.before.before) c.if-line-ne-COLON.false c.if-n-gt-MOST_DIGITS.true) c.digits_or-then-n-gt-MOST_DIGITS.ensures
 
-returns-5 : tie.Need-returns-5
+returns-5 : tie.Need-returns-then-n-ne0
 returns-5 c =
-    let s = c.before.before.before.before.before.before.before.before.before.before in
-    chosen (said s) s.args.pool.now s.args.at (all_digits (drop 1 (line_of s))) c.digits-or3.result RecordNotEvenLength (invalid_at (line_of s))
-    (judge_odd (line_of s) c.before.before.before.before.if2.false (omega arith) (omega arith) c.before.if5.true) c.digits-or3.ensures
+    chosen (said c.before.before.before.before.before.before.before.before.before.before) c.args.pool.now c.args.at (all_digits (drop 1 (line_of c.before.before.before.before.before.before.before.before.before.before))) c.digits_or-then-n-ne0.result RecordNotEvenLength (invalid_at (line_of c.before.before.before.before.before.before.before.before.before.before))
+    (judge_odd (line_of c.before.before.before.before.before.before.before.before.before.before) c.if-line-ne-COLON.false (omega arith) (omega arith) c.if-n-ne0.true) c.digits_or-then-n-ne0.ensures
 
-add-name-place : tie.Need-overflow-add-name-place
+add-name-place : tie.Need-overflow_add-good
 add-name-place c =
     let l = line_of c.before.before.before.before.before.before.before.before.before.before.before.before.before.before.before.before.before in
-    let place : c.first-other.result ≡ leading (take (length l - 1) (drop 1 l)) = c.first-other.ensures.answer in
+    let place : c.first_other-good.result ≡ leading (take (length l - 1) (drop 1 l)) = c.first_other-good.ensures.answer in
     let e = place ∙ ap leading (rest_is l 1) in
     omega (arith, leading_most (drop 1 l), length-drop 1 l)
 
-returns-6 : tie.Need-returns-6
+returns-6 : tie.Need-returns-then-not-whole
 returns-6 c =
     let s = c.before.before.before.before.before.before.before.before.before.before.before.before.before.before.before.before.before.before in
     let l = line_of s in
-    let f = c.before.first-other in
+    let f = c.first_other-good in
     let place : f.result ≡ leading (take (length l - 1) (drop 1 l)) = f.ensures.answer in
     let e = place ∙ ap leading (rest_is l 1) in
     let g : f.result + 1 ≡ suc (leading (drop 1 l)) = omega arith in
-    refused (said s) s.args.pool.now s.args.at (ContainsInvalidCharacters c.name-place.result)
-    (judge_bad l c.before.before.before.before.before.before.before.before.before.before.before.before.if2.false (sym (decoded c.before.before.before.before.before.before).digits ∙ not-true _ c.before.before.before.if6.true)
-    ∙ ap (λ (place : ℕ). wrong (contains_invalid_characters place)) (sym (c.name-place.ensures.answer ∙ ap named g)))
+    refused (said c.before.before.before.before.before.before.before.before.before.before.before.before.before.before.before.before.before.before) c.args.pool.now c.args.at (ContainsInvalidCharacters c.name_place.result)
+    (judge_bad l c.if-line-ne-COLON.false (sym (decoded c.before.before.before.before.before.before).digits ∙ not-true _ c.if-not-whole.true)
+    ∙ ap (λ (place : ℕ). wrong (contains_invalid_characters place)) (sym (c.name_place.ensures.answer ∙ ap named g)))
 
-judge-bytes-requires : tie.Need-judge-bytes-requires
+judge-bytes-requires : tie.Need-judge_bytes-requires
 judge-bytes-requires c κs =
-    let s = c.before.before.before.before.before.before.before.before.before.before.before.before.before.before.before.before.before in
-    let d = c.before.before.before.before.before.decode in
-    let k : length d.new.1.0 ≡ length s.args.buf.now = d.auto.1.0 in
+    let d = c.decode-scan in
+    let k : length d.new.buf ≡ length c.args.buf.now = d.auto.buf in
     let e = spelt c.before.before in
     record {
       least = omega arith;
       most = omega arith;
-      room = omega (arith, s.requires);
+      room = omega (arith, c.requires);
       sums = e.1 ∙ ap (λ (bs : List ℕ). sum bs % 256) (sym e.0);
     }
 
-returns-7 : tie.Need-returns-7
+returns-7 : tie.Need-returns
 returns-7 c =
-    let s = c.before.before.before.before.before.before.before.before.before.before.before.before.before.before.before.before.before.before.before.before in
-    rw (judge_whole (line_of s) c.before.before.before.before.before.before.before.before.before.before.before.before.before.before.if2.false (omega arith) (omega arith) (omega arith) (all_good c.before.before.before.before.before)
-    ∙ ap judge_bytes (sym (spelt c.before.before.before.before.before).0))
-    c.before.before.judge_bytes.ensures
+    rw (judge_whole (line_of c.before.before.before.before.before.before.before.before.before.before.before.before.before.before.before.before.before.before.before) c.if-line-ne-COLON.false (omega arith) (omega arith) (omega arith) (all_good c.before.before.before.before)
+    ∙ ap judge_bytes (sym (spelt c.before.before.before.before).0))
+    c.judge_bytes.ensures
 
 pub read_with_spec : {M : Type 1} → statement M
 read_with_spec =

@@ -5,20 +5,20 @@ use Rattle.reader.proofs.Reading.{settle_read, settle_full, settle_refused}
 use Rattle.reader.proofs.settle.Statement.{statement}
 use Rattle.reader.proofs.settle.Tie as tie
 
-returns : tie.Need-returns
+returns : tie.Need-returns-then-is_pool_full
 returns c =
-    let a = c.before.before.before.before.before.before.args in
-    settle_full a.s a.answer a.position a.line _ c.before.before.before.answer2.given.1 (sym c.before.is_pool_full.ensures.answer ∙ c.if1.true)
+    let a = c.args in
+    settle_full a.s a.answer a.position a.line _ c.in-Refused.is (sym c.is_pool_full.ensures.answer ∙ c.if-is_pool_full.true)
 
-returns-2 : tie.Need-returns-2
+returns-2 : tie.Need-returns-in-Read
 returns-2 c =
-    let a = c.before.before.before.before.before.args in
-    settle_read a.s a.answer a.position a.line _ c.ends.result c.before.before.answer.given.1 c.ends.ensures.answer
+    let a = c.args in
+    settle_read a.s a.answer a.position a.line _ c.ends.result c.in-Read.is c.ends.ensures.answer
 
-returns-3 : tie.Need-returns-3
+returns-3 : tie.Need-returns-else-is_pool_full
 returns-3 c =
-    let a = c.before.before.before.before.before.before.args in
-    settle_refused a.s a.answer a.position a.line _ c.before.before.before.answer2.given.1 (sym c.before.is_pool_full.ensures.answer ∙ c.if1.false)
+    let a = c.args in
+    settle_refused a.s a.answer a.position a.line _ c.in-Refused.is (sym c.is_pool_full.ensures.answer ∙ c.if-is_pool_full.false)
 
 pub settle_spec : {M : Type 1} → statement M
 settle_spec =

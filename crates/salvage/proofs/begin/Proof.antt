@@ -8,7 +8,7 @@ use Rattle.salvage.proofs.begin.Statement.{statement}
 use Rattle.salvage.proofs.begin.Tie as tie
 
 returns : tie.Need-returns
-returns c = ap (λ (s : State). record { state = s; known = true }) c.new-with-options.ensures.answer
+returns c = ap (λ (s : State). record { state = s; known = true }) c.new_with_options.ensures.answer
 
 pub begin_spec : {M : Type 1} → statement M
 begin_spec =

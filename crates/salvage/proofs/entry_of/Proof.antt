@@ -6,29 +6,29 @@ use borrow.Author.Rules.{rules}
 use Rattle.salvage.proofs.entry_of.Statement.{statement}
 use Rattle.salvage.proofs.entry_of.Tie as tie
 
-returns : tie.Need-returns
+returns : tie.Need-returns-in-Nothing
 returns c =
-    let a = c.before.before.before.args in
-    let f = c.before.before.figures in
-    tells_by a.e a.line f.result Nothing f.ensures c.enum_told.given.1
+    let a = c.args in
+    let f = c.figures-figures in
+    tells_by a.e a.line f.result Nothing f.ensures c.in-Nothing.is
 
-returns-2 : tie.Need-returns-2
+returns-2 : tie.Need-returns-in-Position
 returns-2 c =
-    let a = c.before.before.before.before.args in
-    let f = c.before.before.before.figures in
-    tells_by a.e a.line f.result (Position c.before.values.given.0.0) f.ensures c.before.values.given.1
+    let a = c.args in
+    let f = c.figures-figures in
+    tells_by a.e a.line f.result (Position c.in-Position.place) f.ensures c.in-Position.is
 
-returns-3 : tie.Need-returns-3
+returns-3 : tie.Need-returns-in-Byte
 returns-3 c =
-    let a = c.before.before.before.before.args in
-    let f = c.before.before.before.figures in
-    tells_by a.e a.line f.result (Byte c.before.values2.given.0.0) f.ensures c.before.values2.given.1
+    let a = c.args in
+    let f = c.figures-figures in
+    tells_by a.e a.line f.result (Byte c.in-Byte.byte) f.ensures c.in-Byte.is
 
-returns-4 : tie.Need-returns-4
+returns-4 : tie.Need-returns-in-Bytes
 returns-4 c =
-    let a = c.before.before.before.before.args in
-    let f = c.before.before.before.figures in
-    tells_by a.e a.line f.result (Bytes c.before.values3.given.0.0 c.before.values3.given.0.1.0) f.ensures c.before.values3.given.1
+    let a = c.args in
+    let f = c.figures-figures in
+    tells_by a.e a.line f.result (Bytes c.in-Bytes.first c.in-Bytes.second) f.ensures c.in-Bytes.is
 
 pub entry_of_spec : {M : Type 1} → statement M
 entry_of_spec =

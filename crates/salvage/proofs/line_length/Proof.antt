@@ -7,30 +7,30 @@ use borrow.Author.Rules.{rules}
 use Rattle.salvage.proofs.line_length.Statement.{statement}
 use Rattle.salvage.proofs.line_length.Tie as tie
 
-mul-result : tie.Need-overflow-mul-result
-mul-result c = let short = subst Short c.before.given.given.1 c.before.before.before.requires in search rules
+mul-result : tie.Need-overflow_mul-result
+mul-result c = let short = subst Short c.in-Data.is c.requires in search rules
 
-add-result : tie.Need-overflow-add-result
-add-result c = let short = subst Short c.before.given.given.1 c.before.before.before.requires in search rules
+add-result : tie.Need-overflow_add-result
+add-result c = let short = subst Short c.in-Data.is c.requires in search rules
 
-returns : tie.Need-returns
+returns : tie.Need-returns-in-Data
 returns c =
-    let g = c.before.given.given in length_of_data c.before.before.before.args.given g.0.0 g.0.1.0 g.0.1.1.0 g.1
+ length_of_data c.args.given c.in-Data.offset c.in-Data.at c.in-Data.len c.in-Data.is
 
-returns-2 : tie.Need-returns-2
-returns-2 c = length_of c.before.before.args.given 11 (λ pool. rw c.enum_told.given.1)
+returns-2 : tie.Need-returns-in-EndOfFile
+returns-2 c = length_of c.args.given 11 (λ pool. rw c.in-EndOfFile.is)
 
-returns-3 : tie.Need-returns-3
-returns-3 c = length_of c.before.before.args.given 15 (λ pool. rw c.enum-told2.given.1)
+returns-3 : tie.Need-returns-in-ExtendedSegmentAddress
+returns-3 c = length_of c.args.given 15 (λ pool. rw c.in-ExtendedSegmentAddress.is)
 
-returns-4 : tie.Need-returns-4
-returns-4 c = length_of c.before.before.args.given 19 (λ pool. rw c.enum-told3.given.1)
+returns-4 : tie.Need-returns-in-StartSegmentAddress
+returns-4 c = length_of c.args.given 19 (λ pool. rw c.in-StartSegmentAddress.is)
 
-returns-5 : tie.Need-returns-5
-returns-5 c = length_of c.before.before.args.given 15 (λ pool. rw c.enum-told4.given.1)
+returns-5 : tie.Need-returns-in-ExtendedLinearAddress
+returns-5 c = length_of c.args.given 15 (λ pool. rw c.in-ExtendedLinearAddress.is)
 
-returns-6 : tie.Need-returns-6
-returns-6 c = length_of c.before.before.args.given 19 (λ pool. rw c.enum-told5.given.1)
+returns-6 : tie.Need-returns-in-StartLinearAddress
+returns-6 c = length_of c.args.given 19 (λ pool. rw c.in-StartLinearAddress.is)
 
 pub line_length_spec : {M : Type 1} → statement M
 line_length_spec =

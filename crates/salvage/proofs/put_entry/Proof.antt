@@ -6,27 +6,26 @@ use borrow.Author.Rules.{rules}
 use Rattle.salvage.proofs.put_entry.Statement.{statement}
 use Rattle.salvage.proofs.put_entry.Tie as tie
 
-put-number-requires : tie.Need-put-number-requires
-put-number-requires c κs = omega (arith, c.before.before.before.requires)
+put-number-requires : tie.Need-put_number-requires
+put-number-requires c κs = omega (arith, c.requires)
 
-put-number-requires-2 : tie.Need-put-number-requires-2
-put-number-requires-2 c κs = omega (arith, c.before.before.before.before.before.before.before.before.requires, c.before.before.before.before.put-number.auto.1.1.0)
+put-number-requires-2 : tie.Need-put_number-requires-2
+put-number-requires-2 c κs = omega (arith, c.requires, c.put_number.auto.list)
 
-put-number-requires-3 : tie.Need-put-number-requires-3
-put-number-requires-3 c κs = omega (arith, c.before.before.before.before.before.before.before.before.before.before.before.before.before.requires, c.before.before.before.before.before.before.before.before.before.put-number.auto.1.1.0, c.before.before.before.before.put-number2.auto.1.1.0)
+put-number-requires-3 : tie.Need-put_number-requires-3
+put-number-requires-3 c κs = omega (arith, c.requires, c.put_number.auto.list, c.put_number-2.auto.list)
 
-put-number-requires-4 : tie.Need-put-number-requires-4
+put-number-requires-4 : tie.Need-put_number-requires-4
 put-number-requires-4 c κs =
-    omega (arith, c.before.before.before.before.before.before.before.before.before.before.before.before.before.before.before.before.before.requires, c.before.before.before.before.before.before.before.before.before.before.before.before.before.put-number.auto.1.1.0, c.before.before.before.before.before.before.before.before.put-number2.auto.1.1.0, c.before.before.before.put-number3.auto.1.1.0)
+    omega (arith, c.requires, c.put_number.auto.list, c.put_number-2.auto.list, c.put_number-3.auto.list)
 
 returns : tie.Need-returns
 returns c =
-    let s = c.before.before.before.before.before.before.before.before.before.before.before.before.before.before.before.before.before.before.before.before in
-    let p = c.before.before.before.before.before.before.before.before.before.before.before.before.before.before.before.before.put-number in
-    let q = c.before.before.before.before.before.before.before.before.before.before.before.put-number2 in
-    let r = c.before.before.before.before.before.before.put-number3 in
-    let t = c.before.before.put-number4 in
-    entry_put s.args.e s.args.list.now s.args.place s.requires p.new.1.1.0 q.new.1.1.0 r.new.1.1.0 t.new.1.1.0
+    let p = c.put_number in
+    let q = c.put_number-2 in
+    let r = c.put_number-3 in
+    let t = c.put_number-4 in
+    entry_put c.args.e c.args.list.now c.args.place c.requires p.new.list q.new.list r.new.list t.new.list
     p.ensures q.ensures r.ensures t.ensures
 
 pub put_entry_spec : {M : Type 1} → statement M

@@ -8,21 +8,19 @@ use borrow.Author.Rules.{rules}
 use Rattle.salvage.proofs.put_line.Statement.{statement}
 use Rattle.salvage.proofs.put_line.Tie as tie
 
-returns : tie.Need-returns
+returns : tie.Need-returns-in-Wrote
 returns c =
-    let a = c.before.before.before.before.before.before.before.before.before.args in
-    let s = c.before.before.before.before.before.write_step in
-    let e = c.before.end.given in
-    line_wrote a.given a.pool.now a.out.now a.at s.new.1.1.0 e.0.0
-    (subst (λ (r : Written). WriteStep a.given a.pool.now a.out.now a.at r s.new.1.1.0) e.1 s.ensures)
+    let a = c.args in
+    let s = c.write_step in
+    line_wrote a.given a.pool.now a.out.now a.at s.new.out c.in-Wrote.end
+    (subst (λ (r : Written). WriteStep a.given a.pool.now a.out.now a.at r s.new.out) c.in-Wrote.is s.ensures)
 
-returns-2 : tie.Need-returns-2
+returns-2 : tie.Need-returns-in-Refused
 returns-2 c =
-    let a = c.before.before.before.before.before.before.before.before.args in
-    let s = c.before.before.before.before.write_step in
-    let e = c.enum_told.given in
-    line_refused a.given a.pool.now a.out.now a.at s.new.1.1.0 e.0.0
-    (subst (λ (r : Written). WriteStep a.given a.pool.now a.out.now a.at r s.new.1.1.0) e.1 s.ensures)
+    let a = c.args in
+    let s = c.write_step in
+    line_refused a.given a.pool.now a.out.now a.at s.new.out c.in-Refused.field-0
+    (subst (λ (r : Written). WriteStep a.given a.pool.now a.out.now a.at r s.new.out) c.in-Refused.is s.ensures)
 
 pub put_line_spec : {M : Type 1} → statement M
 put_line_spec =

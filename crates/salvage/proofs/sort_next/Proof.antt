@@ -7,28 +7,23 @@ use borrow.Author.Rules.{rules}
 use Rattle.salvage.proofs.sort_next.Statement.{statement}
 use Rattle.salvage.proofs.sort_next.Tie as tie
 
-returns : tie.Need-returns
+returns : tie.Need-returns-in-Read
 returns c =
-    let s = c.before.before.before.before.before.before.before.before.before.before.before.before in
-    let n = c.before.before.before.before.before.before.before.next in
-    let g = c.before.before.reply.given in
-    let one = came_read s.args.w.state s.args.text.now s.args.pool.now n.result n.new.1.1.0 s.requires.0.options s.requires.0.countable s.requires.1 n.ensures g.0.0 g.1 in
-    sorted_record s.args.text.now s.args.w s.args.pool.now n.result n.new.1.1.0 s.requires.0 s.requires.1 n.ensures
-    g.0.0 one (n.auto.1.1.0 ∙ s.requires.1) c.sort-record.result (c.sort-record.ensures n.new.1.1.0)
+    let n = c.next-step in
+    let one = came_read c.args.w.state c.args.text.now c.args.pool.now n.result n.new.pool c.requires.0.options c.requires.0.countable c.requires.1 n.ensures c.in-Read.given c.in-Read.is in
+    sorted_record c.args.text.now c.args.w c.args.pool.now n.result n.new.pool c.requires.0 c.requires.1 n.ensures
+    c.in-Read.given one (n.auto.pool ∙ c.requires.1) c.sort_record.result (c.sort_record.ensures n.new.pool)
 
-returns-2 : tie.Need-returns-2
+returns-2 : tie.Need-returns-in-Refused
 returns-2 c =
-    let s = c.before.before.before.before.before.before.before.before.before.before.before.before in
-    let n = c.before.before.before.before.before.before.before.next in
-    let g = c.before.before.reply2.given in
-    sorted_refused s.args.text.now s.args.w s.args.pool.now n.result n.new.1.1.0 s.requires.0 s.requires.1 n.ensures
-    g.0.0 g.1 c.entry_of.result c.entry_of.ensures
+    let n = c.next-step in
+    sorted_refused c.args.text.now c.args.w c.args.pool.now n.result n.new.pool c.requires.0 c.requires.1 n.ensures
+    c.in-Refused.e c.in-Refused.is c.entry_of.result c.entry_of.ensures
 
-returns-3 : tie.Need-returns-3
+returns-3 : tie.Need-returns-in-Done
 returns-3 c =
-    let s = c.before.before.before.before.before.before.before.before.before.before in
-    let n = c.before.before.before.before.before.next in
-    sorted_done s.args.text.now s.args.w s.args.pool.now n.result n.new.1.1.0 s.requires.0 s.requires.1 n.ensures c.enum_told.given.1
+    let n = c.next-step in
+    sorted_done c.args.text.now c.args.w c.args.pool.now n.result n.new.pool c.requires.0 c.requires.1 n.ensures c.in-Done.is
 
 pub sort_next_spec : {M : Type 1} → statement M
 sort_next_spec =

@@ -10,79 +10,74 @@ use borrow.Author.Rules.{rules}
 use Rattle.salvage.proofs.survey.Statement.{statement}
 use Rattle.salvage.proofs.survey.Tie as tie
 
-abbrev invariant-loop : tie.invariant-loop
+abbrev invariant-loop : tie.invariant-loop-given
 invariant-loop text space places pool₀ w₀ spare₀ pool w spare = Counting text pool space places w spare
 
-abbrev decreases-loop : tie.decreases-loop
+abbrev decreases-loop : tie.decreases-loop-given
 decreases-loop text space places pool₀ w₀ spare₀ pool w spare = length (unread w.state text)
 
-loop-holds : tie.Need-loop-init invariant-loop decreases-loop
+loop-holds : tie.Need-loop-given-init invariant-loop decreases-loop
 loop-holds c =
-    let a = c.before.before.args in
-    counting_start a.text.now a.space a.places _ (omega arith) (search rules) c.begin.result c.begin.ensures
+    let a = c.args in
+    counting_start a.text.now a.space a.places _ (omega arith) (search rules) c.begin-w.result c.begin-w.ensures
 
-slice-aggregate-sort-next : tie.Need-slice-aggregate-sort-next invariant-loop decreases-loop
-slice-aggregate-sort-next c = sym c.before.loop.invariant.room
+slice-aggregate-sort-next : tie.Need-slice_bounds-sort_next-end invariant-loop decreases-loop
+slice-aggregate-sort-next c = sym c.loop-given.invariant.room
 
-sort-next-requires : tie.Need-sort-next-requires invariant-loop decreases-loop
-sort-next-requires c κs = let k = c.before.loop.invariant in (k.under_way, k.room)
+sort-next-requires : tie.Need-sort_next-requires invariant-loop decreases-loop
+sort-next-requires c κs = let k = c.loop-given.invariant in (k.under_way, k.room)
 
-line-length-requires : tie.Need-line-length-requires invariant-loop decreases-loop
+line-length-requires : tie.Need-line_length-requires invariant-loop decreases-loop
 line-length-requires c κs =
-    let a = c.before.before.before.before.before.before.before.before.before.args in
-    let l = c.before.before.before.before.before.before.loop in
-    let t = c.before.before.before.before.sort-next in
-    let g = c.before.given.given in
-    short_record g.0.0 t.new.1.0 (keeps_lies a.text.now a.space a.places l.pool l.w l.spare l.invariant t.new.1.0 t.result t.ensures g.0.0 g.0.1.0 g.1)
+    let a = c.args in
+    let l = c.loop-given in
+    let t = c.sort_next in
+    short_record c.in-Keeps.given t.new.pool (keeps_lies a.text.now a.space a.places l.pool l.w l.spare l.invariant t.new.pool t.result t.ensures c.in-Keeps.given c.in-Keeps.next c.in-Keeps.is)
 
-loop-less : tie.Need-loop-smaller invariant-loop decreases-loop
+loop-less : tie.Need-loop-given-smaller-in-Keeps invariant-loop decreases-loop
 loop-less c =
-    let a = c.before.before.before.before.before.before.before.before.before.before.before.args in
-    let l = c.before.before.before.before.before.before.before.before.loop in
-    let t = c.before.before.before.before.before.before.sort-next in
-    let g = c.before.before.before.given.given in
-    moves_keeps a.text.now l.w t.new.1.0 t.result t.ensures g.0.0 g.0.1.0 g.1
+    let a = c.args in
+    let l = c.loop-given in
+    let t = c.sort_next in
+    moves_keeps a.text.now l.w t.new.pool t.result t.ensures c.in-Keeps.given c.in-Keeps.next c.in-Keeps.is
 
-loop-again : tie.Need-loop-preserved invariant-loop decreases-loop
+loop-again : tie.Need-loop-given-preserved-in-Keeps invariant-loop decreases-loop
 loop-again c =
-    let a = c.before.before.before.before.before.before.before.before.before.before.before.args in
-    let l = c.before.before.before.before.before.before.before.before.loop in
-    let t = c.before.before.before.before.before.before.sort-next in
-    let g = c.before.before.before.given.given in
-    counting_keeps a.text.now a.space a.places l.pool l.w l.spare l.invariant t.new.1.0 t.result t.ensures g.0.0 g.0.1.0 g.1 t.auto.1.0
-    c.before.line_length.result c.before.line_length.ensures c.with-line.result c.with-line.ensures
+    let a = c.args in
+    let l = c.loop-given in
+    let t = c.sort_next in
+    counting_keeps a.text.now a.space a.places l.pool l.w l.spare l.invariant t.new.pool t.result t.ensures c.in-Keeps.given c.in-Keeps.next c.in-Keeps.is t.auto.pool
+    c.line_length.result c.line_length.ensures c.with_line-spare.result c.with_line-spare.ensures
 
-loop-less-2 : tie.Need-loop-smaller-2 invariant-loop decreases-loop
+loop-less-2 : tie.Need-loop-given-smaller invariant-loop decreases-loop
 loop-less-2 c =
-    let a = c.before.before.before.before.before.before.before.before.before.before.args in
-    let l = c.before.before.before.before.before.before.before.loop in
-    let t = c.before.before.before.before.before.sort-next in
-    let g = c.before.before.next.given in
-    moves_drops a.text.now l.w t.new.1.0 t.result t.ensures g.0.0 g.0.1.0 g.1
+    let a = c.args in
+    let l = c.loop-given in
+    let t = c.sort_next in
+    moves_drops a.text.now l.w t.new.pool t.result t.ensures c.in-Drops.field-0 c.in-Drops.next c.in-Drops.is
 
-loop-again-2 : tie.Need-loop-preserved-2 invariant-loop decreases-loop
+loop-again-2 : tie.Need-loop-given-preserved invariant-loop decreases-loop
 loop-again-2 c =
-    let a = c.before.before.before.before.before.before.before.before.before.before.args in
-    let l = c.before.before.before.before.before.before.before.loop in
-    let t = c.before.before.before.before.before.sort-next in
-    let g = c.before.before.next.given in
-    counting_drops a.text.now a.space a.places l.pool l.w l.spare l.invariant t.new.1.0 t.result t.ensures g.0.0 g.0.1.0 g.1 t.auto.1.0
-    c.with-entry.result c.with-entry.ensures
+    let a = c.args in
+    let l = c.loop-given in
+    let t = c.sort_next in
+    counting_drops a.text.now a.space a.places l.pool l.w l.spare l.invariant t.new.pool t.result t.ensures c.in-Drops.field-0 c.in-Drops.next c.in-Drops.is t.auto.pool
+    c.with_entry-spare.result c.with_entry-spare.ensures
 
-returns : tie.Need-returns invariant-loop decreases-loop
+returns : tie.Need-returns-in-Ends invariant-loop decreases-loop
 returns c =
-    let a = c.before.before.before.before.before.before.before.before.before.args in
-    let l = c.before.before.before.before.before.before.loop in
-    let t = c.before.before.before.before.sort-next in
-    counting_ends a.text.now a.space a.places l.pool l.w l.spare l.invariant t.new.1.0 t.result t.ensures c.before.enum_told.given.1 c.with-line2.result c.with-line2.ensures
+    let a = c.args in
+    let l = c.loop-given in
+    let t = c.sort_next in
+    counting_ends a.text.now a.space a.places l.pool l.w l.spare l.invariant t.new.pool t.result t.ensures c.in-Ends.is c.with_line.result c.with_line.ensures
 
-returns-2 : tie.Need-returns-2 invariant-loop decreases-loop
+returns-2 : tie.Need-returns-in-Missing invariant-loop decreases-loop
 returns-2 c =
-    let a = c.before.before.before.before.before.before.before.before.before.before.args in
-    let l = c.before.before.before.before.before.before.before.loop in
-    let t = c.before.before.before.before.before.sort-next in
-    counting_missing a.text.now a.space a.places l.pool l.w l.spare l.invariant t.new.1.0 t.result t.ensures c.before.before.enum-told2.given.1
-    c.before.with-line3.result c.with-entry2.result c.before.with-line3.ensures c.with-entry2.ensures
+    let a = c.args in
+    let l = c.loop-given in
+    let t = c.sort_next in
+    counting_missing a.text.now a.space a.places l.pool l.w l.spare l.invariant t.new.pool t.result t.ensures c.in-Missing.is
+    c.with_line-ended.result c.with_entry.result c.with_line-ended.ensures c.with_entry.ensures
 
 pub survey_spec : {M : Type 1} → statement M
 survey_spec =

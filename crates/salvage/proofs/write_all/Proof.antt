@@ -11,131 +11,125 @@ use borrow.Author.Rules.{rules}
 use Rattle.salvage.proofs.write_all.Statement.{statement}
 use Rattle.salvage.proofs.write_all.Tie as tie
 
-abbrev invariant-loop : tie.invariant-loop
+abbrev invariant-loop : tie.invariant-loop-given
 invariant-loop text out₀ list₀ pool₀ w₀ at₀ place₀ out list pool w at place = Writing text out₀ list₀ out list pool w at place
 
-abbrev decreases-loop : tie.decreases-loop
+abbrev decreases-loop : tie.decreases-loop-given
 decreases-loop text out₀ list₀ pool₀ w₀ at₀ place₀ out list pool w at place = length (unread w.state text)
 
-loop-holds : tie.Need-loop-init invariant-loop decreases-loop
+loop-holds : tie.Need-loop-given-init invariant-loop decreases-loop
 loop-holds c =
-    let a = c.before.before.before.before.args in
-    writing_start a.text.now a.out.now a.list.now c.before.before.before.before.requires _ (omega arith) (search rules) c.begin.result c.begin.ensures
+    let a = c.args in
+    writing_start a.text.now a.out.now a.list.now c.requires _ (omega arith) (search rules) c.begin-w.result c.begin-w.ensures
 
-slice-aggregate-sort-next : tie.Need-slice-aggregate-sort-next invariant-loop decreases-loop
-slice-aggregate-sort-next c = sym c.before.loop.invariant.room
+slice-aggregate-sort-next : tie.Need-slice_bounds-sort_next-end invariant-loop decreases-loop
+slice-aggregate-sort-next c = sym c.loop-given.invariant.room
 
-sort-next-requires : tie.Need-sort-next-requires invariant-loop decreases-loop
-sort-next-requires c κs = let k = c.before.loop.invariant in (k.under_way, k.room)
+sort-next-requires : tie.Need-sort_next-requires invariant-loop decreases-loop
+sort-next-requires c κs = let k = c.loop-given.invariant in (k.under_way, k.room)
 
-slice-aggregate-put-line : tie.Need-slice-aggregate-put-line invariant-loop decreases-loop
-slice-aggregate-put-line c = sym (c.before.before.before.before.before.sort-next.auto.1.0 ∙ c.before.before.before.before.before.before.before.loop.invariant.room)
+slice-aggregate-put-line : tie.Need-slice_bounds-put_line-end invariant-loop decreases-loop
+slice-aggregate-put-line c = sym (c.sort_next.auto.pool ∙ c.loop-given.invariant.room)
 
-loop-less : tie.Need-loop-smaller invariant-loop decreases-loop
+loop-less : tie.Need-loop-given-smaller-in-Keeps invariant-loop decreases-loop
 loop-less c =
-    let a = c.before.before.before.before.before.before.before.before.before.before.before.before.before.before.before.before.args in
-    let f = c.before.before.before.before.before.before.before.before.before.before.before.before.before.before.before.before.requires in
-    let l = c.before.before.before.before.before.before.before.before.before.before.before.loop in
-    let t = c.before.before.before.before.before.before.before.before.before.sort-next in
-    let g = c.before.before.before.before.before.before.given.given in
-    moves_keeps a.text.now l.w t.new.1.0 t.result t.ensures g.0.0 g.0.1.0 g.1
+    let a = c.args in
+    let f = c.requires in
+    let l = c.loop-given in
+    let t = c.sort_next in
+    moves_keeps a.text.now l.w t.new.pool t.result t.ensures c.in-Keeps.given c.in-Keeps.next c.in-Keeps.is
 
-loop-again : tie.Need-loop-preserved invariant-loop decreases-loop
+loop-again : tie.Need-loop-given-preserved-in-Keeps invariant-loop decreases-loop
 loop-again c =
-    let a = c.before.before.before.before.before.before.before.before.before.before.before.before.before.before.before.before.args in
-    let f = c.before.before.before.before.before.before.before.before.before.before.before.before.before.before.before.before.requires in
-    let l = c.before.before.before.before.before.before.before.before.before.before.before.loop in
-    let t = c.before.before.before.before.before.before.before.before.before.sort-next in
-    let g = c.before.before.before.before.before.before.given.given in
-    let p = c.before.before.put-line in
-    writing_keeps a.text.now a.out.now a.list.now f l.out l.list l.pool l.w l.at l.place l.invariant t.new.1.0 t.result t.ensures g.0.0 g.0.1.0 g.1 t.auto.1.0 p.result p.new.1.1.0 p.auto.1.1.0 p.ensures
+    let a = c.args in
+    let f = c.requires in
+    let l = c.loop-given in
+    let t = c.sort_next in
+    let p = c.put_line-at in
+    writing_keeps a.text.now a.out.now a.list.now f l.out l.list l.pool l.w l.at l.place l.invariant t.new.pool t.result t.ensures c.in-Keeps.given c.in-Keeps.next c.in-Keeps.is t.auto.pool p.result p.new.out p.auto.out p.ensures
 
-put-entry-requires : tie.Need-put-entry-requires invariant-loop decreases-loop
+put-entry-requires : tie.Need-put_entry-requires invariant-loop decreases-loop
 put-entry-requires c κs =
-    let a = c.before.before.before.before.before.before.before.before.before.before.before.before.args in
-    let f = c.before.before.before.before.before.before.before.before.before.before.before.before.requires in
-    let l = c.before.before.before.before.before.before.before.loop in
-    let t = c.before.before.before.before.before.sort-next in
-    let g = c.before.before.e.given in
-    drops_room a.text.now a.out.now a.list.now f l.out l.list l.pool l.w l.at l.place l.invariant t.new.1.0 t.result t.ensures g.0.0 g.0.1.0 g.1
+    let a = c.args in
+    let f = c.requires in
+    let l = c.loop-given in
+    let t = c.sort_next in
+    drops_room a.text.now a.out.now a.list.now f l.out l.list l.pool l.w l.at l.place l.invariant t.new.pool t.result t.ensures c.in-Drops.e c.in-Drops.next c.in-Drops.is
 
-add-place : tie.Need-overflow-add-place invariant-loop decreases-loop
+add-place : tie.Need-overflow_add-place invariant-loop decreases-loop
 add-place c =
-    let a = c.before.before.before.before.before.before.before.before.before.before.before.before.before.before.before.args in
-    let f = c.before.before.before.before.before.before.before.before.before.before.before.before.before.before.before.requires in
-    let l = c.before.before.before.before.before.before.before.before.before.before.loop in
-    let t = c.before.before.before.before.before.before.before.before.sort-next in
-    let g = c.before.before.before.before.before.e.given in
-    let h = drops_room a.text.now a.out.now a.list.now f l.out l.list l.pool l.w l.at l.place l.invariant t.new.1.0 t.result t.ensures g.0.0 g.0.1.0 g.1 in
+    let a = c.args in
+    let f = c.requires in
+    let l = c.loop-given in
+    let t = c.sort_next in
+    let h = drops_room a.text.now a.out.now a.list.now f l.out l.list l.pool l.w l.at l.place l.invariant t.new.pool t.result t.ensures c.in-Drops.e c.in-Drops.next c.in-Drops.is in
     let q = l.invariant.list_same in
-    let small : l.place + 1 < 2 ^ 64 = omega (arith, c.before.before.before.before.before.before.before.before.before.before.before.before.before.before.before.well-formed) in
+    let small : l.place + 1 < 2 ^ 64 = omega (arith, c.well-formed) in
     search rules
 
-loop-less-2 : tie.Need-loop-smaller-2 invariant-loop decreases-loop
+loop-less-2 : tie.Need-loop-given-smaller invariant-loop decreases-loop
 loop-less-2 c =
-    let a = c.before.before.before.before.before.before.before.before.before.before.before.before.before.before.before.args in
-    let f = c.before.before.before.before.before.before.before.before.before.before.before.before.before.before.before.requires in
-    let l = c.before.before.before.before.before.before.before.before.before.before.loop in
-    let t = c.before.before.before.before.before.before.before.before.sort-next in
-    let g = c.before.before.before.before.before.e.given in
-    moves_drops a.text.now l.w t.new.1.0 t.result t.ensures g.0.0 g.0.1.0 g.1
+    let a = c.args in
+    let f = c.requires in
+    let l = c.loop-given in
+    let t = c.sort_next in
+    moves_drops a.text.now l.w t.new.pool t.result t.ensures c.in-Drops.e c.in-Drops.next c.in-Drops.is
 
-loop-again-2 : tie.Need-loop-preserved-2 invariant-loop decreases-loop
+loop-again-2 : tie.Need-loop-given-preserved invariant-loop decreases-loop
 loop-again-2 c =
-    let a = c.before.before.before.before.before.before.before.before.before.before.before.before.before.before.before.args in
-    let f = c.before.before.before.before.before.before.before.before.before.before.before.before.before.before.before.requires in
-    let l = c.before.before.before.before.before.before.before.before.before.before.loop in
-    let t = c.before.before.before.before.before.before.before.before.sort-next in
-    let g = c.before.before.before.before.before.e.given in
-    let p = c.before.before.put-entry in
-    writing_drops a.text.now a.out.now a.list.now f l.out l.list l.pool l.w l.at l.place l.invariant t.new.1.0 t.result t.ensures g.0.0 g.0.1.0 g.1 t.auto.1.0 p.new.1.0 p.auto.1.0 p.ensures
+    let a = c.args in
+    let f = c.requires in
+    let l = c.loop-given in
+    let t = c.sort_next in
+    let p = c.put_entry in
+    writing_drops a.text.now a.out.now a.list.now f l.out l.list l.pool l.w l.at l.place l.invariant t.new.pool t.result t.ensures c.in-Drops.e c.in-Drops.next c.in-Drops.is t.auto.pool p.new.list p.auto.list p.ensures
 
-slice-aggregate-put-line-2 : tie.Need-slice-aggregate-put-line-2 invariant-loop decreases-loop
-slice-aggregate-put-line-2 c = sym (c.before.before.before.before.sort-next.auto.1.0 ∙ c.before.before.before.before.before.before.loop.invariant.room)
+slice-aggregate-put-line-2 : tie.Need-slice_bounds-put_line-end-in-Ends invariant-loop decreases-loop
+slice-aggregate-put-line-2 c = sym (c.sort_next.auto.pool ∙ c.loop-given.invariant.room)
 
-same_length : tie.Need-same-length invariant-loop decreases-loop
-same_length c = c.before.before.put-line2.auto.1.1.0 ∙ c.before.before.before.before.before.before.before.before.before.before.loop.invariant.out_same
+same_length : tie.Need-shape_of-out-in-Ends invariant-loop decreases-loop
+same_length c = c.put_line.auto.out ∙ c.loop-given.invariant.out_same
 
-same-length-2 : tie.Need-same-length-2 invariant-loop decreases-loop
-same-length-2 c = c.before.before.before.before.before.before.before.before.before.before.loop.invariant.list_same
+same-length-2 : tie.Need-shape_of-list-in-Ends invariant-loop decreases-loop
+same-length-2 c = c.loop-given.invariant.list_same
 
-returns : tie.Need-returns invariant-loop decreases-loop
+returns : tie.Need-returns-in-Ends invariant-loop decreases-loop
 returns c =
-    let a = c.before.before.before.before.before.before.before.before.before.before.before.before.before.before.before.args in
-    let f = c.before.before.before.before.before.before.before.before.before.before.before.before.before.before.before.requires in
-    let l = c.before.before.before.before.before.before.before.before.before.before.loop in
-    let t = c.before.before.before.before.before.before.before.before.sort-next in
-    let p = c.before.before.put-line2 in
-    writing_ends a.text.now a.out.now a.list.now f l.out l.list l.pool l.w l.at l.place l.invariant t.new.1.0 t.result t.ensures c.before.before.before.before.before.enum_told.given.1 t.auto.1.0 p.result p.new.1.1.0 p.ensures
+    let a = c.args in
+    let f = c.requires in
+    let l = c.loop-given in
+    let t = c.sort_next in
+    let p = c.put_line in
+    writing_ends a.text.now a.out.now a.list.now f l.out l.list l.pool l.w l.at l.place l.invariant t.new.pool t.result t.ensures c.in-Ends.is t.auto.pool p.result p.new.out p.ensures
 
-slice-aggregate-put-line-3 : tie.Need-slice-aggregate-put-line-3 invariant-loop decreases-loop
-slice-aggregate-put-line-3 c = sym (c.before.before.before.before.sort-next.auto.1.0 ∙ c.before.before.before.before.before.before.loop.invariant.room)
+slice-aggregate-put-line-3 : tie.Need-slice_bounds-put_line-end-in-Missing invariant-loop decreases-loop
+slice-aggregate-put-line-3 c = sym (c.sort_next.auto.pool ∙ c.loop-given.invariant.room)
 
-put-entry-requires-2 : tie.Need-put-entry-requires-2 invariant-loop decreases-loop
+put-entry-requires-2 : tie.Need-put_entry-requires-in-Missing invariant-loop decreases-loop
 put-entry-requires-2 c κs =
-    let a = c.before.before.before.before.before.before.before.before.before.before.before.before.before.before.before.before.before.args in
-    let f = c.before.before.before.before.before.before.before.before.before.before.before.before.before.before.before.before.before.requires in
-    let l = c.before.before.before.before.before.before.before.before.before.before.before.before.loop in
-    let t = c.before.before.before.before.before.before.before.before.before.before.sort-next in
-    missing_room a.text.now a.out.now a.list.now f l.out l.list l.pool l.w l.at l.place l.invariant t.new.1.0 t.result t.ensures c.before.before.before.before.before.before.before.enum-told2.given.1
+    let a = c.args in
+    let f = c.requires in
+    let l = c.loop-given in
+    let t = c.sort_next in
+    missing_room a.text.now a.out.now a.list.now f l.out l.list l.pool l.w l.at l.place l.invariant t.new.pool t.result t.ensures c.in-Missing.is
 
-same-length-3 : tie.Need-same-length-3 invariant-loop decreases-loop
-same-length-3 c = c.before.before.before.before.before.before.before.put-line3.auto.1.1.0 ∙ c.before.before.before.before.before.before.before.before.before.before.before.before.before.before.before.loop.invariant.out_same
+same-length-3 : tie.Need-shape_of-out-in-Missing invariant-loop decreases-loop
+same-length-3 c = c.put_line-in-Missing.auto.out ∙ c.loop-given.invariant.out_same
 
-same-length-4 : tie.Need-same-length-4 invariant-loop decreases-loop
-same-length-4 c = c.before.before.put-entry2.auto.1.0 ∙ c.before.before.before.before.before.before.before.before.before.before.before.before.before.before.before.loop.invariant.list_same
+same-length-4 : tie.Need-shape_of-list-in-Missing invariant-loop decreases-loop
+same-length-4 c = c.put_entry-in-Missing.auto.list ∙ c.loop-given.invariant.list_same
 
-returns-2 : tie.Need-returns-2 invariant-loop decreases-loop
+returns-2 : tie.Need-returns-in-Missing invariant-loop decreases-loop
 returns-2 c =
-    let a = c.before.before.before.before.before.before.before.before.before.before.before.before.before.before.before.before.before.before.before.before.args in
-    let f = c.before.before.before.before.before.before.before.before.before.before.before.before.before.before.before.before.before.before.before.before.requires in
-    let l = c.before.before.before.before.before.before.before.before.before.before.before.before.before.before.before.loop in
-    let t = c.before.before.before.before.before.before.before.before.before.before.before.before.before.sort-next in
-    let p = c.before.before.before.before.before.before.before.put-line3 in
-    let q = c.before.before.put-entry2 in
-    let e = c.before.before.before.before.end_added in
-    writing_missing a.text.now a.out.now a.list.now f l.out l.list l.pool l.w l.at l.place l.invariant t.new.1.0 t.result t.ensures c.before.before.before.before.before.before.before.before.before.before.enum-told2.given.1 t.auto.1.0 p.result p.new.1.1.0 p.ensures
-    e.result e.ensures q.new.1.0 q.ensures
+    let a = c.args in
+    let f = c.requires in
+    let l = c.loop-given in
+    let t = c.sort_next in
+    let p = c.put_line-in-Missing in
+    let q = c.put_entry-in-Missing in
+    let e = c.end_added in
+    writing_missing a.text.now a.out.now a.list.now f l.out l.list l.pool l.w l.at l.place l.invariant t.new.pool t.result t.ensures c.in-Missing.is t.auto.pool p.result p.new.out p.ensures
+    e.result e.ensures q.new.list q.ensures
 
 pub write_all_spec : {M : Type 1} → statement M
 write_all_spec =

@@ -10,21 +10,21 @@ use Rattle.digits.proofs.Parts.{rest_is}
 use Rattle.srec.proofs.digits_or.Statement.{statement}
 use Rattle.srec.proofs.digits_or.Tie as tie
 
-returns : tie.Need-returns
+returns : tie.Need-returns-then-good-line
 returns c =
-    let l = c.before.before.before.before.before.args.line.now in
-    let f : c.before.before.first-other.result ≡ leading (take (length l - 1) (drop 1 l)) = c.before.before.first-other.ensures.answer in
+    let l = c.args.line.now in
+    let f : c.first_other-good.result ≡ leading (take (length l - 1) (drop 1 l)) = c.first_other-good.ensures.answer in
     let e = f ∙ ap leading (rest_is l 1) in
-    let g : c.before.before.first-other.result + 1 ≡ suc (leading (drop 1 l)) = omega arith in
-    rw (found_other (drop 1 l) (omega (arith, length-drop 1 l, c.before.if1.true)))
-    (ap (λ (place : ℕ). Refused (ContainsInvalidCharacters place)) (c.name-place.ensures.answer ∙ ap named g))
+    let g : c.first_other-good.result + 1 ≡ suc (leading (drop 1 l)) = omega arith in
+    rw (found_other (drop 1 l) (omega (arith, length-drop 1 l, c.if-good-line.true)))
+    (ap (λ (place : ℕ). Refused (ContainsInvalidCharacters place)) (c.name_place.ensures.answer ∙ ap named g))
 
-returns-2 : tie.Need-returns-2
+returns-2 : tie.Need-returns
 returns-2 c =
-    let l = c.before.before.before.before.args.line.now in
-    let f : c.before.first-other.result ≡ leading (take (length l - 1) (drop 1 l)) = c.before.first-other.ensures.answer in
+    let l = c.args.line.now in
+    let f : c.first_other-good.result ≡ leading (take (length l - 1) (drop 1 l)) = c.first_other-good.ensures.answer in
     let e = f ∙ ap leading (rest_is l 1) in
-    rw (found_all (drop 1 l) (omega (arith, length-drop 1 l, c.if1.false)))
+    rw (found_all (drop 1 l) (omega (arith, length-drop 1 l, c.if-good-line.false)))
 
 pub digits_or_spec : {M : Type 1} → statement M
 digits_or_spec =

@@ -7,9 +7,8 @@ use Rattle.srec.proofs.put.Tie as tie
 
 returns : tie.Need-returns
 returns c =
-    let s = c.before.before.before.before.before.before in
-    let p = c.before.before.spell in
-    row_put s.args.bytes.now s.args.sum s.args.out.now s.args.at p.result s.requires p.ensures refl
+    let p = c.spell in
+    row_put c.args.bytes.now c.args.sum c.args.out.now c.args.at p.result c.requires p.ensures refl
 
 pub put_spec : {M : Type 1} → statement M
 put_spec = tie.close (tie.spec (λ c. search rules) (λ c. search rules) (λ c. search rules) (λ c κs. search rules) (λ c. search rules) returns)

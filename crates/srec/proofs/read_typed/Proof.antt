@@ -26,91 +26,85 @@ abbrev said : tie.Start → Said
 said s = judge (line_of s)
 
 -- what was decoded: the characters after the type, all of them
-decoded : (c : tie.After-decode)
+decoded : (c : tie.After-decode-scan)
     → let s = c.before.before.before.before.before.before.before.before.before.before in
-    Decoded (drop 2 (line_of s)) s.args.buf.now c.decode.result.whole c.decode.result.sum c.decode.new.1.0
+    Decoded (drop 2 (line_of c.before.before.before.before.before.before.before.before.before.before)) c.args.buf.now c.decode-scan.result.whole c.decode-scan.result.sum c.decode-scan.new.buf
 decoded c =
     let s = c.before.before.before.before.before.before.before.before.before.before in
     let l = line_of s in
-    let room : ℕ = length s.args.buf.now in
-    let d : Decoded (pairs (take (length l - 2) (drop 2 l)) room) s.args.buf.now c.decode.result.whole c.decode.result.sum c.decode.new.1.0 = c.decode.ensures in
-    rw (rest_is l 2, pairs_all (drop 2 l) room (omega (arith, length-drop 2 l)) (omega (arith, length-drop 2 l, s.requires.room))) at d
+    let room : ℕ = length c.args.buf.now in
+    let d : Decoded (pairs (take (length l - 2) (drop 2 l)) room) c.args.buf.now c.decode-scan.result.whole c.decode-scan.result.sum c.decode-scan.new.buf = c.decode-scan.ensures in
+    rw (rest_is l 2, pairs_all (drop 2 l) room (omega (arith, length-drop 2 l)) (omega (arith, length-drop 2 l, c.requires.room))) at d
 
 -- after the fourth test each character is a digit
-good : (c : tie.Else4) → all_digits (drop 2 (line_of c.before.before.before.before.before.before.before.before.before.before.before.before.before)) ≡ true
-good c = sym (decoded c.before.before.before).digits ∙ not-false _ c.if4.false
+good : (c : tie.Else-not-whole) → all_digits (drop 2 (line_of c.before.before.before.before.before.before.before.before.before.before.before.before.before)) ≡ true
+good c = sym (decoded c.before.before.before).digits ∙ not-false _ c.if-not-whole.false
 
-all_good : (c : tie.Else4) → all_digits (drop 1 (line_of c.before.before.before.before.before.before.before.before.before.before.before.before.before)) ≡ true
+all_good : (c : tie.Else-not-whole) → all_digits (drop 1 (line_of c.before.before.before.before.before.before.before.before.before.before.before.before.before)) ≡ true
 all_good c =
-    let s = c.before.before.before.before.before.before.before.before.before.before.before.before.before in
-    digits_all (line_of s) s.requires.long (ap is_named (sym s.requires.typed) ∙ s.requires.named) (good c)
+    digits_all (line_of c.before.before.before.before.before.before.before.before.before.before.before.before.before) c.requires.long (ap is_named (sym c.requires.typed) ∙ c.requires.named) (good c)
 
 -- and the decoded bytes are what the digits spell, with their sum
-spelt : (c : tie.Else4)
+spelt : (c : tie.Else-not-whole)
     → let l = line_of c.before.before.before.before.before.before.before.before.before.before.before.before.before in
-    (take ((length l - 2) / 2) c.before.before.before.decode.new.1.0 ≡ bytes (drop 2 l)) × (c.before.before.before.decode.result.sum ≡ sum (bytes (drop 2 l)) % 256)
+    (take ((length l - 2) / 2) c.decode-scan.new.buf ≡ bytes (drop 2 l)) × (c.decode-scan.result.sum ≡ sum (bytes (drop 2 l)) % 256)
 spelt c =
     let l = line_of c.before.before.before.before.before.before.before.before.before.before.before.before.before in
     let x = decoded_all (decoded c.before.before.before) (good c) in
-    (ap (λ (n : ℕ). take (n / 2) c.before.before.before.decode.new.1.0) (sym (length-drop 2 l)) ∙ x.0, x.1)
+    (ap (λ (n : ℕ). take (n / 2) c.decode-scan.new.buf) (sym (length-drop 2 l)) ∙ x.0, x.1)
 
-returns : tie.Need-returns
+returns : tie.Need-returns-then-n-width_of
 returns c =
-    let s = c.before.before.before.before.before.before in
-    chosen (said s) s.args.pool.now s.args.at (all_digits (drop 1 (line_of s))) c.digits-or.result RecordTooShort (invalid_at (line_of s))
-    (judge_few (line_of s) s.requires.starts s.requires.long s.args.kind s.requires.typed s.requires.named (omega (arith, c.before.before.width_of_lem.ensures.0, c.before.if1.true))) c.digits-or.ensures
+    chosen (said c.before.before.before.before.before.before) c.args.pool.now c.args.at (all_digits (drop 1 (line_of c.before.before.before.before.before.before))) c.digits_or.result RecordTooShort (invalid_at (line_of c.before.before.before.before.before.before))
+    (judge_few (line_of c.before.before.before.before.before.before) c.requires.starts c.requires.long c.args.kind c.requires.typed c.requires.named (omega (arith, c.width_of_lem.ensures.0, c.if-n-width_of.true))) c.digits_or.ensures
 
-returns-2 : tie.Need-returns-2
+returns-2 : tie.Need-returns-then-n-gt-MOST_DIGITS
 returns-2 c =
-    let s = c.before.before.before.before.before.before.before in
-    chosen (said s) s.args.pool.now s.args.at (all_digits (drop 1 (line_of s))) c.digits-or2.result RecordTooLong (invalid_at (line_of s))
-    (judge_many (line_of s) s.requires.starts s.requires.long s.args.kind s.requires.typed s.requires.named (omega (arith, c.before.before.before.width_of_lem.ensures.0, c.before.before.if1.false)) c.before.if2.true) c.digits-or2.ensures
+    chosen (said c.before.before.before.before.before.before.before) c.args.pool.now c.args.at (all_digits (drop 1 (line_of c.before.before.before.before.before.before.before))) c.digits_or-then-n-gt-MOST_DIGITS.result RecordTooLong (invalid_at (line_of c.before.before.before.before.before.before.before))
+    (judge_many (line_of c.before.before.before.before.before.before.before) c.requires.starts c.requires.long c.args.kind c.requires.typed c.requires.named (omega (arith, c.width_of_lem.ensures.0, c.if-n-width_of.false)) c.if-n-gt-MOST_DIGITS.true) c.digits_or-then-n-gt-MOST_DIGITS.ensures
 
-returns-3 : tie.Need-returns-3
+returns-3 : tie.Need-returns-then-n-ne0
 returns-3 c =
-    let s = c.before.before.before.before.before.before.before.before in
-    chosen (said s) s.args.pool.now s.args.at (all_digits (drop 1 (line_of s))) c.digits-or3.result RecordNotEvenLength (invalid_at (line_of s))
-    (judge_uneven (line_of s) s.requires.starts s.requires.long s.args.kind s.requires.typed s.requires.named (omega (arith, c.before.before.before.before.width_of_lem.ensures.0, c.before.before.before.if1.false)) c.before.before.if2.false c.before.if3.true) c.digits-or3.ensures
+    chosen (said c.before.before.before.before.before.before.before.before) c.args.pool.now c.args.at (all_digits (drop 1 (line_of c.before.before.before.before.before.before.before.before))) c.digits_or-then-n-ne0.result RecordNotEvenLength (invalid_at (line_of c.before.before.before.before.before.before.before.before))
+    (judge_uneven (line_of c.before.before.before.before.before.before.before.before) c.requires.starts c.requires.long c.args.kind c.requires.typed c.requires.named (omega (arith, c.width_of_lem.ensures.0, c.if-n-width_of.false)) c.if-n-gt-MOST_DIGITS.false c.if-n-ne0.true) c.digits_or-then-n-ne0.ensures
 
-add-name-place : tie.Need-overflow-add-name-place
+add-name-place : tie.Need-overflow_add-good
 add-name-place c =
     let l = line_of c.before.before.before.before.before.before.before.before.before.before.before.before.before.before.before in
-    let place : c.first-other.result ≡ leading (take (length l - 1) (drop 1 l)) = c.first-other.ensures.answer in
+    let place : c.first_other-good.result ≡ leading (take (length l - 1) (drop 1 l)) = c.first_other-good.ensures.answer in
     let e = place ∙ ap leading (rest_is l 1) in
     omega (arith, leading_most (drop 1 l), length-drop 1 l)
 
-returns-4 : tie.Need-returns-4
+returns-4 : tie.Need-returns-then-not-whole
 returns-4 c =
     let s = c.before.before.before.before.before.before.before.before.before.before.before.before.before.before.before.before in
     let l = line_of s in
-    let f = c.before.first-other in
+    let f = c.first_other-good in
     let place : f.result ≡ leading (take (length l - 1) (drop 1 l)) = f.ensures.answer in
     let e = place ∙ ap leading (rest_is l 1) in
     let g : f.result + 1 ≡ suc (leading (drop 1 l)) = omega arith in
-    refused (said s) s.args.pool.now s.args.at (ContainsInvalidCharacters c.name-place.result)
-    (judge_bad l s.requires.starts (digits_bad l s.requires.long (sym (decoded c.before.before.before.before.before.before).digits ∙ not-true _ c.before.before.before.if4.true))
-    ∙ ap (λ (place : ℕ). wrong (contains_invalid_characters place)) (sym (c.name-place.ensures.answer ∙ ap named g)))
+    refused (said c.before.before.before.before.before.before.before.before.before.before.before.before.before.before.before.before) c.args.pool.now c.args.at (ContainsInvalidCharacters c.name_place.result)
+    (judge_bad l c.requires.starts (digits_bad l c.requires.long (sym (decoded c.before.before.before.before.before.before).digits ∙ not-true _ c.if-not-whole.true))
+    ∙ ap (λ (place : ℕ). wrong (contains_invalid_characters place)) (sym (c.name_place.ensures.answer ∙ ap named g)))
 
-judge-bytes-requires : tie.Need-judge-bytes-requires
+judge-bytes-requires : tie.Need-judge_bytes-requires
 judge-bytes-requires c κs =
-    let s = c.before.before.before.before.before.before.before.before.before.before.before.before.before.before.before in
-    let d = c.before.before.before.before.before.decode in
-    let k : length d.new.1.0 ≡ length s.args.buf.now = d.auto.1.0 in
+    let d = c.decode-scan in
+    let k : length d.new.buf ≡ length c.args.buf.now = d.auto.buf in
     let e = spelt c.before.before in
     record {
-      named = s.requires.named;
-      least = omega (arith, c.before.before.before.before.before.before.before.before.before.before.before.width_of_lem.ensures.0, c.before.before.before.before.before.before.before.before.before.before.if1.false);
+      named = c.requires.named;
+      least = omega (arith, c.width_of_lem.ensures.0, c.if-n-width_of.false);
       most = omega arith;
-      room = omega (arith, s.requires.room);
+      room = omega (arith, c.requires.room);
       sums = e.1 ∙ ap (λ (bs : List ℕ). sum bs % 256) (sym e.0);
     }
 
-returns-5 : tie.Need-returns-5
+returns-5 : tie.Need-returns
 returns-5 c =
-    let s = c.before.before.before.before.before.before.before.before.before.before.before.before.before.before.before.before.before.before in
-    rw (judge_whole (line_of s) s.requires.starts s.requires.long s.args.kind s.requires.typed s.requires.named (omega (arith, c.before.before.before.before.before.before.before.before.before.before.before.before.before.before.width_of_lem.ensures.0, c.before.before.before.before.before.before.before.before.before.before.before.before.before.if1.false)) (omega arith) (omega arith) (all_good c.before.before.before.before.before)
-    ∙ ap (judge_bytes s.args.kind) (sym (spelt c.before.before.before.before.before).0))
-    c.before.before.judge_bytes.ensures
+    rw (judge_whole (line_of c.before.before.before.before.before.before.before.before.before.before.before.before.before.before.before.before.before) c.requires.starts c.requires.long c.args.kind c.requires.typed c.requires.named (omega (arith, c.width_of_lem.ensures.0, c.if-n-width_of.false)) (omega arith) (omega arith) (all_good c.before.before.before.before)
+    ∙ ap (judge_bytes c.args.kind) (sym (spelt c.before.before.before.before).0))
+    c.judge_bytes.ensures
 
 pub read_typed_spec : {M : Type 1} → statement M
 read_typed_spec =

@@ -18,41 +18,36 @@ line_of s = s.args.line.now
 abbrev said : tie.Start → Said
 said s = judge (line_of s)
 
-returns : tie.Need-returns
+returns : tie.Need-returns-then-line-eq0
 returns c =
-    let s = c.before.before.before.before in
-    refused (said s) s.args.pool.now s.args.at MissingStartCode (judge_none (line_of s) (omega arith))
+    refused (said c.before.before.before.before) c.args.pool.now c.args.at MissingStartCode (judge_none (line_of c.before.before.before.before) (omega arith))
 
-returns-2 : tie.Need-returns-2
+returns-2 : tie.Need-returns-then-line-ne-START
 returns-2 c =
-    let s = c.before.before.before.before.before.before in
-    refused (said s) s.args.pool.now s.args.at MissingStartCode (judge_other (line_of s) c.if2.true)
+    refused (said c.before.before.before.before.before.before) c.args.pool.now c.args.at MissingStartCode (judge_other (line_of c.before.before.before.before.before.before) c.if-line-ne-START.true)
 
-returns-3 : tie.Need-returns-3
+returns-3 : tie.Need-returns-then-line-eq1
 returns-3 c =
-    let s = c.before.before.before.before.before.before.before in
-    refused (said s) s.args.pool.now s.args.at RecordTooShort (judge_typeless (line_of s) c.before.if2.false c.if3.true)
+    refused (said c.before.before.before.before.before.before.before) c.args.pool.now c.args.at RecordTooShort (judge_typeless (line_of c.before.before.before.before.before.before.before) c.if-line-ne-START.false c.if-line-eq1.true)
 
-returns-4 : tie.Need-returns-4
+returns-4 : tie.Need-returns-then-not-is_named
 returns-4 c =
-    let s = c.before.before.before.before.before.before.before.before.before.before.before.before in
-    let k = c.before.before.before.digit_value in
-    let n = c.before.before.is_named in
-    chosen (said s) s.args.pool.now s.args.at (all_digits (drop 1 (line_of s))) c.digits-or.result (UnsupportedRecordType k.result) (invalid_at (line_of s))
-    (judge_unnamed (line_of s) c.before.before.before.before.before.before.if2.false (omega arith) k.result k.ensures.answer (sym n.ensures ∙ not-true n.result c.before.if4.true))
-    c.digits-or.ensures
+    let k = c.digit_value-kind in
+    let n = c.is_named in
+    chosen (said c.before.before.before.before.before.before.before.before.before.before.before.before) c.args.pool.now c.args.at (all_digits (drop 1 (line_of c.before.before.before.before.before.before.before.before.before.before.before.before))) c.digits_or.result (UnsupportedRecordType k.result) (invalid_at (line_of c.before.before.before.before.before.before.before.before.before.before.before.before))
+    (judge_unnamed (line_of c.before.before.before.before.before.before.before.before.before.before.before.before) c.if-line-ne-START.false (omega arith) k.result k.ensures.answer (sym n.ensures ∙ not-true n.result c.if-not-is_named.true))
+    c.digits_or.ensures
 
-read-typed-requires : tie.Need-read-typed-requires
+read-typed-requires : tie.Need-read_typed-requires
 read-typed-requires c κs =
-    let s = c.before.before.before.before.before.before.before.before.before.before.before.before.before in
-    let k = c.before.before.before.before.digit_value in
-    let n = c.before.before.before.is_named in
+    let k = c.digit_value-kind in
+    let n = c.is_named in
     record {
-      starts = c.before.before.before.before.before.before.before.if2.false;
+      starts = c.if-line-ne-START.false;
       long = omega arith;
       typed = k.ensures.answer;
-      named = sym n.ensures ∙ not-false n.result c.before.before.if4.false;
-      room = s.requires;
+      named = sym n.ensures ∙ not-false n.result c.if-not-is_named.false;
+      room = c.requires;
     }
 
 pub read_with_spec : {M : Type 1} → statement M

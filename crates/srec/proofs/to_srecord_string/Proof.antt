@@ -8,33 +8,33 @@ use Rattle.srec.proofs.to_srecord_string.Statement.{statement}
 use Rattle.srec.proofs.to_srecord_string.Tie as tie
 
 -- a measured line: it is there, and as long as it was measured
-measured : (c : tie.After-known-told2)
-    → let a = c.before.before.before.before.before.before.args in
-    (refusal_for a.«record» (length a.pool.now) ≡ none) × (c.before.measured2.given.0.0 ≡ length (line a.«record» a.pool.now))
+measured : (c : tie.In-Wrote)
+    → let a = c.args in
+    (refusal_for a.«record» (length a.pool.now) ≡ none) × (c.in-Wrote.n ≡ length (line a.«record» a.pool.now))
 measured c =
-    let a = c.before.before.before.before.before.before.args in
-    there (refusal_for a.«record» (length a.pool.now)) (line a.«record» a.pool.now) c.before.measured2.given.0.0
-    (sym (ap told_swritten c.before.measured2.given.1) ∙ c.before.before.before.measure.ensures)
+    let a = c.args in
+    there (refusal_for a.«record» (length a.pool.now)) (line a.«record» a.pool.now) c.in-Wrote.n
+    (sym (ap told_swritten c.in-Wrote.is) ∙ c.measure-measured.ensures)
 
-returns : tie.Need-returns
+returns : tie.Need-returns-then-n-out
 returns c =
-    let a = c.before.before.before.before.before.before.before.args in
+    let a = c.args in
     let m = measured c.before in
     full (refusal_for a.«record» (length a.pool.now)) (line a.«record» a.pool.now) a.out.now 0 m.0 (omega arith)
 
-put-record-requires : tie.Need-put-record-requires
+put-record-requires : tie.Need-put_record-requires
 put-record-requires c κs = let m = measured c.before.before in record { fine = m.0; room = omega arith }
 
-returns-2 : tie.Need-returns-2
+returns-2 : tie.Need-returns-in-Refused
 returns-2 c =
-    let a = c.before.before.before.before.before.before.args in
-    not_there (refusal_for a.«record» (length a.pool.now)) (line a.«record» a.pool.now) (line a.«record» a.pool.now) a.out.now 0 (swriter_refusal c.before.decreases.given.0.0) (sym (ap told_swritten c.before.decreases.given.1) ∙ c.before.before.before.measure.ensures)
+    let a = c.args in
+    not_there (refusal_for a.«record» (length a.pool.now)) (line a.«record» a.pool.now) (line a.«record» a.pool.now) a.out.now 0 (swriter_refusal c.in-Refused.e) (sym (ap told_swritten c.in-Refused.is) ∙ c.measure-measured.ensures)
 
-returns-3 : tie.Need-returns-3
+returns-3 : tie.Need-returns-else-n-out
 returns-3 c =
-    let a = c.before.before.before.before.before.before.before.before.before.before.before.args in
+    let a = c.args in
     let m = measured c.before.before.before.before.before in
-    written_there (refusal_for a.«record» (length a.pool.now)) (line a.«record» a.pool.now) a.out.now 0 m.0 c.before.before.before.before.before.before.measured2.given.0.0 c.before.before.put_record.new.1.1.0 (omega arith) (omega arith) c.before.before.put_record.ensures
+    written_there (refusal_for a.«record» (length a.pool.now)) (line a.«record» a.pool.now) a.out.now 0 m.0 c.in-Wrote.n c.put_record.new.out (omega arith) (omega arith) c.put_record.ensures
 
 pub to_srecord_string_spec : {M : Type 1} → statement M
 to_srecord_string_spec =

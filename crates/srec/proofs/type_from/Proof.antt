@@ -5,10 +5,10 @@ use Rattle.srec.proofs.Naming.{only_nine}
 use Rattle.srec.proofs.type_from.Statement.{statement}
 use Rattle.srec.proofs.type_from.Tie as tie
 
-returns-8 : tie.Need-returns-8
+returns-8 : tie.Need-returns-in_default
 returns-8 c =
-    let r = c.match.rest in
-    only_nine c.before.args.kind c.before.requires
+    let r = c.in_default.rest in
+    only_nine c.args.kind c.requires
     r.0.0.0.0.0.0.1 r.0.0.0.0.0.1 r.0.0.0.0.1 r.0.0.0.1 r.0.0.1 r.0.1 r.1
 
 pub type_from_spec : {M : Type 1} → statement M

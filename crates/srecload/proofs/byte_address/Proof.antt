@@ -7,7 +7,7 @@ use Rattle.srecload.proofs.byte_address.Tie as tie
 
 returns : tie.Need-returns
 unfolding s_address
-returns c = omega (arith, c.wrapping-add-u32.ensures)
+returns c = omega (arith, c.wrapping_add_u32.ensures)
 
 pub byte_address_spec : {M : Type 1} → statement M
 byte_address_spec =

@@ -4,12 +4,12 @@ use Rattle.srecload.proofs.Meeting.{met_count, met_miscount}
 use Rattle.srecload.proofs.judge_count.Statement.{statement}
 use Rattle.srecload.proofs.judge_count.Tie as tie
 
-returns : tie.Need-returns
-returns c = λ inside. let a = c.before.args in met_count inside a.there a.seen a.stated c.if1.true
+returns : tie.Need-returns-then-count-seen
+returns c = λ inside. let a = c.args in met_count inside a.there a.seen a.stated c.if-count-seen.true
 
-returns-2 : tie.Need-returns-2
+returns-2 : tie.Need-returns
 returns-2 c =
-    λ inside rest. let a = c.before.args in met_miscount inside a.there a.seen a.stated c.if1.false rest
+    λ inside rest. let a = c.args in met_miscount inside a.there a.seen a.stated c.if-count-seen.false rest
 
 pub judge_count_spec : {M : Type 1} → statement M
 judge_count_spec =

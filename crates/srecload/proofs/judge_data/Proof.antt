@@ -9,25 +9,25 @@ use Rattle.srecload.proofs.Meeting.{met_inside, met_outside}
 use Rattle.srecload.proofs.judge_data.Statement.{statement}
 use Rattle.srecload.proofs.judge_data.Tie as tie
 
-byte-address-requires : tie.Need-byte-address-requires
+byte-address-requires : tie.Need-byte_address-requires
 byte-address-requires c κs =
-    omega (arith, c.before.before.before.before.before.requires.0, c.before.before.before.survey.ensures.among c.before.i.given.0.0 (ap first_byte c.before.i.given.1))
+    omega (arith, c.requires.0, c.survey.ensures.among c.in-Outside.i (ap first_byte c.in-Outside.is))
 
-returns : tie.Need-returns
+returns : tie.Need-returns-in-Inside
 returns c =
     λ bytes l.
-    let a = c.before.before.before.before.args in
+    let a = c.args in
     let inside = inside_of a.owner (rows_in a.rows.now) in
     met_inside inside a.there a.seen a.given.address a.given.len bytes l
-    (subst (λ (r : Reach). Surveyed (s_address a.given.address) a.given.len inside r) c.enum_told.given.1 c.before.before.survey.ensures)
+    (subst (λ (r : Reach). Surveyed (s_address a.given.address) a.given.len inside r) c.in-Inside.is c.survey.ensures)
 
-returns-2 : tie.Need-returns-2
+returns-2 : tie.Need-returns-in-Outside
 returns-2 c =
     λ bytes l rest.
-    let a = c.before.before.before.before.before.before.args in
+    let a = c.args in
     let inside = inside_of a.owner (rows_in a.rows.now) in
-    rw c.byte_address.ensures (met_outside inside a.there a.seen a.given.address a.given.len bytes l c.before.before.i.given.0.0
-    (subst (λ (r : Reach). Surveyed (s_address a.given.address) a.given.len inside r) c.before.before.i.given.1 c.before.before.before.before.survey.ensures) rest)
+    rw c.byte_address.ensures (met_outside inside a.there a.seen a.given.address a.given.len bytes l c.in-Outside.i
+    (subst (λ (r : Reach). Surveyed (s_address a.given.address) a.given.len inside r) c.in-Outside.is c.survey.ensures) rest)
 
 pub judge_data_spec : {M : Type 1} → statement M
 judge_data_spec =

@@ -11,40 +11,35 @@ use Rattle.srecload.proofs.judge_line.Statement.{statement}
 use Rattle.srecload.proofs.judge_line.Tie as tie
 
 -- the record that was read
-came : (c : tie.After-given)
-    → let s = c.before.before.before.before.before.before.before.before.before.before in
-    let r = c.before.before.before.before.read-srecord in
-    Came s.args.line.now r.new.1.0 c.given.given.0.0
+came : (c : tie.In-Read-2)
+    →    let r = c.read_srecord in
+    Came c.args.line.now r.new.pool c.in-Read.given
 came c =
-    let s = c.before.before.before.before.before.before.before.before.before.before in
-    let r = c.before.before.before.before.read-srecord in
-    came_read s.args.line.now s.args.pool.now r.new.1.0 s.requires.0 c.given.given.0.0
-    (subst (λ (x : SAnswer). ReadSRecord s.args.line.now s.args.pool.now 0 x r.new.1.0) c.given.given.1 r.ensures)
+    let r = c.read_srecord in
+    came_read c.args.line.now c.args.pool.now r.new.pool c.requires.0 c.in-Read.given
+    (subst (λ (x : SAnswer). ReadSRecord c.args.line.now c.args.pool.now 0 x r.new.pool) c.in-Read.is r.ensures)
 
-returns : tie.Need-returns
+returns : tie.Need-returns-then-line-eq0
 returns c =
-    let a = c.before.before.before.before.args in
-    rw (line_empty a.there.line a.line.now c.if1.true) (met_nothing (inside_of a.owner (rows_in a.rows.now)) a.there a.seen)
+    let a = c.args in
+    rw (line_empty a.there.line a.line.now c.if-line-eq0.true) (met_nothing (inside_of a.owner (rows_in a.rows.now)) a.there a.seen)
 
-judge-record-requires : tie.Need-judge-record-requires
-judge-record-requires c κs = ((came c.before).few, c.before.before.before.before.before.before.before.before.before.before.before.requires.1)
+judge-record-requires : tie.Need-judge_record-requires
+judge-record-requires c κs = ((came c.before).few, c.requires.1)
 
-returns-2 : tie.Need-returns-2
+returns-2 : tie.Need-returns-in-Read
 returns-2 c =
-    let s = c.before.before.before.before.before.before.before.before.before.before.before.before in
-    let r = c.before.before.before.before.before.before.read-srecord in
-    let x = c.before.before.given.given.0.0 in
-    rw (line_came s.args.there.line s.args.line.now r.new.1.0 x (omega arith) (came c.before.before)) (c.judge-record.ensures (data_of x r.new.1.0) (came c.before.before).sized)
+    let r = c.read_srecord in
+    let x = c.in-Read.given in
+    rw (line_came c.args.there.line c.args.line.now r.new.pool x (omega arith) (came c.before.before)) (c.judge_record.ensures (data_of x r.new.pool) (came c.before.before).sized)
 
-returns-3 : tie.Need-returns-3
+returns-3 : tie.Need-returns-in-Refused
 returns-3 c =
     λ rest.
-    let s = c.before.before.before.before.before.before.before.before.before.before.before in
-    let r = c.before.before.before.before.before.read-srecord in
-    let g = c.before.e.given in
-    met_refused (inside_of s.args.owner (rows_in s.args.rows.now)) s.args.there.line s.args.seen s.args.line.now g.0.0 (omega arith)
-    (came_refused s.args.line.now s.args.pool.now r.new.1.0 s.requires.0 g.0.0
-    (subst (λ (x : SAnswer). ReadSRecord s.args.line.now s.args.pool.now 0 x r.new.1.0) g.1 r.ensures)) rest
+    let r = c.read_srecord in
+    met_refused (inside_of c.args.owner (rows_in c.args.rows.now)) c.args.there.line c.args.seen c.args.line.now c.in-Refused.e (omega arith)
+    (came_refused c.args.line.now c.args.pool.now r.new.pool c.requires.0 c.in-Refused.e
+    (subst (λ (x : SAnswer). ReadSRecord c.args.line.now c.args.pool.now 0 x r.new.pool) c.in-Refused.is r.ensures)) rest
 
 pub judge_line_spec : {M : Type 1} → statement M
 judge_line_spec =

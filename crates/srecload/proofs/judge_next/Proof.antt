@@ -7,18 +7,16 @@ use Rattle.srecload.proofs.Meeting.{judged, judged_out}
 use Rattle.srecload.proofs.judge_next.Statement.{statement}
 use Rattle.srecload.proofs.judge_next.Tie as tie
 
-returns : tie.Need-returns
+returns : tie.Need-returns-then-from-text
 returns c =
-    let s = c.before.before.before.before in
-    judged_out (inside_of s.args.owner (rows_in s.args.rows.now)) s.args.text.now s.args.w s.args.seen c.if1.true
+    judged_out (inside_of c.args.owner (rows_in c.args.rows.now)) c.args.text.now c.args.w c.args.seen c.if-from-text.true
 
-returns-2 : tie.Need-returns-2
+returns-2 : tie.Need-returns
 returns-2 c =
-    let s = c.before.before.before.before.before.before.before.before.before.before.before.before in
-    let f = c.before.before.before.before.before.first_line in
-    let j = c.before.before.judge-line in
-    judged s.args.text.now s.args.w s.requires.0 (omega (arith, s.requires.0.inside)) f.result.now f.new.1.0 (cut_off f.ensures)
-    (inside_of s.args.owner (rows_in s.args.rows.now)) s.args.seen s.requires.1 j.result j.ensures
+    let f = c.first_line-line in
+    let j = c.judge_line in
+    judged c.args.text.now c.args.w c.requires.0 (omega (arith, c.requires.0.inside)) f.result.now f.new.behind (cut_off f.ensures)
+    (inside_of c.args.owner (rows_in c.args.rows.now)) c.args.seen c.requires.1 j.result j.ensures
 
 pub judge_next_spec : {M : Type 1} → statement M
 judge_next_spec =

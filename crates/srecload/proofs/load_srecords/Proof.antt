@@ -11,33 +11,33 @@ use Rattle.srecload.proofs.load_srecords.Statement.{statement}
 use Rattle.srecload.proofs.load_srecords.Tie as tie
 
 -- the window is not refused
-fit : (c : tie.Else1) → let s = c.before.before.before.before.before.args in unfit s.first (length s.page.now) (length s.marks.now) ≡ false
-fit c = sym c.before.is-unfit.ensures.answer ∙ c.if1.false
+fit : (c : tie.Else-is_unfit) → let s = c.args in unfit s.first (length s.page.now) (length s.marks.now) ≡ false
+fit c = sym c.is_unfit.ensures.answer ∙ c.if-is_unfit.false
 
-returns : tie.Need-returns
+returns : tie.Need-returns-then-is_unfit
 returns c =
-    let s = c.before.before.before.before.before.args in
-    load_unfit s_records s.text.now s.first s.page.now s.marks.now (sym c.before.is-unfit.ensures.answer ∙ c.if1.true)
+    let s = c.args in
+    load_unfit s_records s.text.now s.first s.page.now s.marks.now (sym c.is_unfit.ensures.answer ∙ c.if-is_unfit.true)
 
-write-text-requires : tie.Need-write-text-requires
-write-text-requires c κs = let s = c.before.before.before.before.before.before.before.before.before.before.before.before.before.before.before.before.args in alone_sound s.first s.page.now s.marks.now (fit c.before.before.before.before.before.before.before.before.before.before.before)
+write-text-requires : tie.Need-write_text-requires
+write-text-requires c κs = let s = c.args in alone_sound s.first s.page.now s.marks.now (fit c.before.before.before.before.before.before.before.before.before.before.before)
 
-returns-2 : tie.Need-returns-2
+returns-2 : tie.Need-returns-then-is_accepted
 returns-2 c =
-    let s = c.before.before.before.before.before.before.before.before.before.before.before.before.before.before.before.before.before.before.before.before.before.args in
-    let t = c.before.before.before.before.before.before.before.before.before.before.before.before.before.before.judge-text in
-    let k = c.before.before.before.before.before.before.before.before.before.before.clear in
-    let w = c.before.before.before.before.write-text in
+    let s = c.args in
+    let t = c.judge_text-answer in
+    let k = c.clear in
+    let w = c.write_text in
     load_accepted s_records s.text.now s.first s.page.now s.marks.now (fit c.before.before.before.before.before.before.before.before.before.before.before.before.before.before.before.before) t.result (alone_judged s.first (length s.page.now) (steps_of s.text.now) t.result t.ensures)
-    (sym c.before.before.before.before.before.before.before.before.before.before.before.before.before.is_accepted.ensures.answer ∙ c.before.before.before.before.before.before.before.before.before.before.before.before.if2.true) k.new.0 w.new.1.1.1.0 w.new.1.1.1.1.0 k.ensures.left
-    (alone_painted s.first (length s.page.now) (placements s.text.now) s.page.now k.new.0 w.new.1.1.1.0 w.new.1.1.1.1.0 w.ensures)
+    (sym c.is_accepted.ensures.answer ∙ c.if-is_accepted.true) k.new.marks w.new.page w.new.marks k.ensures.left
+    (alone_painted s.first (length s.page.now) (placements s.text.now) s.page.now k.new.marks w.new.page w.new.marks w.ensures)
 
-returns-3 : tie.Need-returns-3
+returns-3 : tie.Need-returns-else-is_accepted
 returns-3 c =
-    let s = c.before.before.before.before.before.before.before.before.before.args in
-    let t = c.before.before.judge-text in
+    let s = c.args in
+    let t = c.judge_text-answer in
     load_refused s_records s.text.now s.first s.page.now s.marks.now (fit c.before.before.before.before) t.result (alone_judged s.first (length s.page.now) (steps_of s.text.now) t.result t.ensures)
-    (sym c.before.is_accepted.ensures.answer ∙ c.if2.false)
+    (sym c.is_accepted.ensures.answer ∙ c.if-is_accepted.false)
 
 pub load_srecords_spec : {M : Type 1} → statement M
 load_srecords_spec =

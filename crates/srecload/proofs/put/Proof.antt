@@ -9,30 +9,28 @@ use Rattle.srecload.proofs.Runs.{few, runs, from_address, from_zero}
 use Rattle.srecload.proofs.put.Statement.{statement}
 use Rattle.srecload.proofs.put.Tie as tie
 
-slice-aggregate-put-run : tie.Need-slice-aggregate-put-run
+slice-aggregate-put-run : tie.Need-slice_bounds-put_run-end
 slice-aggregate-put-run c =
-    let a = c.before.before.before.before.before.before.args in
-    sym (length-take-le c.before.first_run.result a.bytes.now (omega (arith, c.before.first_run.ensures)))
+    let a = c.args in
+    sym (length-take-le c.first_run-run.result a.bytes.now (omega (arith, c.first_run-run.ensures)))
 
-returns : tie.Need-returns
+returns : tie.Need-returns-then-run-bytes
 returns c =
-    let s = c.before.before.before.before.before.before.before.before.before.before.before.before.before.before.before.before.before.before.before.before.before.before in
-    let a = s.args in
+    let a = c.args in
     let rows = rows_in a.rows.now in
-    let k = c.before.before.before.before.before.before.before.before.before.before.before.before.before.before.before.before.before.first_run in
-    let p = c.before.before.before.before.before.before.before.before.before.before.before.before.before.put-run in
-    stored_twice (s_address a.address) (site_of a.owner rows) a.bytes.now a.page.now a.marks.now k.result (few a.address (length a.bytes.now) (search rules) s.requires.0 k.result k.ensures) (runs a.address (length a.bytes.now) (search rules) s.requires.0 k.result k.ensures) a.address (from_address a.address (length a.bytes.now) (search rules) s.requires.0 k.result k.ensures)
-    _ _ (put_through_site a.owner rows a.address _ a.page.now a.marks.now _ _ s.requires.1 p.ensures) 0 (from_zero a.address (length a.bytes.now) (search rules) s.requires.0 k.result k.ensures c.before.before.before.before.before.before.before.before.if1.true) _ _
-    (put_through_site a.owner rows 0 _ _ _ _ _ (subst (λ (n : ℕ). Sound n rows) (sym p.auto.1.1.1.1.0) s.requires.1) c.before.before.before.before.put-run2.ensures)
+    let k = c.first_run-run in
+    let p = c.put_run in
+    stored_twice (s_address a.address) (site_of a.owner rows) a.bytes.now a.page.now a.marks.now k.result (few a.address (length a.bytes.now) (search rules) c.requires.0 k.result k.ensures) (runs a.address (length a.bytes.now) (search rules) c.requires.0 k.result k.ensures) a.address (from_address a.address (length a.bytes.now) (search rules) c.requires.0 k.result k.ensures)
+    _ _ (put_through_site a.owner rows a.address _ a.page.now a.marks.now _ _ c.requires.1 p.ensures) 0 (from_zero a.address (length a.bytes.now) (search rules) c.requires.0 k.result k.ensures c.if-run-bytes.true) _ _
+    (put_through_site a.owner rows 0 _ _ _ _ _ (subst (λ (n : ℕ). Sound n rows) (sym p.auto.page) c.requires.1) c.put_run-then-run-bytes.ensures)
 
-returns-2 : tie.Need-returns-2
+returns-2 : tie.Need-returns-else-run-bytes
 returns-2 c =
-    let s = c.before.before.before.before.before.before.before.before.before.before.before.before.before.before in
-    let a = s.args in
+    let a = c.args in
     let rows = rows_in a.rows.now in
-    let k = c.before.before.before.before.before.before.before.before.before.first_run in
-    stored_once (s_address a.address) (site_of a.owner rows) a.bytes.now a.page.now a.marks.now k.result (few a.address (length a.bytes.now) (search rules) s.requires.0 k.result k.ensures) (runs a.address (length a.bytes.now) (search rules) s.requires.0 k.result k.ensures) a.address (from_address a.address (length a.bytes.now) (search rules) s.requires.0 k.result k.ensures)
-    _ _ (put_through_site a.owner rows a.address _ a.page.now a.marks.now _ _ s.requires.1 c.before.before.before.before.before.put-run.ensures) (omega arith)
+    let k = c.first_run-run in
+    stored_once (s_address a.address) (site_of a.owner rows) a.bytes.now a.page.now a.marks.now k.result (few a.address (length a.bytes.now) (search rules) c.requires.0 k.result k.ensures) (runs a.address (length a.bytes.now) (search rules) c.requires.0 k.result k.ensures) a.address (from_address a.address (length a.bytes.now) (search rules) c.requires.0 k.result k.ensures)
+    _ _ (put_through_site a.owner rows a.address _ a.page.now a.marks.now _ _ c.requires.1 c.put_run.ensures) (omega arith)
 
 pub put_spec : {M : Type 1} → statement M
 put_spec =

@@ -9,42 +9,38 @@ use Rattle.srecload.proofs.Runs.{few, runs, from_address, from_zero}
 use Rattle.srecload.proofs.survey.Statement.{statement}
 use Rattle.srecload.proofs.survey.Tie as tie
 
-returns : tie.Need-returns
+returns : tie.Need-returns-then-run-len
 returns c =
-    let s = c.before.before.before.before in
-    let a = s.args in
-    let k = c.before.before.first_run in
-    code_whole (s_address a.address) a.len (inside_of a.owner (rows_in a.rows.now)) k.result (few a.address a.len (search rules) s.requires k.result k.ensures) (runs a.address a.len (search rules) s.requires k.result k.ensures) a.address (from_address a.address a.len (search rules) s.requires k.result k.ensures)
-    c.before.if1.true c.first_outside.result c.first_outside.ensures
+    let a = c.args in
+    let k = c.first_run-run in
+    code_whole (s_address a.address) a.len (inside_of a.owner (rows_in a.rows.now)) k.result (few a.address a.len (search rules) c.requires k.result k.ensures) (runs a.address a.len (search rules) c.requires k.result k.ensures) a.address (from_address a.address a.len (search rules) c.requires k.result k.ensures)
+    c.if-run-len.true c.first_outside.result c.first_outside.ensures
 
-add-t17 : tie.Need-overflow-add-t17
-add-t17 c = omega (arith, c.before.before.before.first-outside3.ensures.among c.before.i2.given.0.0 (ap first_byte c.before.i2.given.1))
+add-t17 : tie.Need-overflow_add-result
+add-t17 c = omega (arith, c.first_outside-in-Inside.ensures.among c.in-Outside-first_outside.i (ap first_byte c.in-Outside-first_outside.is))
 
-returns-2 : tie.Need-returns-2
+returns-2 : tie.Need-returns-in-Outside
 returns-2 c =
-    let s = c.before.before.before.before.before.before.before in
-    let a = s.args in
-    let k = c.before.before.before.before.before.first_run in
-    code_low (s_address a.address) a.len (inside_of a.owner (rows_in a.rows.now)) k.result (few a.address a.len (search rules) s.requires k.result k.ensures) (runs a.address a.len (search rules) s.requires k.result k.ensures) a.address (from_address a.address a.len (search rules) s.requires k.result k.ensures)
-    c.before.before.before.first-outside2.result c.before.before.before.first-outside2.ensures c.before.i.given.0.0 c.before.i.given.1
+    let a = c.args in
+    let k = c.first_run-run in
+    code_low (s_address a.address) a.len (inside_of a.owner (rows_in a.rows.now)) k.result (few a.address a.len (search rules) c.requires k.result k.ensures) (runs a.address a.len (search rules) c.requires k.result k.ensures) a.address (from_address a.address a.len (search rules) c.requires k.result k.ensures)
+    c.first_outside-2.result c.first_outside-2.ensures c.in-Outside.i c.in-Outside.is
 
-returns-3 : tie.Need-returns-3
+returns-3 : tie.Need-returns-in-Outside-first_outside
 returns-3 c =
-    let s = c.before.before.before.before.before.before.before.before.before.before in
-    let a = s.args in
-    let k = c.before.before.before.before.before.before.before.before.first_run in
-    code_high (s_address a.address) a.len (inside_of a.owner (rows_in a.rows.now)) k.result (few a.address a.len (search rules) s.requires k.result k.ensures) (runs a.address a.len (search rules) s.requires k.result k.ensures) a.address (from_address a.address a.len (search rules) s.requires k.result k.ensures)
-    c.before.before.before.before.before.before.first-outside2.result c.before.before.before.before.before.before.first-outside2.ensures c.before.before.before.before.enum_told.given.1
-    0 (from_zero a.address a.len (search rules) s.requires k.result k.ensures (omega (arith, k.ensures, c.before.before.before.before.before.before.before.if1.false))) c.before.before.before.first-outside3.result c.before.before.before.first-outside3.ensures c.before.i2.given.0.0 c.before.i2.given.1
+    let a = c.args in
+    let k = c.first_run-run in
+    code_high (s_address a.address) a.len (inside_of a.owner (rows_in a.rows.now)) k.result (few a.address a.len (search rules) c.requires k.result k.ensures) (runs a.address a.len (search rules) c.requires k.result k.ensures) a.address (from_address a.address a.len (search rules) c.requires k.result k.ensures)
+    c.first_outside-2.result c.first_outside-2.ensures c.in-Inside.is
+    0 (from_zero a.address a.len (search rules) c.requires k.result k.ensures (omega (arith, k.ensures, c.if-run-len.false))) c.first_outside-in-Inside.result c.first_outside-in-Inside.ensures c.in-Outside-first_outside.i c.in-Outside-first_outside.is
 
-returns-4 : tie.Need-returns-4
+returns-4 : tie.Need-returns-in-Inside-first_outside
 returns-4 c =
-    let s = c.before.before.before.before.before.before.before.before.before in
-    let a = s.args in
-    let k = c.before.before.before.before.before.before.before.first_run in
-    code_inside (s_address a.address) a.len (inside_of a.owner (rows_in a.rows.now)) k.result (few a.address a.len (search rules) s.requires k.result k.ensures) (runs a.address a.len (search rules) s.requires k.result k.ensures) a.address (from_address a.address a.len (search rules) s.requires k.result k.ensures)
-    c.before.before.before.before.before.first-outside2.result c.before.before.before.before.before.first-outside2.ensures c.before.before.before.enum_told.given.1
-    0 (from_zero a.address a.len (search rules) s.requires k.result k.ensures (omega (arith, k.ensures, c.before.before.before.before.before.before.if1.false))) c.before.before.first-outside3.result c.before.before.first-outside3.ensures c.enum-told2.given.1
+    let a = c.args in
+    let k = c.first_run-run in
+    code_inside (s_address a.address) a.len (inside_of a.owner (rows_in a.rows.now)) k.result (few a.address a.len (search rules) c.requires k.result k.ensures) (runs a.address a.len (search rules) c.requires k.result k.ensures) a.address (from_address a.address a.len (search rules) c.requires k.result k.ensures)
+    c.first_outside-2.result c.first_outside-2.ensures c.in-Inside.is
+    0 (from_zero a.address a.len (search rules) c.requires k.result k.ensures (omega (arith, k.ensures, c.if-run-len.false))) c.first_outside-in-Inside.result c.first_outside-in-Inside.ensures c.in-Inside-first_outside.is
 
 pub survey_spec : {M : Type 1} → statement M
 survey_spec =

@@ -14,50 +14,47 @@ use Rattle.srecload.proofs.take_line.Statement.{statement}
 use Rattle.srecload.proofs.take_line.Tie as tie
 
 -- the window is not refused, and the count can grow
-fit : (c : tie.Else2) → let a = c.before.before.before.before.before.before.args in unfit a.first (length a.page.now) (length a.marks.now) ≡ false
-fit c = sym c.before.before.is-unfit.ensures.answer ∙ c.before.if1.false
+fit : (c : tie.Else-seen-eq-MOST) → let a = c.args in unfit a.first (length a.page.now) (length a.marks.now) ≡ false
+fit c = sym c.is_unfit.ensures.answer ∙ c.if-is_unfit.false
 
-grows : (c : tie.Else2) → c.before.before.before.before.before.before.args.seen + 1 < 2 ^ 64
-grows c = omega (arith, c.before.before.before.before.before.before.ranges.seen, eqb-false c.before.before.before.before.before.before.args.seen 18446744073709551615 c.if2.false)
+grows : (c : tie.Else-seen-eq-MOST) → c.args.seen + 1 < 2 ^ 64
+grows c = omega (arith, c.ranges.seen, eqb-false c.args.seen 18446744073709551615 c.if-seen-eq-MOST.false)
 
-may-go : (c : tie.Else2) → let a = c.before.before.before.before.before.before.args in closed a.seen a.first (length a.page.now) (length a.marks.now) ≡ false
-may-go c = let a = c.before.before.before.before.before.before.args in not_closed a.seen a.first (length a.page.now) (length a.marks.now) (fit c) (λ e. omega (arith, grows c))
+may-go : (c : tie.Else-seen-eq-MOST) → let a = c.args in closed a.seen a.first (length a.page.now) (length a.marks.now) ≡ false
+may-go c = let a = c.args in not_closed a.seen a.first (length a.page.now) (length a.marks.now) (fit c) (λ e. omega (arith, grows c))
 
 -- the record that was read
-came : (c : tie.After-given)
-    → let s = c.before.before.before.before.before.before.before.before.before.before.before in
-    let r = c.before.before.before.read-srecord in
-    Came s.args.line.now r.new.1.0 c.given.given.0.0
+came : (c : tie.In-Read-2)
+    →    let r = c.read_srecord in
+    Came c.args.line.now r.new.pool c.in-Read.given
 came c =
-    let s = c.before.before.before.before.before.before.before.before.before.before.before in
-    let r = c.before.before.before.read-srecord in
-    came_read s.args.line.now (replicate 252 0) r.new.1.0 (length-replicate {A = ℕ} 252 0) c.given.given.0.0
-    (subst (λ (x : SAnswer). ReadSRecord s.args.line.now (replicate 252 0) 0 x r.new.1.0) c.given.given.1 r.ensures)
+    let r = c.read_srecord in
+    came_read c.args.line.now (replicate 252 0) r.new.pool (length-replicate {A = ℕ} 252 0) c.in-Read.given
+    (subst (λ (x : SAnswer). ReadSRecord c.args.line.now (replicate 252 0) 0 x r.new.pool) c.in-Read.is r.ensures)
 
-returns : tie.Need-returns
+returns : tie.Need-returns-then-is_unfit
 returns c =
-    let a = c.before.before.before.before.before.args in
-    let u = sym c.before.is-unfit.ensures.answer in
+    let a = c.args in
+    let u = sym c.is_unfit.ensures.answer in
     take_closed a.line.now a.number a.seen a.first a.page.now a.marks.now
-    (⊎_elim (λ w. closed_unfit a.seen a.first (length a.page.now) (length a.marks.now) (u ∙ w.taken)) (λ (x, y). closed_full a.seen a.first (length a.page.now) (length a.marks.now) (u ∙ x.left) (omega (arith, eqb-true a.seen 18446744073709551615 y.taken))) c.if1.branch)
+    (⊎_elim (λ w. closed_unfit a.seen a.first (length a.page.now) (length a.marks.now) (u ∙ w.taken)) (λ (x, y). closed_full a.seen a.first (length a.page.now) (length a.marks.now) (u ∙ x.left) (omega (arith, eqb-true a.seen 18446744073709551615 y.taken))) c.then-is_unfit.branch)
 
-take-record-requires : tie.Need-take-record-requires
+take-record-requires : tie.Need-take_record-requires
 take-record-requires c κs = let k = came c.before.before.before.before in ((k.lies, k.few), grows c.before.before.before.before.before.before.before.before.before, fit c.before.before.before.before.before.before.before.before.before)
 
-returns-2 : tie.Need-returns-2
+returns-2 : tie.Need-returns-in-Read
 returns-2 c =
-    let a = c.before.before.before.before.before.before.before.before.before.before.before.before.before.before.before.before.before.before.before.before.args in
-    let t = c.before.before.before.before.take-record in
+    let a = c.args in
+    let t = c.take_record in
     let (ps, e, p) = t.ensures in
     take_open a.line.now a.number a.seen a.first a.page.now a.marks.now (may-go c.before.before.before.before.before.before.before.before.before.before.before.before.before.before) t.result ps _ _ (line_read (within a.first (length a.page.now)) a.number a.seen a.line.now _ _ (told_taken t.result ps) (came c.before.before.before.before.before.before.before.before.before) e) p
 
-returns-3 : tie.Need-returns-3
+returns-3 : tie.Need-returns-in-Refused
 returns-3 c =
-    let a = c.before.before.before.before.before.before.before.before.before.before.before.before.args in
-    let r = c.before.before.before.before.read-srecord in
-    let g = c.before.e.given in
-    take_open a.line.now a.number a.seen a.first a.page.now a.marks.now (may-go c.before.before.before.before.before.before) _ [] _ _ (line_refused (within a.first (length a.page.now)) a.number a.seen a.line.now g.0.0 (came_refused a.line.now (replicate 252 0) r.new.1.0 (length-replicate {A = ℕ} 252 0) g.0.0
-    (subst (λ (x : SAnswer). ReadSRecord a.line.now (replicate 252 0) 0 x r.new.1.0) g.1 r.ensures))) (painted_nothing _ a.page.now a.marks.now)
+    let a = c.args in
+    let r = c.read_srecord in
+    take_open a.line.now a.number a.seen a.first a.page.now a.marks.now (may-go c.before.before.before.before.before.before) _ [] _ _ (line_refused (within a.first (length a.page.now)) a.number a.seen a.line.now c.in-Refused.e (came_refused a.line.now (replicate 252 0) r.new.pool (length-replicate {A = ℕ} 252 0) c.in-Refused.e
+    (subst (λ (x : SAnswer). ReadSRecord a.line.now (replicate 252 0) 0 x r.new.pool) c.in-Refused.is r.ensures))) (painted_nothing _ a.page.now a.marks.now)
 
 pub take_line_spec : {M : Type 1} → statement M
 take_line_spec =

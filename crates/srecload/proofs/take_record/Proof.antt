@@ -18,46 +18,41 @@ use Rattle.srecload.proofs.take_record.Statement.{statement}
 use Rattle.srecload.proofs.take_record.Tie as tie
 
 -- page and marks are as they were
-left : (c : tie.Else1)
-    → let a = c.before.before.before.before.before.before.before.before.before.before.before.args in
-    (c.before.before.before.before.before.put_whole.new.1.1.1.0 ≡ a.page.now) × (c.before.before.before.before.before.put_whole.new.1.1.1.1.0 ≡ a.marks.now)
-left c = c.before.before.before.before.before.put_whole.ensures.kept c.if1.false
+left : (c : tie.Else-put_whole)
+    → let a = c.args in
+    (c.put_whole.new.page ≡ a.page.now) × (c.put_whole.new.marks ≡ a.marks.now)
+left c = c.put_whole.ensures.kept c.if-put_whole.false
 
-returns : tie.Need-returns
-returns c = let a = c.before.before.before.before.before.before.before.before.before.before.before.args in c.before.before.before.before.before.put_whole.ensures.took c.if1.true a.number a.seen
+returns : tie.Need-returns-then-put_whole
+returns c = let a = c.args in c.put_whole.ensures.took c.if-put_whole.true a.number a.seen
 
-write-record-requires : tie.Need-write-record-requires
+write-record-requires : tie.Need-write_record-requires
 write-record-requires c κs =
-    let s = c.before.before.before.before.before.before.before.before.before.before.before.before.before.before.before.before.before.before.before in
-    let l = c.before.before.before.before.before.before.before.before.before.before.before.before.before.put_whole.new in
+    let l = c.put_whole.new in
     let e = left c.before.before.before.before.before.before.before.before in
-    (s.requires.0, alone_sound s.args.first l.1.1.1.0 l.1.1.1.1.0 (rw (e.0, e.1) s.requires.2))
+    (c.requires.0, alone_sound c.args.first l.page l.marks (rw (e.0, e.1) c.requires.2))
 
-returns-2 : tie.Need-returns-2
+returns-2 : tie.Need-returns-in-On
 returns-2 c =
-    let s = c.before.before.before.before.before.before.before.before.before.before.before.before.before.before.before.before.before.before.before.before.before.before.before.before in
-    let a = s.args in
-    let l = c.before.before.before.before.before.before.before.before.before.before.before.before.before.before.before.before.before.before.put_whole.new in
-    let g = c.before.before.before.before.before.before.before.before.before.n.given in
-    let inside = inside_of 1 (rows_in (alone a.first (length l.1.1.1.0))) in
+    let a = c.args in
+    let l = c.put_whole.new in
+    let inside = inside_of 1 (rows_in (alone a.first (length l.page))) in
     let there : Walk = record { position = 0; line = a.number } in
     let m = meant_in a.given a.pool.now in
-    let met = c.before.before.before.before.before.before.before.before.before.before.before.judge-record.ensures (data_of a.given a.pool.now) (part_length a.pool.now a.given.at a.given.len s.requires.0.0) in
-    took_by_table a.number a.seen a.given a.pool.now a.first a.page.now a.marks.now l.1.1.1.0 l.1.1.1.1.0 (left c.before.before.before.before.before.before.before.before.before.before.before.before.before) (On g.0.0) (stated (map (step a.number) (s_does m)))
-    (record_goes inside there a.seen m g.0.1.0 g.0.0 (subst (λ (t : Turn). Met inside there a.seen (map (step a.number) (s_does m)) t) g.1 met)) _ _ (c.before.before.before.before.write-record.ensures a.number).painted
+    let met = c.judge_record.ensures (data_of a.given a.pool.now) (part_length a.pool.now a.given.at a.given.len c.requires.0.0) in
+    took_by_table a.number a.seen a.given a.pool.now a.first a.page.now a.marks.now l.page l.marks (left c.before.before.before.before.before.before.before.before.before.before.before.before.before) (On c.in-On.n) (stated (map (step a.number) (s_does m)))
+    (record_goes inside there a.seen m c.in-On.field-1 c.in-On.n (subst (λ (t : Turn). Met inside there a.seen (map (step a.number) (s_does m)) t) c.in-On.is met)) _ _ (c.write_record.ensures a.number).painted
 
-returns-3 : tie.Need-returns-3
+returns-3 : tie.Need-returns-in-Stop
 returns-3 c =
-    let s = c.before.before.before.before.before.before.before.before.before.before.before.before.before.before.before.before in
-    let a = s.args in
-    let l = c.before.before.before.before.before.before.before.before.before.before.put_whole.new in
-    let g = c.before.answer.given in
-    let inside = inside_of 1 (rows_in (alone a.first (length l.1.1.1.0))) in
+    let a = c.args in
+    let l = c.put_whole.new in
+    let inside = inside_of 1 (rows_in (alone a.first (length l.page))) in
     let there : Walk = record { position = 0; line = a.number } in
     let m = meant_in a.given a.pool.now in
-    let met = c.before.before.before.judge-record.ensures (data_of a.given a.pool.now) (part_length a.pool.now a.given.at a.given.len s.requires.0.0) in
-    took_by_table a.number a.seen a.given a.pool.now a.first a.page.now a.marks.now l.1.1.1.0 l.1.1.1.1.0 (left c.before.before.before.before.before) (Stop g.0.0) []
-    (record_stops inside there a.seen m g.0.0 (subst (λ (t : Turn). Met inside there a.seen (map (step a.number) (s_does m)) t) g.1 met)) _ _ (painted_nothing _ l.1.1.1.0 l.1.1.1.1.0)
+    let met = c.judge_record.ensures (data_of a.given a.pool.now) (part_length a.pool.now a.given.at a.given.len c.requires.0.0) in
+    took_by_table a.number a.seen a.given a.pool.now a.first a.page.now a.marks.now l.page l.marks (left c.before.before.before.before.before) (Stop c.in-Stop.answer) []
+    (record_stops inside there a.seen m c.in-Stop.answer (subst (λ (t : Turn). Met inside there a.seen (map (step a.number) (s_does m)) t) c.in-Stop.is met)) _ _ (painted_nothing _ l.page l.marks)
 
 pub take_record_spec : {M : Type 1} → statement M
 take_record_spec =

@@ -10,38 +10,34 @@ use Rattle.srecload.proofs.write_line.Statement.{statement}
 use Rattle.srecload.proofs.write_line.Tie as tie
 
 -- the record that was read
-came : (c : tie.After-given)
-    → let s = c.before.before.before.before.before.before.before.before.before.before.before.before in
-    let r = c.before.before.before.before.read-srecord in
-    Came s.args.line.now r.new.1.0 c.given.given.0.0
+came : (c : tie.In-Read-2)
+    →    let r = c.read_srecord in
+    Came c.args.line.now r.new.pool c.in-Read.given
 came c =
-    let s = c.before.before.before.before.before.before.before.before.before.before.before.before in
-    let r = c.before.before.before.before.read-srecord in
-    came_read s.args.line.now s.args.pool.now r.new.1.0 s.requires.0 c.given.given.0.0
-    (subst (λ (x : SAnswer). ReadSRecord s.args.line.now s.args.pool.now 0 x r.new.1.0) c.given.given.1 r.ensures)
+    let r = c.read_srecord in
+    came_read c.args.line.now c.args.pool.now r.new.pool c.requires.0 c.in-Read.given
+    (subst (λ (x : SAnswer). ReadSRecord c.args.line.now c.args.pool.now 0 x r.new.pool) c.in-Read.is r.ensures)
 
-returns : tie.Need-returns
+returns : tie.Need-returns-then-line-eq0
 returns c =
-    let a = c.before.before.before.before.before.before.args in wrote_empty (site_of a.owner (rows_in a.rows.now)) a.page.now a.marks.now a.line.now c.if1.true
+    let a = c.args in wrote_empty (site_of a.owner (rows_in a.rows.now)) a.page.now a.marks.now a.line.now c.if-line-eq0.true
 
-write-record-requires : tie.Need-write-record-requires
-write-record-requires c κs = let k = came c.before.before.before.before in ((k.lies, k.few), c.before.before.before.before.before.before.before.before.before.before.before.before.before.before.before.before.requires.1)
+write-record-requires : tie.Need-write_record-requires
+write-record-requires c κs = let k = came c.before.before.before.before in ((k.lies, k.few), c.requires.1)
 
-returns-2 : tie.Need-returns-2
+returns-2 : tie.Need-returns-in-Read
 returns-2 c =
-    let a = c.before.before.before.before.before.before.before.before.before.before.before.before.before.before.before.before.before.before.before.before.before.args in
-    let r = c.before.before.before.before.before.before.before.before.before.before.before.before.before.read-srecord in
-    wrote_came (site_of a.owner (rows_in a.rows.now)) a.page.now a.marks.now a.line.now r.new.1.0 c.before.before.before.before.before.before.before.before.before.given.given.0.0 _ _ _ (omega arith) (came c.before.before.before.before.before.before.before.before.before) c.before.before.before.before.write-record.ensures
+    let a = c.args in
+    let r = c.read_srecord in
+    wrote_came (site_of a.owner (rows_in a.rows.now)) a.page.now a.marks.now a.line.now r.new.pool c.in-Read.given _ _ _ (omega arith) (came c.before.before.before.before.before.before.before.before) c.write_record.ensures
 
-returns-3 : tie.Need-returns-3
+returns-3 : tie.Need-returns-in-Refused
 returns-3 c =
-    let s = c.before.before.before.before.before.before.before.before.before.before.before.before in
-    let a = s.args in
-    let r = c.before.before.before.before.read-srecord in
-    let g = c.enum_told.given in
-    wrote_refused (site_of a.owner (rows_in a.rows.now)) a.page.now a.marks.now a.line.now g.0.0 (omega arith)
-    (came_refused a.line.now a.pool.now r.new.1.0 s.requires.0 g.0.0
-    (subst (λ (x : SAnswer). ReadSRecord a.line.now a.pool.now 0 x r.new.1.0) g.1 r.ensures))
+    let a = c.args in
+    let r = c.read_srecord in
+    wrote_refused (site_of a.owner (rows_in a.rows.now)) a.page.now a.marks.now a.line.now c.in-Refused.field-0 (omega arith)
+    (came_refused a.line.now a.pool.now r.new.pool c.requires.0 c.in-Refused.field-0
+    (subst (λ (x : SAnswer). ReadSRecord a.line.now a.pool.now 0 x r.new.pool) c.in-Refused.is r.ensures))
 
 pub write_line_spec : {M : Type 1} → statement M
 write_line_spec =

@@ -7,26 +7,24 @@ use Rattle.srecload.proofs.Writing.{wrote_on, wrote_out, nothing_left}
 use Rattle.srecload.proofs.write_next.Statement.{statement}
 use Rattle.srecload.proofs.write_next.Tie as tie
 
-returns : tie.Need-returns
-returns c = let s = c.before.before.before.before.before.before in (nothing_left s.args.text.now s.args.w c.if1.true, refl, refl)
+returns : tie.Need-returns-then-from-text
+returns c = (nothing_left c.args.text.now c.args.w c.if-from-text.true, refl, refl)
 
-returns-2 : tie.Need-returns-2
+returns-2 : tie.Need-returns-then-write_line
 returns-2 c =
-    let s = c.before.before.before.before.before.before.before.before.before.before.before.before.before.before.before.before.before.before.before.before.before in
-    let a = s.args in
-    let f = c.before.before.before.before.before.before.before.before.before.before.before.before.first_line in
-    let o = c.before.before.before.before.before.before.before.before.write-line in
-    wrote_on (site_of a.owner (rows_in a.rows.now)) a.text.now a.w s.requires.0 (omega (arith, s.requires.0.inside, c.before.before.before.before.before.before.before.before.before.before.before.before.before.before.before.if1.false)) f.result.now f.new.1.0 (cut_off f.ensures) a.page.now a.marks.now _ _
-    o.result c.before.if2.true o.ensures
+    let a = c.args in
+    let f = c.first_line-line in
+    let o = c.write_line in
+    wrote_on (site_of a.owner (rows_in a.rows.now)) a.text.now a.w c.requires.0 (omega (arith, c.requires.0.inside, c.if-from-text.false)) f.result.now f.new.behind (cut_off f.ensures) a.page.now a.marks.now _ _
+    o.result c.if-write_line.true o.ensures
 
-returns-3 : tie.Need-returns-3
+returns-3 : tie.Need-returns
 returns-3 c =
-    let s = c.before.before.before.before.before.before.before.before.before.before.before.before.before.before.before.before.before.before.before.before in
-    let a = s.args in
-    let f = c.before.before.before.before.before.before.before.before.before.before.before.first_line in
-    let o = c.before.before.before.before.before.before.before.write-line in
-    wrote_out (site_of a.owner (rows_in a.rows.now)) a.text.now a.w s.requires.0 (omega (arith, s.requires.0.inside, c.before.before.before.before.before.before.before.before.before.before.before.before.before.before.if1.false)) f.result.now f.new.1.0 (cut_off f.ensures) a.page.now a.marks.now _ _
-    o.result c.if2.false o.ensures
+    let a = c.args in
+    let f = c.first_line-line in
+    let o = c.write_line in
+    wrote_out (site_of a.owner (rows_in a.rows.now)) a.text.now a.w c.requires.0 (omega (arith, c.requires.0.inside, c.if-from-text.false)) f.result.now f.new.behind (cut_off f.ensures) a.page.now a.marks.now _ _
+    o.result c.if-write_line.false o.ensures
 
 pub write_next_spec : {M : Type 1} → statement M
 write_next_spec =
@@ -37,7 +35,7 @@ write_next_spec =
     (λ c. search rules)
     (λ c. search rules)
     (λ c κs. search rules)
-    (λ c κs. let p = c.before.before.before.before.before.before.before.before.before.before.before.before.requires in (p.1, p.2))
+    (λ c κs. let p = c.requires in (p.1, p.2))
     (λ c. search rules)
     (λ c. search rules)
     (λ c. search rules)

@@ -9,26 +9,26 @@ use Rattle.srecload.proofs.Writing.{wrote_header, wrote_data, wrote_other}
 use Rattle.srecload.proofs.write_record.Statement.{statement}
 use Rattle.srecload.proofs.write_record.Tie as tie
 
-returns : tie.Need-returns
+returns : tie.Need-returns-then-digit-eq-S0
 returns c =
     λ n.
-    let a = c.before.before.before.before.before.before.args in
-    rw (means_header (digit_of a.given.kind) a.given.address (data_of a.given a.pool.now) (sym c.before.digit.ensures.answer ∙ c.if1.true)) (wrote_header (site_of a.owner (rows_in a.rows.now)) a.page.now a.marks.now n)
+    let a = c.args in
+    rw (means_header (digit_of a.given.kind) a.given.address (data_of a.given a.pool.now) (sym c.digit-digit.ensures.answer ∙ c.if-digit-eq-S0.true)) (wrote_header (site_of a.owner (rows_in a.rows.now)) a.page.now a.marks.now n)
 
-returns-2 : tie.Need-returns-2
+returns-2 : tie.Need-returns-then-digit-le-S3
 returns-2 c =
     λ n.
-    let a = c.before.before.before.before.before.before.before.before.before.before.before.before.before.before.before.before.args in
-    let d = c.before.before.before.before.before.before.before.before.before.before.before.digit.ensures.answer in
-    rw (means_data (digit_of a.given.kind) a.given.address (data_of a.given a.pool.now) (λ e. c.before.before.before.before.before.before.before.before.before.before.if1.false (d ∙ e)) (omega (arith, d, c.before.before.before.before.before.before.before.before.before.if2.true)))
-    (wrote_data (site_of a.owner (rows_in a.rows.now)) a.page.now a.marks.now n a.given.address (data_of a.given a.pool.now) _ _ (rw (part_is a.pool.now a.given.at a.given.len) at c.before.before.before.before.put.ensures))
+    let a = c.args in
+    let d = c.digit-digit.ensures.answer in
+    rw (means_data (digit_of a.given.kind) a.given.address (data_of a.given a.pool.now) (λ e. c.if-digit-eq-S0.false (d ∙ e)) (omega (arith, d, c.if-digit-le-S3.true)))
+    (wrote_data (site_of a.owner (rows_in a.rows.now)) a.page.now a.marks.now n a.given.address (data_of a.given a.pool.now) _ _ (rw (part_is a.pool.now a.given.at a.given.len) at c.put.ensures))
 
-returns-3 : tie.Need-returns-3
+returns-3 : tie.Need-returns
 returns-3 c =
     λ n.
-    let a = c.before.before.before.before.before.before.before.args in
-    wrote_other (site_of a.owner (rows_in a.rows.now)) a.page.now a.marks.now (digit_of a.given.kind) c.before.before.digit.result n a.given.address (data_of a.given a.pool.now) c.before.before.digit.ensures.answer
-    (omega (arith, c.before.before.digit.ensures.answer, c.if2.false))
+    let a = c.args in
+    wrote_other (site_of a.owner (rows_in a.rows.now)) a.page.now a.marks.now (digit_of a.given.kind) c.digit-digit.result n a.given.address (data_of a.given a.pool.now) c.digit-digit.ensures.answer
+    (omega (arith, c.digit-digit.ensures.answer, c.if-digit-le-S3.false))
 
 pub write_record_spec : {M : Type 1} → statement M
 write_record_spec =

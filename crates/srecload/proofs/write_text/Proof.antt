@@ -6,49 +6,48 @@ use Rattle.srecload.proofs.Writing.{Writing, writing_start, writing_less, writin
 use Rattle.srecload.proofs.write_text.Statement.{statement}
 use Rattle.srecload.proofs.write_text.Tie as tie
 
-abbrev invariant-loop : tie.invariant-loop
+abbrev invariant-loop : tie.invariant-loop-next
 invariant-loop text owner rows page₀ marks₀ pool₀ w₀ page marks pool w = Writing (site_of owner (rows_in rows)) text page₀ marks₀ page marks pool w
 
-abbrev decreases-loop : tie.decreases-loop
+abbrev decreases-loop : tie.decreases-loop-next
 decreases-loop text owner rows page₀ marks₀ pool₀ w₀ page marks pool w = length text - w.position
 
-loop-holds : tie.Need-loop-init invariant-loop decreases-loop
+loop-holds : tie.Need-loop-next-init invariant-loop decreases-loop
 loop-holds c =
-    let a = c.before.before.before.before.args in
+    let a = c.args in
     writing_start (site_of a.owner (rows_in a.rows.now)) a.text.now a.page.now a.marks.now _ (search rules)
 
-slice-aggregate-write-next : tie.Need-slice-aggregate-write-next invariant-loop decreases-loop
-slice-aggregate-write-next c = sym c.before.loop.invariant.room
+slice-aggregate-write-next : tie.Need-slice_bounds-write_next-end invariant-loop decreases-loop
+slice-aggregate-write-next c = sym c.loop-next.invariant.room
 
 -- the page keeps its length, so the table stays sound
-write-next-requires : tie.Need-write-next-requires invariant-loop decreases-loop
+write-next-requires : tie.Need-write_next-requires invariant-loop decreases-loop
 write-next-requires c κs =
-    let s = c.before.before.before.before.before.before.before.before in
-    let i = c.before.before.before.loop.invariant in (i.under_way, i.room, subst (λ (n : ℕ). Sound n (rows_in s.args.rows.now)) (sym i.same.size) s.requires)
+    let i = c.loop-next.invariant in (i.under_way, i.room, subst (λ (n : ℕ). Sound n (rows_in c.args.rows.now)) (sym i.same.size) c.requires)
 
-loop-less : tie.Need-loop-smaller invariant-loop decreases-loop
+loop-less : tie.Need-loop-next-smaller invariant-loop decreases-loop
 loop-less c =
-    let s = c.before.before.before.before.before.before.before.before.before.before.before.before.before.before.before.before.before.args in
-    let l = c.before.before.before.before.before.before.before.before.before.before.before.before.loop in
-    let n = c.before.before.before.before.before.before.before.before.write-next in
+    let s = c.args in
+    let l = c.loop-next in
+    let n = c.write_next in
     writing_less (site_of s.owner (rows_in s.rows.now)) s.text.now s.page.now s.marks.now l.page l.marks l.pool l.w l.invariant
-    n.result n.new.1.1.1.1.1.0 n.new.1.1.1.1.1.1.0 n.ensures c.before.next.given.0.0 c.before.next.given.1
+    n.result n.new.page n.new.marks n.ensures c.in-On.next c.in-On.is
 
-loop-again : tie.Need-loop-preserved invariant-loop decreases-loop
+loop-again : tie.Need-loop-next-preserved invariant-loop decreases-loop
 loop-again c =
-    let s = c.before.before.before.before.before.before.before.before.before.before.before.before.before.before.before.before.before.args in
-    let l = c.before.before.before.before.before.before.before.before.before.before.before.before.loop in
-    let n = c.before.before.before.before.before.before.before.before.write-next in
+    let s = c.args in
+    let l = c.loop-next in
+    let n = c.write_next in
     writing_again (site_of s.owner (rows_in s.rows.now)) s.text.now s.page.now s.marks.now l.page l.marks l.pool l.w l.invariant
-    n.result n.new.1.1.1.1.1.0 n.new.1.1.1.1.1.1.0 n.ensures c.before.next.given.0.0 c.before.next.given.1 n.new.1.0 n.auto.1.0 n.auto.1.1.1.1.1.1.0
+    n.result n.new.page n.new.marks n.ensures c.in-On.next c.in-On.is n.new.pool n.auto.pool n.auto.marks
 
-returns : tie.Need-returns invariant-loop decreases-loop
+returns : tie.Need-returns-in-End invariant-loop decreases-loop
 returns c =
-    let s = c.before.before.before.before.before.before.before.before.before.before.before.before.before.before.before.before.args in
-    let l = c.before.before.before.before.before.before.before.before.before.before.before.loop in
-    let n = c.before.before.before.before.before.before.before.write-next in
+    let s = c.args in
+    let l = c.loop-next in
+    let n = c.write_next in
     writing_end (site_of s.owner (rows_in s.rows.now)) s.text.now s.page.now s.marks.now l.page l.marks l.pool l.w l.invariant
-    n.result n.new.1.1.1.1.1.0 n.new.1.1.1.1.1.1.0 n.ensures c.enum_told.given.1
+    n.result n.new.page n.new.marks n.ensures c.in-End.is
 
 pub write_text_spec : {M : Type 1} → statement M
 write_text_spec =

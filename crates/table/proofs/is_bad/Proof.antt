@@ -8,20 +8,20 @@ use Rattle.table.proofs.Passing.{passes, bad_torn, bad_whole}
 use Rattle.table.proofs.is_bad.Statement.{statement}
 use Rattle.table.proofs.is_bad.Tie as tie
 
-returns : tie.Need-returns
-returns c = let s = c.before.before.before.args in bad_torn s.table.now s.pool s.marks (sym c.before.is-torn-or-long.ensures ∙ c.if1.true)
+returns : tie.Need-returns-then-is_torn_or_long
+returns c = let s = c.args in bad_torn s.table.now s.pool s.marks (sym c.is_torn_or_long.ensures ∙ c.if-is_torn_or_long.true)
 
-array-share-prefix-numbers : tie.Need-array-share-prefix-numbers
-array-share-prefix-numbers c = omega (arith, passes c.before.before.before.before.args.table.now (sym c.before.before.is-torn-or-long.ensures ∙ c.before.if1.false))
+array-share-prefix-numbers : tie.Need-slice_bounds-numbers-end
+array-share-prefix-numbers c = omega (arith, passes c.args.table.now (sym c.is_torn_or_long.ensures ∙ c.if-is_torn_or_long.false))
 
-slice-aggregate : tie.Need-slice-aggregate-is-bad-table
+slice-aggregate : tie.Need-slice_bounds-is_bad_table-end
 slice-aggregate c =
-    sym (length-take-le _ c.before.numbers_of.result (omega (arith, c.before.numbers_of.ensures.as_many, passes c.before.before.before.before.before.args.table.now (sym c.before.before.before.is-torn-or-long.ensures ∙ c.before.before.if1.false))))
+    sym (length-take-le _ c.numbers_of-numbers.result (omega (arith, c.numbers_of-numbers.ensures.as_many, passes c.args.table.now (sym c.is_torn_or_long.ensures ∙ c.if-is_torn_or_long.false))))
 
-returns-2 : tie.Need-returns-2
+returns-2 : tie.Need-returns
 returns-2 c =
-    let s = c.before.before.before.before.before.before.args in
-    bad_whole s.table.now s.pool s.marks (sym c.before.before.before.before.is-torn-or-long.ensures ∙ c.before.before.before.if1.false) c.before.before.numbers_of.result c.before.before.numbers_of.ensures c.is-bad-table.result c.is-bad-table.ensures
+    let s = c.args in
+    bad_whole s.table.now s.pool s.marks (sym c.is_torn_or_long.ensures ∙ c.if-is_torn_or_long.false) c.numbers_of-numbers.result c.numbers_of-numbers.ensures c.is_bad_table.result c.is_bad_table.ensures
 
 pub is_bad_spec : {M : Type 1} → statement M
 is_bad_spec =

@@ -9,22 +9,22 @@ use Rattle.table.proofs.Passing.{passes, load_torn, load_whole}
 use Rattle.table.proofs.load.Statement.{statement}
 use Rattle.table.proofs.load.Tie as tie
 
-returns : tie.Need-returns
+returns : tie.Need-returns-then-is_torn_or_long
 returns c =
-    let s = c.before.before.before.before.before.before.args in
-    load_torn intel s.text.now s.owner s.table.now s.pool.now s.marks.now (sym c.before.is-torn-or-long.ensures ∙ c.if1.true)
+    let s = c.args in
+    load_torn intel s.text.now s.owner s.table.now s.pool.now s.marks.now (sym c.is_torn_or_long.ensures ∙ c.if-is_torn_or_long.true)
 
-array-share-prefix-numbers : tie.Need-array-share-prefix-numbers
-array-share-prefix-numbers c = omega (arith, passes c.before.before.before.before.before.before.before.args.table.now (sym c.before.before.is-torn-or-long.ensures ∙ c.before.if1.false))
+array-share-prefix-numbers : tie.Need-slice_bounds-numbers-end
+array-share-prefix-numbers c = omega (arith, passes c.args.table.now (sym c.is_torn_or_long.ensures ∙ c.if-is_torn_or_long.false))
 
-slice-aggregate : tie.Need-slice-aggregate-load-table
+slice-aggregate : tie.Need-slice_bounds-load_table-end
 slice-aggregate c =
-    sym (length-take-le _ c.before.numbers_of.result (omega (arith, c.before.numbers_of.ensures.as_many, passes c.before.before.before.before.before.before.before.before.args.table.now (sym c.before.before.before.is-torn-or-long.ensures ∙ c.before.before.if1.false))))
+    sym (length-take-le _ c.numbers_of-numbers.result (omega (arith, c.numbers_of-numbers.ensures.as_many, passes c.args.table.now (sym c.is_torn_or_long.ensures ∙ c.if-is_torn_or_long.false))))
 
-returns-2 : tie.Need-returns-2
+returns-2 : tie.Need-returns
 returns-2 c =
-    let s = c.before.before.before.before.before.before.before.before.before.before.before.before.before.before.before.args in
-    load_whole intel s.text.now s.owner s.table.now s.pool.now s.marks.now (sym c.before.before.before.before.before.before.before.before.before.before.is-torn-or-long.ensures ∙ c.before.before.before.before.before.before.before.before.before.if1.false) c.before.before.before.before.before.before.before.before.numbers_of.result c.before.before.before.before.before.before.before.before.numbers_of.ensures _ _ _ c.before.before.before.before.load_table.ensures
+    let s = c.args in
+    load_whole intel s.text.now s.owner s.table.now s.pool.now s.marks.now (sym c.is_torn_or_long.ensures ∙ c.if-is_torn_or_long.false) c.numbers_of-numbers.result c.numbers_of-numbers.ensures _ _ _ c.load_table.ensures
 
 pub load_spec : {M : Type 1} → statement M
 load_spec =

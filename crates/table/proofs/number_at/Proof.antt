@@ -9,23 +9,23 @@ use Rattle.table.specs.Load.{field, number_of}
 use Rattle.table.proofs.number_at.Statement.{statement}
 use Rattle.table.proofs.number_at.Tie as tie
 
-returns : tie.Need-returns
+returns : tie.Need-returns-then-which-eq-OWNER
 unfolding number_of field
-returns c = rw (eq-eqb (c.before.before.before.args.k % 4) 0 c.if1.true) (ap (λ (r : Row). r.owner) c.before.row_at.ensures.answer)
+returns c = rw (eq-eqb (c.args.k % 4) 0 c.if-which-eq-OWNER.true) (ap (λ (r : Row). r.owner) c.row_at-row.ensures.answer)
 
-returns-2 : tie.Need-returns-2
+returns-2 : tie.Need-returns-then-which-eq-FIRST
 unfolding number_of field
-returns-2 c = rw (ne_eqb (c.before.before.before.before.args.k % 4) 0 c.before.if1.false, eq-eqb (c.before.before.before.before.args.k % 4) 1 c.if2.true) (ap (λ (r : Row). r.first) c.before.before.row_at.ensures.answer)
+returns-2 c = rw (ne_eqb (c.args.k % 4) 0 c.if-which-eq-OWNER.false, eq-eqb (c.args.k % 4) 1 c.if-which-eq-FIRST.true) (ap (λ (r : Row). r.first) c.row_at-row.ensures.answer)
 
-returns-3 : tie.Need-returns-3
+returns-3 : tie.Need-returns-then-which-eq-LENGTH
 unfolding number_of field
 returns-3 c =
-    rw (ne_eqb (c.before.before.before.before.before.args.k % 4) 0 c.before.before.if1.false, ne_eqb (c.before.before.before.before.before.args.k % 4) 1 c.before.if2.false, eq-eqb (c.before.before.before.before.before.args.k % 4) 2 c.if3.true) (ap (λ (r : Row). r.size) c.before.before.before.row_at.ensures.answer)
+    rw (ne_eqb (c.args.k % 4) 0 c.if-which-eq-OWNER.false, ne_eqb (c.args.k % 4) 1 c.if-which-eq-FIRST.false, eq-eqb (c.args.k % 4) 2 c.if-which-eq-LENGTH.true) (ap (λ (r : Row). r.size) c.row_at-row.ensures.answer)
 
-returns-4 : tie.Need-returns-4
+returns-4 : tie.Need-returns
 unfolding number_of field
 returns-4 c =
-    rw (ne_eqb (c.before.before.before.before.before.args.k % 4) 0 c.before.before.if1.false, ne_eqb (c.before.before.before.before.before.args.k % 4) 1 c.before.if2.false, ne_eqb (c.before.before.before.before.before.args.k % 4) 2 c.if3.false) (ap (λ (r : Row). r.place) c.before.before.before.row_at.ensures.answer)
+    rw (ne_eqb (c.args.k % 4) 0 c.if-which-eq-OWNER.false, ne_eqb (c.args.k % 4) 1 c.if-which-eq-FIRST.false, ne_eqb (c.args.k % 4) 2 c.if-which-eq-LENGTH.false) (ap (λ (r : Row). r.place) c.row_at-row.ensures.answer)
 
 pub number_at_spec : {M : Type 1} → statement M
 number_at_spec = tie.close (tie.spec (λ c κs. search rules) returns returns-2 returns-3 returns-4)

@@ -8,20 +8,20 @@ use Rattle.table.proofs.Numbers.{SoFar, so_far_start, so_far_again, so_far_end}
 use Rattle.table.proofs.numbers_of.Statement.{statement}
 use Rattle.table.proofs.numbers_of.Tie as tie
 
-abbrev invariant-loop : tie.invariant-loop
+abbrev invariant-loop : tie.invariant-loop-k
 invariant-loop table numbers₀ k₀ numbers k = SoFar table numbers k
 
-abbrev decreases-loop : tie.decreases-loop
+abbrev decreases-loop : tie.decreases-loop-k
 decreases-loop table numbers₀ k₀ numbers k = 64 - k
 
-loop-again : tie.Need-loop-preserved invariant-loop decreases-loop
+loop-again : tie.Need-loop-k-preserved invariant-loop decreases-loop
 loop-again c =
-    let s = c.before.before.before.before.args in
-    let l = c.before.before.loop in
-    so_far_again s.table.now l.numbers l.k l.invariant (omega (arith, c.before.loop-test.true)) c.number_at.result c.number_at.ensures
+    let s = c.args in
+    let l = c.loop-k in
+    so_far_again s.table.now l.numbers l.k l.invariant (omega (arith, c.loop-k-test.true)) c.number_at.result c.number_at.ensures
 
 returns : tie.Need-returns invariant-loop decreases-loop
-returns c = so_far_end c.before.before.before.args.table.now c.before.loop.numbers c.before.loop.k c.before.loop.invariant (omega (arith, c.loop-test.false))
+returns c = so_far_end c.args.table.now c.loop-k.numbers c.loop-k.k c.loop-k.invariant (omega (arith, c.loop-k-test.false))
 
 pub numbers_of_spec : {M : Type 1} → statement M
 numbers_of_spec =

@@ -6,18 +6,18 @@ use borrow.Author.Tests.{eq-eqb, ne_eqb}
 use Rattle.window.proofs.clash.Statement.{statement}
 use Rattle.window.proofs.clash.Tie as tie
 
-returns : tie.Need-returns
-returns c = rw (sym c.before.overlap.ensures ∙ c.if1.true)
+returns : tie.Need-returns-then-overlap
+returns c = rw (sym c.overlap.ensures ∙ c.if-overlap.true)
 
-returns-2 : tie.Need-returns-2
+returns-2 : tie.Need-returns-then-row-other
 returns-2 c =
-    let a = c.before.before.before.before.before.args in
-    rw (sym c.before.before.before.before.overlap.ensures ∙ c.before.before.before.if1.false, ne_eqb a.row.owner a.other.owner c.if2.true)
+    let a = c.args in
+    rw (sym c.overlap.ensures ∙ c.if-overlap.false, ne_eqb a.row.owner a.other.owner c.if-row-other.true)
 
-returns-3 : tie.Need-returns-3
+returns-3 : tie.Need-returns
 returns-3 c =
-    let a = c.before.before.before.before.before.before.args in
-    rw (sym c.before.before.before.before.before.overlap.ensures ∙ c.before.before.before.before.if1.false, eq-eqb a.row.owner a.other.owner c.before.if2.false) c.overlap2.ensures
+    let a = c.args in
+    rw (sym c.overlap.ensures ∙ c.if-overlap.false, eq-eqb a.row.owner a.other.owner c.if-row-other.false) c.overlap-2.ensures
 
 pub clash_spec : {M : Type 1} → statement M
 clash_spec = tie.close (tie.spec (λ c κs. search rules) returns returns-2 (λ c κs. search rules) returns-3)

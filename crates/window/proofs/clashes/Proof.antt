@@ -11,37 +11,37 @@ use Rattle.window.proofs.TableTests.{none_clashes, clashes_later, clashes_here}
 use Rattle.window.proofs.clashes.Statement.{statement}
 use Rattle.window.proofs.clashes.Tie as tie
 
-abbrev invariant-loop : tie.invariant-loop
+abbrev invariant-loop : tie.invariant-loop-i
 invariant-loop row rows from i₀ i = clashes row (drop i (rows_in rows)) ≡ clashes row (drop from (rows_in rows))
 
-abbrev decreases-loop : tie.decreases-loop
+abbrev decreases-loop : tie.decreases-loop-i
 decreases-loop row rows from i₀ i = length (rows_in rows) - i
 
-row-at-requires : tie.Need-row-at-requires invariant-loop decreases-loop
-row-at-requires c κs = omega (arith, c.loop-test.true, rows_length c.before.before.before.args.rows.now)
+row-at-requires : tie.Need-row_at-requires invariant-loop decreases-loop
+row-at-requires c κs = omega (arith, c.loop-i-test.true, rows_length c.args.rows.now)
 
-returns : tie.Need-returns invariant-loop decreases-loop
+returns : tie.Need-returns-then-clash invariant-loop decreases-loop
 returns c =
-    let s = c.before.before.before.before.before.before.args in
-    let l = c.before.before.before.before.loop in
-    clashes_here s.row (rows_in s.rows.now) _ l.i l.invariant (omega (arith, c.before.before.before.loop-test.true, rows_length s.rows.now))
-    (sym (ap (clash s.row) c.before.before.row_at.ensures) ∙ sym c.before.clash.ensures ∙ c.if1.true)
+    let s = c.args in
+    let l = c.loop-i in
+    clashes_here s.row (rows_in s.rows.now) _ l.i l.invariant (omega (arith, c.loop-i-test.true, rows_length s.rows.now))
+    (sym (ap (clash s.row) c.row_at.ensures) ∙ sym c.clash.ensures ∙ c.if-clash.true)
 
-loop-less : tie.Need-loop-smaller invariant-loop decreases-loop
-loop-less c = omega (arith, c.before.before.before.loop-test.true, rows_length c.before.before.before.before.before.before.args.rows.now)
+loop-less : tie.Need-loop-i-smaller invariant-loop decreases-loop
+loop-less c = omega (arith, c.loop-i-test.true, rows_length c.args.rows.now)
 
-loop-again : tie.Need-loop-preserved invariant-loop decreases-loop
+loop-again : tie.Need-loop-i-preserved invariant-loop decreases-loop
 loop-again c =
-    let s = c.before.before.before.before.before.before.args in
-    let l = c.before.before.before.before.loop in
-    clashes_later s.row (rows_in s.rows.now) _ l.i l.invariant (omega (arith, c.before.before.before.loop-test.true, rows_length s.rows.now))
-    (sym (ap (clash s.row) c.before.before.row_at.ensures) ∙ sym c.before.clash.ensures ∙ c.if1.false)
+    let s = c.args in
+    let l = c.loop-i in
+    clashes_later s.row (rows_in s.rows.now) _ l.i l.invariant (omega (arith, c.loop-i-test.true, rows_length s.rows.now))
+    (sym (ap (clash s.row) c.row_at.ensures) ∙ sym c.clash.ensures ∙ c.if-clash.false)
 
-returns-2 : tie.Need-returns-2 invariant-loop decreases-loop
+returns-2 : tie.Need-returns invariant-loop decreases-loop
 returns-2 c =
-    let s = c.before.before.before.args in
-    let l = c.before.loop in
-    none_clashes s.row (rows_in s.rows.now) _ l.i l.invariant (omega (arith, c.loop-test.false, rows_length s.rows.now))
+    let s = c.args in
+    let l = c.loop-i in
+    none_clashes s.row (rows_in s.rows.now) _ l.i l.invariant (omega (arith, c.loop-i-test.false, rows_length s.rows.now))
 
 pub clashes_spec : {M : Type 1} → statement M
 clashes_spec = tie.close (tie.spec invariant-loop decreases-loop (λ c. refl) row-at-requires (λ c κs. search rules) returns (λ c. search rules) loop-less loop-again returns-2)

@@ -5,11 +5,11 @@ use Rattle.window.proofs.Through.{clear_other, clear_mine}
 use Rattle.window.proofs.clear_own.Statement.{statement}
 use Rattle.window.proofs.clear_own.Tie as tie
 
-returns : tie.Need-returns
-returns c = let s = c.before.before.before.args in clear_other s.owner s.row s.marks.now c.if1.true
+returns : tie.Need-returns-then-row-owner
+returns c = let s = c.args in clear_other s.owner s.row s.marks.now c.if-row-owner.true
 
-returns-2 : tie.Need-returns-2
-returns-2 c = let s = c.before.before.before.before.before.before.before.args in clear_mine s.owner s.row s.marks.now _ c.before.before.before.before.if1.false c.before.before.clear-run.ensures.left
+returns-2 : tie.Need-returns
+returns-2 c = let s = c.args in clear_mine s.owner s.row s.marks.now _ c.if-row-owner.false c.clear_run.ensures.left
 
 pub clear_own_spec : {M : Type 1} → statement M
 clear_own_spec = tie.close (tie.spec returns (λ c κs. search rules) (λ c. search rules) returns-2)

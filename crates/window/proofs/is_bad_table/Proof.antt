@@ -9,22 +9,22 @@ use Rattle.window.proofs.TableTests.{bad_call, two_clash, by_the_rest}
 use Rattle.window.proofs.is_bad_table.Statement.{statement}
 use Rattle.window.proofs.is_bad_table.Tie as tie
 
-returns : tie.Need-returns
+returns : tie.Need-returns-then-is_bad_call
 returns c =
-    let s = c.before.before.before.args in
-    record { answer = bad_call s.owner s.pool s.marks (rows_in s.rows.now) (rw (rows_length s.rows.now) (sym c.if1.true ∙ c.before.is-bad-call.ensures)) }
+    let s = c.args in
+    record { answer = bad_call s.owner s.pool s.marks (rows_in s.rows.now) (rw (rows_length s.rows.now) (sym c.if-is_bad_call.true ∙ c.is_bad_call.ensures)) }
 
-returns-2 : tie.Need-returns-2
+returns-2 : tie.Need-returns-then-any_clash
 returns-2 c =
-    let s = c.before.before.before.before.before.args in
-    record { answer = two_clash s.owner s.pool s.marks (rows_in s.rows.now) (sym c.if2.true ∙ c.before.any_clash.ensures) }
+    let s = c.args in
+    record { answer = two_clash s.owner s.pool s.marks (rows_in s.rows.now) (sym c.if-any_clash.true ∙ c.any_clash.ensures) }
 
-returns-3 : tie.Need-returns-3
+returns-3 : tie.Need-returns
 returns-3 c =
-    let s = c.before.before.before.before.before.before.args in
+    let s = c.args in
     record {
-      answer = ap not c.are-good.ensures
-          ∙ by_the_rest s.owner s.pool s.marks (rows_in s.rows.now) (rw (rows_length s.rows.now) (sym c.before.before.before.if1.false ∙ c.before.before.before.before.is-bad-call.ensures)) (sym c.before.if2.false ∙ c.before.before.any_clash.ensures);
+      answer = ap not c.are_good.ensures
+          ∙ by_the_rest s.owner s.pool s.marks (rows_in s.rows.now) (rw (rows_length s.rows.now) (sym c.if-is_bad_call.false ∙ c.is_bad_call.ensures)) (sym c.if-any_clash.false ∙ c.any_clash.ensures);
     }
 
 pub is_bad_table_spec : {M : Type 1} → statement M

@@ -5,25 +5,25 @@ use Rattle.window.proofs.TableTests.{empty, other_empty, starts_before, starts_a
 use Rattle.window.proofs.overlap.Statement.{statement}
 use Rattle.window.proofs.overlap.Tie as tie
 
-returns : tie.Need-returns
+returns : tie.Need-returns-then-size-eq0
 returns c =
-    let a = c.before.args in
-    empty a.start a.size a.other a.others c.if1.true
+    let a = c.args in
+    empty a.start a.size a.other a.others c.if-size-eq0.true
 
-returns-2 : tie.Need-returns-2
+returns-2 : tie.Need-returns-then-others-eq0
 returns-2 c =
-    let a = c.before.before.args in
-    other_empty a.start a.size a.other a.others c.if2.true
+    let a = c.args in
+    other_empty a.start a.size a.other a.others c.if-others-eq0.true
 
-returns-3 : tie.Need-returns-3
+returns-3 : tie.Need-returns-then-start-other
 returns-3 c =
-    let a = c.before.before.before.args in
-    starts_before a.start a.size a.other a.others c.before.before.if1.false c.before.if2.false c.if3.true
+    let a = c.args in
+    starts_before a.start a.size a.other a.others c.if-size-eq0.false c.if-others-eq0.false c.if-start-other.true
 
-returns-4 : tie.Need-returns-4
+returns-4 : tie.Need-returns
 returns-4 c =
-    let a = c.before.before.before.args in
-    starts_after a.start a.size a.other a.others c.before.before.if1.false c.before.if2.false c.if3.false
+    let a = c.args in
+    starts_after a.start a.size a.other a.others c.if-size-eq0.false c.if-others-eq0.false c.if-start-other.false
 
 pub overlap_spec : {M : Type 1} → statement M
 overlap_spec = tie.close (tie.spec returns returns-2 returns-3 (λ c. search rules) returns-4)

@@ -5,10 +5,10 @@ use borrow.Author.Rules.{rules}
 use Rattle.window.proofs.part_inside.Statement.{statement}
 use Rattle.window.proofs.part_inside.Tie as tie
 
-returns : tie.Need-returns
+returns : tie.Need-returns-then-address-first
 returns c =
-    let skip = c.before.least.ensures in
-    let len = c.least2.ensures in
+    let skip = c.least-skip.ensures in
+    let len = c.least.ensures in
     record {
       in_run = omega (arith, skip, len);
       in_page = omega (arith, skip, len);
@@ -16,10 +16,10 @@ returns c =
       all = λ i k h l e. omega (arith, skip, len);
     }
 
-returns-2 : tie.Need-returns-2
+returns-2 : tie.Need-returns
 returns-2 c =
-    let place = c.before.least3.ensures in
-    let len = c.least4.ensures in
+    let place = c.least-place.ensures in
+    let len = c.least-2.ensures in
     record {
       in_run = omega (arith, place, len);
       in_page = omega (arith, place, len);

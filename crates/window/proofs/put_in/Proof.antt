@@ -9,12 +9,12 @@ use Rattle.window.proofs.put_in.Tie as tie
 
 returns : tie.Need-returns
 returns c =
-    let s = c.before.before.before.before.before.before.before.before.before.before.before.before.before.before.before.before.before.args in
-    let start = c.before.before.before.before.before.before.before.before.before.before.before.before.before.least in
-    let size = c.before.before.before.before.before.before.before.before.before.before.before.before.least2 in
-    let p = c.before.before.before.before.before.before.before.before.before.before.before.part_inside in
-    let k = c.before.before.before.before.before.before.copy-to in
-    let m = c.before.before.mark-run in
+    let s = c.args in
+    let start = c.least-start in
+    let size = c.least-size in
+    let p = c.part_inside-part in
+    let k = c.copy_to in
+    let m = c.mark_run in
     put_part s.row s.address s.bytes.now s.page.now s.marks.now start.result size.result start.ensures size.ensures p.result _ refl _ _ p.ensures
     (rw (part_is s.bytes.now p.result.skip p.result.len) at k.ensures) m.ensures.left
 

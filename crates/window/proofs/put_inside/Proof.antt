@@ -11,27 +11,26 @@ use Rattle.window.proofs.Whole.{put_whole, put_none}
 use Rattle.window.proofs.put_inside.Statement.{statement}
 use Rattle.window.proofs.put_inside.Tie as tie
 
-returns : tie.Need-returns
+returns : tie.Need-returns-then-from-start
 returns c =
-    let a = c.before.before.before.before.args in
+    let a = c.args in
     put_none a.first a.address a.bytes.now a.page.now a.marks.now
-    (⊎_elim (λ w. inl w.taken) (λ w. inr (omega (arith, w.0.left, ltb-true (length a.page.now) (a.address - a.first + length a.bytes.now) (sym w.1.ensures ∙ w.2.taken)))) c.if1.branch)
+    (⊎_elim (λ w. inl w.taken) (λ w. inr (omega (arith, w.0.left, ltb-true (length a.page.now) (a.address - a.first + length a.bytes.now) (sym w.1.ensures ∙ w.2.taken)))) c.then-from-start.branch)
 
 -- the run ends in the window
-ends-inside : (c : tie.Else2)
-    → let a = c.before.before.before.before.before.before.args in
+ends-inside : (c : tie.Else-is_beyond)
+    → let a = c.args in
     a.address - a.first + length a.bytes.now ≤ length a.page.now
-ends-inside c = ltb-false _ _ (sym c.before.is-beyond.ensures ∙ c.if2.false)
+ends-inside c = ltb-false _ _ (sym c.is_beyond.ensures ∙ c.if-is_beyond.false)
 
-copy-to-requires : tie.Need-copy-to-requires
+copy-to-requires : tie.Need-copy_to-requires
 copy-to-requires c κs = ends-inside c.before
 
-returns-2 : tie.Need-returns-2
+returns-2 : tie.Need-returns
 returns-2 c =
-    let a = c.before.before.before.before.before.before.before.before.before.before.before.before.before.before.args in
-    let e = c.before.before.before.before.before.before.before.before in
-    put_whole a.first a.address a.bytes.now a.page.now a.marks.now (a.address - a.first) (omega (arith, e.before.before.if1.false)) (ends-inside e) _ _
-    c.before.before.before.before.before.before.copy-to.ensures c.before.before.mark-run.ensures.left
+    let a = c.args in
+    put_whole a.first a.address a.bytes.now a.page.now a.marks.now (a.address - a.first) (omega (arith, c.if-from-start.false)) (ends-inside c.before.before.before.before.before.before.before.before) _ _
+    c.copy_to.ensures c.mark_run.ensures.left
 
 pub put_inside_spec : {M : Type 1} → statement M
 put_inside_spec =

@@ -30,4 +30,4 @@ row_at_spec =
     (λ c. omega (arith, room c.before.before.before))
     (λ c. omega (arith, room c.before.before.before))
     (λ c. omega (arith, room c.before.before.before.before))
-    (λ c. let s = c.before.before.before.before in sym (rows_at s.args.rows.now s.args.i s.requires)))
+    (λ c. sym (rows_at c.args.rows.now c.args.i c.requires)))

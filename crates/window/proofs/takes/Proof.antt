@@ -7,14 +7,14 @@ use Rattle.window.proofs.Finding.{not_owner, not_held, by_distance}
 use Rattle.window.proofs.takes.Statement.{statement}
 use Rattle.window.proofs.takes.Tie as tie
 
-returns : tie.Need-returns
-returns c = let s = c.before.before.args in sym (not_owner s.owner s.address s.row c.if1.true)
+returns : tie.Need-returns-then-row-owner
+returns c = let s = c.args in sym (not_owner s.owner s.address s.row c.if-row-owner.true)
 
-returns-2 : tie.Need-returns-2
-returns-2 c = let s = c.before.before.before.before.args in sym (not_held s.owner s.address s.row (below_false s.row.first s.row.size s.address c.if2.true))
+returns-2 : tie.Need-returns-then-address-row
+returns-2 c = let s = c.args in sym (not_held s.owner s.address s.row (below_false s.row.first s.row.size s.address c.if-address-row.true))
 
-returns-3 : tie.Need-returns-3
-returns-3 c = let s = c.before.before.before.before.before.before.args in sym (by_distance s.owner s.address s.row c.before.before.before.before.if1.false (omega (arith, c.before.before.if2.false)))
+returns-3 : tie.Need-returns
+returns-3 c = let s = c.args in sym (by_distance s.owner s.address s.row c.if-row-owner.false (omega (arith, c.if-address-row.false)))
 
 pub takes_spec : {M : Type 1} → statement M
 takes_spec = tie.close (tie.spec returns returns-2 returns-3)

@@ -6,13 +6,13 @@ use Rattle.writer.specs.Survey.{cap, most}
 use Rattle.writer.proofs.capped.Statement.{statement}
 use Rattle.writer.proofs.capped.Tie as tie
 
-returns : tie.Need-returns
+returns : tie.Need-returns-then-a-b
 unfolding cap
-returns c = rw (lt-leb (c.before.args.a + c.before.args.b) most (omega arith))
+returns c = rw (lt-leb (c.args.a + c.args.b) most (omega arith))
 
-returns-2 : tie.Need-returns-2
+returns-2 : tie.Need-returns
 unfolding cap
-returns-2 c = rw (le-leb (c.before.args.a + c.before.args.b) most (omega arith))
+returns-2 c = rw (le-leb (c.args.a + c.args.b) most (omega arith))
 
 pub capped_spec : {M : Type 1} → statement M
 capped_spec = tie.close (tie.spec (λ c. search rules) returns (λ c. search rules) returns-2)

@@ -4,8 +4,8 @@ use Rattle.std.proofs.Common.{rules}
 use Rattle.writer.proofs.counted.Statement.{statement}
 use Rattle.writer.proofs.counted.Tie as tie
 
-returns : tie.Need-returns
-returns c = rw c.before.if1.true c.capped.ensures
+returns : tie.Need-returns-then-more
+returns c = rw c.if-more.true c.capped.ensures
 
 pub counted_spec : {M : Type 1} → statement M
 counted_spec = tie.close (tie.spec (λ c κs. search rules) returns (λ c. search rules))

@@ -7,21 +7,21 @@ use Rattle.writer.proofs.Surveying.{cap_twice}
 use Rattle.writer.proofs.longer.Statement.{statement}
 use Rattle.writer.proofs.longer.Tie as tie
 
-returns : tie.Need-returns
+returns : tie.Need-returns-in-Refused
 unfolding longer
-returns c = rw c.before.done.given.1
+returns c = rw c.in-Refused.is
 
-returns-2 : tie.Need-returns-2
+returns-2 : tie.Need-returns-in-Refused-line
 unfolding longer
-returns-2 c = rw (c.before.before.before.before.done2.given.1, c.before.line.given.1)
+returns-2 c = rw (c.in-Wrote.is, c.in-Refused-line.is)
 
-returns-3 : tie.Need-returns-3
+returns-3 : tie.Need-returns-in-Wrote-line
 unfolding longer
 returns-3 c =
-    let n = c.before.before.before.before.before.before.done2.given.0.0 in
-    let m = c.before.before.before.line2.given.0.0 in
-    rw (c.before.before.before.before.before.before.done2.given.1, c.before.before.before.line2.given.1)
-    (ap wrote (c.capped2.ensures ∙ ap (λ (k : ℕ). cap (n + k)) c.before.capped.ensures ∙ cap_twice n (m + 1)))
+    let n = c.in-Wrote.n in
+    let m = c.in-Wrote-line.m in
+    rw (c.in-Wrote.is, c.in-Wrote-line.is)
+    (ap wrote (c.capped-in-Wrote-line.ensures ∙ ap (λ (k : ℕ). cap (n + k)) c.capped.ensures ∙ cap_twice n (m + 1)))
 
 pub longer_spec : {M : Type 1} → statement M
 longer_spec =

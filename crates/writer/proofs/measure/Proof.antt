@@ -5,40 +5,36 @@ use Rattle.writer.proofs.Measuring.{outside, too_long, fits_line, plain_end, pla
 use Rattle.writer.proofs.measure.Statement.{statement}
 use Rattle.writer.proofs.measure.Tie as tie
 
-returns : tie.Need-returns
+returns : tie.Need-returns-then-len-pool
 returns c =
-    let f = c.before.before.«record».given.0 in
-    rw c.before.before.«record».given.1 (outside f.0 f.1.0 f.1.1.0 c.before.before.before.before.args.pool.now (omega arith))
+    rw c.in-Data.is (outside c.in-Data.offset c.in-Data.at c.in-Data.len c.args.pool.now (omega arith))
 
-returns-2 : tie.Need-returns-2
+returns-2 : tie.Need-returns-then-at-pool
 returns-2 c =
-    let f = c.before.before.before.«record».given.0 in
-    rw c.before.before.before.«record».given.1 (outside f.0 f.1.0 f.1.1.0 c.before.before.before.before.before.args.pool.now (omega arith))
+    rw c.in-Data.is (outside c.in-Data.offset c.in-Data.at c.in-Data.len c.args.pool.now (omega arith))
 
-returns-3 : tie.Need-returns-3
+returns-3 : tie.Need-returns-then-len-gt-MOST_DATA
 returns-3 c =
-    let f = c.before.before.before.before.«record».given.0 in
-    rw c.before.before.before.before.«record».given.1 (too_long f.0 f.1.0 f.1.1.0 c.before.before.before.before.before.before.args.pool.now (omega arith) (omega arith))
+    rw c.in-Data.is (too_long c.in-Data.offset c.in-Data.at c.in-Data.len c.args.pool.now (omega arith) (omega arith))
 
-returns-4 : tie.Need-returns-4
+returns-4 : tie.Need-returns-else-len-gt-MOST_DATA
 returns-4 c =
-    let f = c.before.before.before.before.«record».given.0 in
-    rw c.before.before.before.before.«record».given.1 (fits_line f.0 f.1.0 f.1.1.0 c.before.before.before.before.before.before.args.pool.now (omega arith) (omega arith))
+    rw c.in-Data.is (fits_line c.in-Data.offset c.in-Data.at c.in-Data.len c.args.pool.now (omega arith) (omega arith))
 
-returns-5 : tie.Need-returns-5
-returns-5 c = rw c.enum_told.given.1 (plain_end c.before.before.args.pool.now)
+returns-5 : tie.Need-returns-in-EndOfFile
+returns-5 c = rw c.in-EndOfFile.is (plain_end c.args.pool.now)
 
-returns-6 : tie.Need-returns-6
-returns-6 c = rw c.enum-told2.given.1 (plain_segment c.before.before.args.pool.now _)
+returns-6 : tie.Need-returns-in-ExtendedSegmentAddress
+returns-6 c = rw c.in-ExtendedSegmentAddress.is (plain_segment c.args.pool.now _)
 
-returns-7 : tie.Need-returns-7
-returns-7 c = rw c.enum-told3.given.1 (plain_start c.before.before.args.pool.now _ _)
+returns-7 : tie.Need-returns-in-StartSegmentAddress
+returns-7 c = rw c.in-StartSegmentAddress.is (plain_start c.args.pool.now _ _)
 
-returns-8 : tie.Need-returns-8
-returns-8 c = rw c.enum-told4.given.1 (plain_linear c.before.before.args.pool.now _)
+returns-8 : tie.Need-returns-in-ExtendedLinearAddress
+returns-8 c = rw c.in-ExtendedLinearAddress.is (plain_linear c.args.pool.now _)
 
-returns-9 : tie.Need-returns-9
-returns-9 c = rw c.enum-told5.given.1 (plain_long c.before.before.args.pool.now _)
+returns-9 : tie.Need-returns-in-StartLinearAddress
+returns-9 c = rw c.in-StartLinearAddress.is (plain_long c.args.pool.now _)
 
 pub measure_spec : {M : Type 1} → statement M
 measure_spec =

@@ -7,13 +7,12 @@ use Rattle.writer.proofs.put_line.Tie as tie
 
 returns : tie.Need-returns
 returns c =
-    let s = c.before.before.before.before.before.before.before.before.before.before.before.before.before.before.before in
-    let a = s.args in
-    let h = c.before.before.before.before.before.before.before.before.before.before.before.put-head in
-    let p = c.before.before.before.before.before.before.before.spell in
-    let w = c.before.before.before.before.wrapping-sub-u8 in
+    let a = c.args in
+    let h = c.put_head-first in
+    let p = c.spell-sum in
+    let w = c.wrapping_sub_u8 in
     line_put a.kind a.address a.payload.now a.out.now a.at (length a.payload.now) h.result p.result w.result
-    s.requires refl (search rules) h.ensures h.auto.1.1.1.0 p.ensures refl w.ensures c.before.before.put.ensures
+    c.requires refl (search rules) h.ensures h.auto.out p.ensures refl w.ensures c.put.ensures
 
 pub put_line_spec : {M : Type 1} → statement M
 put_line_spec =

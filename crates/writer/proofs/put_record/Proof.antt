@@ -7,101 +7,96 @@ use Rattle.writer.proofs.put_record.Statement.{statement}
 use Rattle.writer.proofs.put_record.Tie as tie
 
 -- the payload of a data record lies in the pool, and is not too long
-inside : (c : tie.After-known-told)
-    → let f = c.before.«record».given.0 in (f.1.0 + f.1.1.0 ≤ length c.before.before.before.before.before.args.pool.now) × (f.1.1.0 ≤ 255)
+inside : (c : tie.In-Data)
+    → (c.in-Data.from + c.in-Data.len ≤ length c.args.pool.now) × (c.in-Data.len ≤ 255)
 inside c =
-    let f = c.before.«record».given.0 in
-    fine_data f.0 f.1.0 f.1.1.0 (length c.before.before.before.before.before.args.pool.now) (rw c.before.«record».given.1 at c.before.before.before.before.before.requires.fine)
+    fine_data c.in-Data.offset c.in-Data.from c.in-Data.len (length c.args.pool.now) (rw c.in-Data.is at c.requires.fine)
 
-add-end : tie.Need-overflow-add-end
+add-end : tie.Need-overflow_add-end
 add-end c = let i = inside c in omega arith
 
-part-put-line-end : tie.Need-slice-bounds-put-line-end
+part-put-line-end : tie.Need-slice_bounds-put_line-end
 part-put-line-end c = let i = inside c in omega arith
 
-put-line-requires : tie.Need-put-line-requires
+put-line-requires : tie.Need-put_line-requires
 put-line-requires c κs =
-    let a = c.before.before.before.before.before.before.before.args in
-    let f = c.before.before.before.«record».given.0 in
+    let a = c.args in
     let i = inside c.before.before in
-    let n = part_length a.pool.now f.1.0 f.1.1.0 i.0 in
-    let m = ap length (part_is a.pool.now f.1.0 f.1.1.0) in
-    fitting a.«record» a.pool.now a.out.now a.at (take (f.1.0 + f.1.1.0 - f.1.0) (drop f.1.0 a.pool.now)) c.before.before.before.before.before.before.before.requires
-    (rw c.before.before.before.«record».given.1 m) (omega arith)
+    let n = part_length a.pool.now c.in-Data.from c.in-Data.len i.0 in
+    let m = ap length (part_is a.pool.now c.in-Data.from c.in-Data.len) in
+    fitting a.«record» a.pool.now a.out.now a.at (take (c.in-Data.from + c.in-Data.len - c.in-Data.from) (drop c.in-Data.from a.pool.now)) c.requires
+    (rw c.in-Data.is m) (omega arith)
 
-put-line-requires-2 : tie.Need-put-line-requires-2
+put-line-requires-2 : tie.Need-put_line-requires-in-EndOfFile
 put-line-requires-2 c κs =
-    let a = c.before.before.before.before.before.before.args in
-    fitting a.«record» a.pool.now a.out.now a.at ([]) c.before.before.before.before.before.before.requires (rw c.before.before.enum_told.given.1) (omega arith)
+    let a = c.args in
+    fitting a.«record» a.pool.now a.out.now a.at ([]) c.requires (rw c.in-EndOfFile.is) (omega arith)
 
-put-line-requires-3 : tie.Need-put-line-requires-3
+put-line-requires-3 : tie.Need-put_line-requires-in-ExtendedSegmentAddress
 put-line-requires-3 c κs =
-    let a = c.before.before.before.before.before.before.before.before.before.args in
-    fitting a.«record» a.pool.now a.out.now a.at (c.before.before.before.high.result ∷ c.before.before.low.result ∷ []) c.before.before.before.before.before.before.before.before.before.requires (rw c.before.before.before.before.before.record2.given.1) (omega arith)
+    let a = c.args in
+    fitting a.«record» a.pool.now a.out.now a.at (c.high.result ∷ c.low.result ∷ []) c.requires (rw c.in-ExtendedSegmentAddress.is) (omega arith)
 
-put-line-requires-4 : tie.Need-put-line-requires-4
+put-line-requires-4 : tie.Need-put_line-requires-in-StartSegmentAddress
 put-line-requires-4 c κs =
-    let a = c.before.before.before.before.before.before.before.before.before.before.before.args in
-    fitting a.«record» a.pool.now a.out.now a.at (c.before.before.before.before.before.high2.result ∷ c.before.before.before.before.low2.result ∷ c.before.before.before.high3.result ∷ c.before.before.low3.result ∷ []) c.before.before.before.before.before.before.before.before.before.before.before.requires (rw c.before.before.before.before.before.before.before.record3.given.1) (omega arith)
+    let a = c.args in
+    fitting a.«record» a.pool.now a.out.now a.at (c.high-in-StartSegmentAddress.result ∷ c.low-in-StartSegmentAddress.result ∷ c.high-in-StartSegmentAddress-2.result ∷ c.low-in-StartSegmentAddress-2.result ∷ []) c.requires (rw c.in-StartSegmentAddress.is) (omega arith)
 
-put-line-requires-5 : tie.Need-put-line-requires-5
+put-line-requires-5 : tie.Need-put_line-requires-in-ExtendedLinearAddress
 put-line-requires-5 c κs =
-    let a = c.before.before.before.before.before.before.before.before.before.args in
-    fitting a.«record» a.pool.now a.out.now a.at (c.before.before.before.high4.result ∷ c.before.before.low4.result ∷ []) c.before.before.before.before.before.before.before.before.before.requires (rw c.before.before.before.before.before.record4.given.1) (omega arith)
+    let a = c.args in
+    fitting a.«record» a.pool.now a.out.now a.at (c.high-in-ExtendedLinearAddress.result ∷ c.low-in-ExtendedLinearAddress.result ∷ []) c.requires (rw c.in-ExtendedLinearAddress.is) (omega arith)
 
-put-line-requires-6 : tie.Need-put-line-requires-6
+put-line-requires-6 : tie.Need-put_line-requires-in-StartLinearAddress
 put-line-requires-6 c κs =
-    let a = c.before.before.before.before.before.before.before.before.before.before.before.args in
-    fitting a.«record» a.pool.now a.out.now a.at (c.before.before.before.before.before.high5.result ∷ c.before.before.before.before.low5.result ∷ c.before.before.before.high6.result ∷ c.before.before.low6.result ∷ []) c.before.before.before.before.before.before.before.before.before.before.before.requires (rw c.before.before.before.before.before.before.before.record5.given.1) (omega arith)
+    let a = c.args in
+    fitting a.«record» a.pool.now a.out.now a.at (c.high-in-StartLinearAddress.result ∷ c.low-in-StartLinearAddress.result ∷ c.high-in-StartLinearAddress-2.result ∷ c.low-in-StartLinearAddress-2.result ∷ []) c.requires (rw c.in-StartLinearAddress.is) (omega arith)
 
-returns : tie.Need-returns
+returns : tie.Need-returns-in-Data
 returns c =
-    let a = c.before.before.before.before.before.before.before.before.before.before.args in
-    let f = c.before.before.before.before.before.before.«record».given.0 in
-    rw c.before.before.before.before.before.before.«record».given.1 (put_part a.out.now a.at f.0 a.pool.now f.1.0 f.1.1.0 c.before.before.put-line.ensures)
+    let a = c.args in
+    rw c.in-Data.is (put_part a.out.now a.at c.in-Data.offset a.pool.now c.in-Data.from c.in-Data.len c.put_line.ensures)
 
-returns-2 : tie.Need-returns-2
-returns-2 c = rw c.before.before.before.before.before.enum_told.given.1 c.before.before.put-line2.ensures
+returns-2 : tie.Need-returns-in-EndOfFile
+returns-2 c = rw c.in-EndOfFile.is c.put_line-in-EndOfFile.ensures
 
-returns-3 : tie.Need-returns-3
+returns-3 : tie.Need-returns-in-ExtendedSegmentAddress
 returns-3 c =
-    let a = c.before.before.before.before.before.before.before.before.before.before.before.before.args in
-    let h = c.before.before.before.before.before.before.high in
-    let l = c.before.before.before.before.before.low in
-    rw c.before.before.before.before.before.before.before.before.record2.given.1
-    (put_two 2 a.out.now a.at c.before.before.before.before.before.before.before.before.record2.given.0.0 h.result l.result h.ensures l.ensures c.before.before.put-line3.ensures)
+    let a = c.args in
+    let h = c.high in
+    let l = c.low in
+    rw c.in-ExtendedSegmentAddress.is
+    (put_two 2 a.out.now a.at c.in-ExtendedSegmentAddress.a h.result l.result h.ensures l.ensures c.put_line-in-ExtendedSegmentAddress.ensures)
 
-returns-4 : tie.Need-returns-4
+returns-4 : tie.Need-returns-in-StartSegmentAddress
 returns-4 c =
-    let a = c.before.before.before.before.before.before.before.before.before.before.before.before.before.before.args in
-    let f = c.before.before.before.before.before.before.before.before.before.before.record3.given.0 in
-    let h = c.before.before.before.before.before.before.before.before.high2 in
-    let l = c.before.before.before.before.before.before.before.low2 in
-    let h' = c.before.before.before.before.before.before.high3 in
-    let l' = c.before.before.before.before.before.low3 in
-    rw c.before.before.before.before.before.before.before.before.before.before.record3.given.1
-    (put_four 3 a.out.now a.at f.0 f.1.0 h.result l.result h'.result l'.result
-    h.ensures l.ensures h'.ensures l'.ensures c.before.before.put-line4.ensures)
+    let a = c.args in
+    let h = c.high-in-StartSegmentAddress in
+    let l = c.low-in-StartSegmentAddress in
+    let h' = c.high-in-StartSegmentAddress-2 in
+    let l' = c.low-in-StartSegmentAddress-2 in
+    rw c.in-StartSegmentAddress.is
+    (put_four 3 a.out.now a.at c.in-StartSegmentAddress.cs c.in-StartSegmentAddress.ip h.result l.result h'.result l'.result
+    h.ensures l.ensures h'.ensures l'.ensures c.put_line-in-StartSegmentAddress.ensures)
 
-returns-5 : tie.Need-returns-5
+returns-5 : tie.Need-returns-in-ExtendedLinearAddress
 returns-5 c =
-    let a = c.before.before.before.before.before.before.before.before.before.before.before.before.args in
-    let h = c.before.before.before.before.before.before.high4 in
-    let l = c.before.before.before.before.before.low4 in
-    rw c.before.before.before.before.before.before.before.before.record4.given.1
-    (put_two 4 a.out.now a.at c.before.before.before.before.before.before.before.before.record4.given.0.0 h.result l.result h.ensures l.ensures c.before.before.put-line5.ensures)
+    let a = c.args in
+    let h = c.high-in-ExtendedLinearAddress in
+    let l = c.low-in-ExtendedLinearAddress in
+    rw c.in-ExtendedLinearAddress.is
+    (put_two 4 a.out.now a.at c.in-ExtendedLinearAddress.a h.result l.result h.ensures l.ensures c.put_line-in-ExtendedLinearAddress.ensures)
 
-returns-6 : tie.Need-returns-6
+returns-6 : tie.Need-returns-in-StartLinearAddress
 returns-6 c =
-    let a = c.before.before.before.before.before.before.before.before.before.before.before.before.before.before.args in
-    let f = c.before.before.before.before.before.before.before.before.before.before.record5.given.0 in
-    let h = c.before.before.before.before.before.before.before.before.high5 in
-    let l = c.before.before.before.before.before.before.before.low5 in
-    let h' = c.before.before.before.before.before.before.high6 in
-    let l' = c.before.before.before.before.before.low6 in
-    rw c.before.before.before.before.before.before.before.before.before.before.record5.given.1
-    (put_four 5 a.out.now a.at (f.0 / 65536) (f.0 % 65536) h.result l.result h'.result l'.result
-    h.ensures l.ensures h'.ensures l'.ensures c.before.before.put-line6.ensures)
+    let a = c.args in
+    let h = c.high-in-StartLinearAddress in
+    let l = c.low-in-StartLinearAddress in
+    let h' = c.high-in-StartLinearAddress-2 in
+    let l' = c.low-in-StartLinearAddress-2 in
+    rw c.in-StartLinearAddress.is
+    (put_four 5 a.out.now a.at (c.in-StartLinearAddress.a / 65536) (c.in-StartLinearAddress.a % 65536) h.result l.result h'.result l'.result
+    h.ensures l.ensures h'.ensures l'.ensures c.put_line-in-StartLinearAddress.ensures)
 
 pub put_record_spec : {M : Type 1} → statement M
 put_record_spec =

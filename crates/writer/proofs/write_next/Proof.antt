@@ -4,11 +4,11 @@ use Rattle.std.proofs.Common.{refl, rules}
 use Rattle.writer.proofs.write_next.Statement.{statement}
 use Rattle.writer.proofs.write_next.Tie as tie
 
-returns : tie.Need-returns
-returns c = rw c.before.done.given.1 (record { answer = refl; left = refl })
+returns : tie.Need-returns-in-Refused
+returns c = rw c.in-Refused.is (record { answer = refl; left = refl })
 
-returns-2 : tie.Need-returns-2
-returns-2 c = rw c.before.before.before.before.before.done2.given.1 c.before.before.write_step.ensures
+returns-2 : tie.Need-returns-in-Wrote
+returns-2 c = rw c.in-Wrote.is c.write_step.ensures
 
 pub write_next_spec : {M : Type 1} → statement M
 write_next_spec =

@@ -10,49 +10,49 @@ use Rattle.writer.proofs.write_step.Statement.{statement}
 use Rattle.writer.proofs.write_step.Tie as tie
 
 -- a measured line: it is there, and as long as it was measured
-measured : (c : tie.After-known-told2)
-    → let a = c.before.before.before.before.before.before.args in
-    (line_refusal a.«record» (length a.pool.now) ≡ none) × (c.before.measured2.given.0.0 ≡ length (line a.«record» a.pool.now))
+measured : (c : tie.In-Wrote)
+    → let a = c.args in
+    (line_refusal a.«record» (length a.pool.now) ≡ none) × (c.in-Wrote.n ≡ length (line a.«record» a.pool.now))
 measured c =
-    let a = c.before.before.before.before.before.before.args in
-    there (line_refusal a.«record» (length a.pool.now)) (line a.«record» a.pool.now) c.before.measured2.given.0.0
-    (sym (ap told_written c.before.measured2.given.1) ∙ c.before.before.before.measure.ensures)
+    let a = c.args in
+    there (line_refusal a.«record» (length a.pool.now)) (line a.«record» a.pool.now) c.in-Wrote.n
+    (sym (ap told_written c.in-Wrote.is) ∙ c.measure-measured.ensures)
 
-returns : tie.Need-returns
+returns : tie.Need-returns-then-at-out
 returns c =
-    let a = c.before.before.before.before.before.before.before.args in
+    let a = c.args in
     let m = measured c.before in
     full (line_refusal a.«record» (length a.pool.now)) (ended_line a.«record» a.pool.now) a.out.now a.at m.0
     (let l = length-append (line a.«record» a.pool.now) (10 ∷ []) in omega arith)
 
-returns-2 : tie.Need-returns-2
+returns-2 : tie.Need-returns-then-n-out
 returns-2 c =
-    let a = c.before.before.before.before.before.before.before.before.args in
+    let a = c.args in
     let m = measured c.before.before in
     full (line_refusal a.«record» (length a.pool.now)) (ended_line a.«record» a.pool.now) a.out.now a.at m.0
     (let l = length-append (line a.«record» a.pool.now) (10 ∷ []) in omega arith)
 
-put-record-requires : tie.Need-put-record-requires
+put-record-requires : tie.Need-put_record-requires
 put-record-requires c κs = let m = measured c.before.before.before in record { fine = m.0; room = omega arith }
 
-returns-3 : tie.Need-returns-3
+returns-3 : tie.Need-returns-in-Refused
 returns-3 c =
-    let a = c.before.before.before.before.before.before.args in
-    not_there (line_refusal a.«record» (length a.pool.now)) (line a.«record» a.pool.now) (ended_line a.«record» a.pool.now) a.out.now a.at (writer_refusal c.before.decreases.given.0.0)
-    (sym (ap told_written c.before.decreases.given.1) ∙ c.before.before.before.measure.ensures)
+    let a = c.args in
+    not_there (line_refusal a.«record» (length a.pool.now)) (line a.«record» a.pool.now) (ended_line a.«record» a.pool.now) a.out.now a.at (writer_refusal c.in-Refused.e)
+    (sym (ap told_written c.in-Refused.is) ∙ c.measure-measured.ensures)
 
-returns-4 : tie.Need-returns-4
+returns-4 : tie.Need-returns-else-n-out
 returns-4 c =
-    let a = c.before.before.before.before.before.before.before.before.before.before.before.before.args in
+    let a = c.args in
     let m = measured c.before.before.before.before.before.before in
-    let p = c.before.before.put_record in
-    let end = a.at + c.before.before.before.before.before.before.before.measured2.given.0.0 in
+    let p = c.put_record in
+    let end = a.at + c.in-Wrote.n in
     let l = length-append (line a.«record» a.pool.now) (10 ∷ []) in
-    let k = p.auto.1.1.0 in
+    let k = p.auto.out in
     written_there (line_refusal a.«record» (length a.pool.now)) (ended_line a.«record» a.pool.now) a.out.now a.at m.0
-    (end + 1) (set p.new.1.1.0 end 10) (omega arith) (omega arith)
+    (end + 1) (set p.new.out end 10) (omega arith) (omega arith)
     (pasted_more a.out.now a.at (line a.«record» a.pool.now) (omega arith) (10 ∷ []) end p.ensures (omega arith)
-    (pasted_one p.new.1.1.0 end 10 (omega arith)))
+    (pasted_one p.new.out end 10 (omega arith)))
 
 pub write_step_spec : {M : Type 1} → statement M
 write_step_spec =

@@ -5,36 +5,36 @@ use Rattle.chunks.proofs.FirstTests.{small_carry, much_used, big_enough, last_sm
 use Rattle.chunks.proofs.Chunks.last_line.Statement.{statement}
 use Rattle.chunks.proofs.Chunks.last_line.Tie as tie
 
-returns : tie.Need-returns
+returns : tie.Need-returns-then-carry-lt-MOST_KEPT
 returns c =
-    let a = c.before.before.before.args in
+    let a = c.args in
     last_small a.self a.carry.now c.idle.result (small_carry a.self a.carry.now (search rules)) c.idle.ensures
 
-returns-2 : tie.Need-returns-2
+returns-2 : tie.Need-returns-then-self-gt-MOST_KEPT
 returns-2 c =
-    let a = c.before.before.before.before.before.args in
-    last_small a.self a.carry.now c.idle2.result (much_used a.self a.carry.now (search rules)) c.idle2.ensures
+    let a = c.args in
+    last_small a.self a.carry.now c.idle-then-self-gt-MOST_KEPT.result (much_used a.self a.carry.now (search rules)) c.idle-then-self-gt-MOST_KEPT.ensures
 
-returns-3 : tie.Need-returns-3
+returns-3 : tie.Need-returns-then-self
 returns-3 c =
-    let a = c.before.before.before.before.before.before.args in
-    last_done a.self a.carry.now c.idle3.result (big_enough a.self a.carry.now (search rules) (search rules)) c.before.if3.true c.idle3.ensures
+    let a = c.args in
+    last_done a.self a.carry.now c.idle-then-self.result (big_enough a.self a.carry.now (search rules) (search rules)) c.if-self.true c.idle-then-self.ensures
 
-returns-4 : tie.Need-returns-4
+returns-4 : tie.Need-returns-then-used-eq0
 returns-4 c =
-    let a = c.before.before.before.before.before.before.before.before.before.before.before.before.before.args in
-    let w = c.before.before.before.before.before.with-cr in
-    let l = c.before.before.before.before.before.before.left_out in
-    last_none a.self a.carry.now w.result.used w.result.skipped w.new.0 c.before.before.before.before.before.before.before.before.before.before.before.if1.false c.before.before.before.before.before.before.before.before.before.if2.false c.before.before.before.before.before.before.before.before.if3.false (rw l.ensures at w.ensures)
-    c.before.over.result c.idle4.result c.before.before.if4.true c.before.over.ensures c.idle4.ensures
+    let a = c.args in
+    let w = c.with_cr-taken in
+    let l = c.left_out in
+    last_none a.self a.carry.now w.result.used w.result.skipped w.new.carry c.if-carry-lt-MOST_KEPT.false c.if-self-gt-MOST_KEPT.false c.if-self.false (rw l.ensures at w.ensures)
+    c.over.result c.idle-then-used-eq0.result c.if-used-eq0.true c.over.ensures c.idle-then-used-eq0.ensures
 
-returns-5 : tie.Need-returns-5
+returns-5 : tie.Need-returns
 returns-5 c =
-    let a = c.before.before.before.before.before.before.before.before.before.before.before.before.args in
-    let w = c.before.before.before.before.with-cr in
-    let l = c.before.before.before.before.before.left_out in
-    last_found a.self a.carry.now w.result.used w.result.skipped w.new.0 c.before.before.before.before.before.before.before.before.before.before.if1.false c.before.before.before.before.before.before.before.before.if2.false c.before.before.before.before.before.before.before.if3.false (rw l.ensures at w.ensures)
-    c.found.result c.before.if4.false w.auto.0 c.found.ensures
+    let a = c.args in
+    let w = c.with_cr-taken in
+    let l = c.left_out in
+    last_found a.self a.carry.now w.result.used w.result.skipped w.new.carry c.if-carry-lt-MOST_KEPT.false c.if-self-gt-MOST_KEPT.false c.if-self.false (rw l.ensures at w.ensures)
+    c.found.result c.if-used-eq0.false w.auto.carry c.found.ensures
 
 pub last_line_spec : {M : Type 1} → statement M
 last_line_spec =

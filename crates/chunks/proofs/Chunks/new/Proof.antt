@@ -6,7 +6,7 @@ use Rattle.chunks.proofs.Chunks.new.Statement.{statement}
 use Rattle.chunks.proofs.Chunks.new.Tie as tie
 
 returns : tie.Need-returns
-returns c = record { answer = c.new-with-options.ensures.answer ∙ ap new_chunks c.before.default.ensures.answer }
+returns c = record { answer = c.new_with_options.ensures.answer ∙ ap new_chunks c.default.ensures.answer }
 
 pub new_spec : {M : Type 1} → statement M
 new_spec = tie.close (tie.spec (λ c κs. search rules) (λ c κs. search rules) returns)

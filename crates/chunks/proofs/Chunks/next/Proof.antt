@@ -8,68 +8,67 @@ use Rattle.chunks.proofs.Reading.{next_reads}
 use Rattle.chunks.proofs.Chunks.next.Statement.{statement}
 use Rattle.chunks.proofs.Chunks.next.Tie as tie
 
-in_chunk : (c : tie.After-reply) → c.reply.given.0.0 + c.reply.given.0.1.0 ≤ length c.before.before.before.before.before.before.before.before.before.before.args.chunk.now
+in_chunk : (c : tie.In-InChunk-2) → c.in-InChunk.from + c.in-InChunk.len ≤ length c.args.chunk.now
 in_chunk c =
-    let l = c.before.before.before.before.before.next_line in
-    subst (λ (x : LineReply). Inside x c.before.before.before.before.before.before.before.before.before.before.args.chunk.now l.new.1.1.0) c.reply.given.1 l.ensures.inside
+    let l = c.next_line-step in
+    subst (λ (x : LineReply). Inside x c.args.chunk.now l.new.carry) c.in-InChunk.is l.ensures.inside
 
-in_carry : (c : tie.After-reply2) → (c.reply2.given.0.0 ≤ 522) × (c.reply2.given.0.0 ≤ length c.before.before.before.before.before.next_line.new.1.1.0)
+in_carry : (c : tie.In-InCarry-2) → (c.in-InCarry.len ≤ 522) × (c.in-InCarry.len ≤ length c.next_line-step.new.carry)
 in_carry c =
-    let l = c.before.before.before.before.before.next_line in
-    subst (λ (x : LineReply). Inside x c.before.before.before.before.before.before.before.before.before.before.args.chunk.now l.new.1.1.0) c.reply2.given.1 l.ensures.inside
+    let l = c.next_line-step in
+    subst (λ (x : LineReply). Inside x c.args.chunk.now l.new.carry) c.in-InCarry.is l.ensures.inside
 
-add-to : tie.Need-overflow-add-to
+add-to : tie.Need-overflow_add-to
 add-to c = omega (arith, in_chunk c.before)
 
-part-read-record-end : tie.Need-slice-bounds-read-record-end
+part-read-record-end : tie.Need-slice_bounds-read_record-end
 part-read-record-end c = in_chunk c.before
 
-slice-reshare-prefix-read-kept : tie.Need-slice-reshare-prefix-read-kept
+slice-reshare-prefix-read-kept : tie.Need-slice_bounds-read_kept-end
 slice-reshare-prefix-read-kept c = (in_carry c.before).1
 
-slice-aggregate-read-kept : tie.Need-slice-aggregate-read-kept
-slice-aggregate-read-kept c = sym (length-take-le c.before.before.reply2.given.0.0 c.before.before.before.before.before.before.before.next_line.new.1.1.0 (in_carry c.before.before).1)
+slice-aggregate-read-kept : tie.Need-slice_bounds-read_kept-end-in-InCarry
+slice-aggregate-read-kept c = sym (length-take-le c.in-InCarry.len c.next_line-step.new.carry (in_carry c.before).1)
 
-read-kept-requires : tie.Need-read-kept-requires
-read-kept-requires c κs = simp length-take (omega (arith, (in_carry c.before.before.before).0))
+read-kept-requires : tie.Need-read_kept-answer-requires
+read-kept-requires c κs = simp length-take (omega (arith, (in_carry c.before.before).0))
 
-returns : tie.Need-returns
+returns : tie.Need-returns-in-InChunk
 returns c =
-    let a = c.before.before.before.before.before.before.before.before.before.before.before.before.before.before.before.before.before.args in
-    let l = c.before.before.before.before.before.before.before.before.before.before.before.before.next_line in
-    let g = c.before.before.before.before.before.before.before.reply.given in
-    let q = c.before.before.before.read-record in
-    next_reads a.self a.chunk.now a.carry.now a.pool.now a.at l.result c.settle.result l.new.1.1.0 q.new.1.0 l.ensures
-    (rw g.1 (q.result, rw (part_is a.chunk.now g.0.0 g.0.1.0) at q.ensures, c.settle.ensures))
+    let a = c.args in
+    let l = c.next_line-step in
+    let q = c.read_record-answer in
+    next_reads a.self a.chunk.now a.carry.now a.pool.now a.at l.result c.settle.result l.new.carry q.new.pool l.ensures
+    (rw c.in-InChunk.is (q.result, rw (part_is a.chunk.now c.in-InChunk.from c.in-InChunk.len) at q.ensures, c.settle.ensures))
 
-returns-2 : tie.Need-returns-2
+returns-2 : tie.Need-returns-in-InCarry
 returns-2 c =
-    let a = c.before.before.before.before.before.before.before.before.before.before.before.before.before.before.before.before.before.args in
-    let l = c.before.before.before.before.before.before.before.before.before.before.before.before.next_line in
-    let q = c.before.before.before.read_kept in
-    next_reads a.self a.chunk.now a.carry.now a.pool.now a.at l.result c.settle2.result l.new.1.1.0 q.new.1.1.0 l.ensures
-    (rw c.before.before.before.before.before.before.before.reply2.given.1 (q.result, q.ensures, c.settle2.ensures))
+    let a = c.args in
+    let l = c.next_line-step in
+    let q = c.read_kept-answer in
+    next_reads a.self a.chunk.now a.carry.now a.pool.now a.at l.result c.settle-in-InCarry.result l.new.carry q.new.pool l.ensures
+    (rw c.in-InCarry.is (q.result, q.ensures, c.settle-in-InCarry.ensures))
 
-returns-3 : tie.Need-returns-3
+returns-3 : tie.Need-returns-in-UsedUp
 returns-3 c =
-    let a = c.before.before.before.before.before.before.before.before.before.before.before.args in
-    let l = c.before.before.before.before.before.before.next_line in
-    next_reads a.self a.chunk.now a.carry.now a.pool.now a.at l.result c.plain.result l.new.1.1.0 a.pool.now l.ensures
-    (rw c.before.enum_told.given.1 (c.plain.ensures, refl))
+    let a = c.args in
+    let l = c.next_line-step in
+    next_reads a.self a.chunk.now a.carry.now a.pool.now a.at l.result c.plain.result l.new.carry a.pool.now l.ensures
+    (rw c.in-UsedUp.is (c.plain.ensures, refl))
 
-returns-4 : tie.Need-returns-4
+returns-4 : tie.Need-returns-in-Done
 returns-4 c =
-    let a = c.before.before.before.before.before.before.before.before.before.before.before.args in
-    let l = c.before.before.before.before.before.before.next_line in
-    next_reads a.self a.chunk.now a.carry.now a.pool.now a.at l.result c.plain2.result l.new.1.1.0 a.pool.now l.ensures
-    (rw c.before.enum-told2.given.1 (c.plain2.ensures, refl))
+    let a = c.args in
+    let l = c.next_line-step in
+    next_reads a.self a.chunk.now a.carry.now a.pool.now a.at l.result c.plain-in-Done.result l.new.carry a.pool.now l.ensures
+    (rw c.in-Done.is (c.plain-in-Done.ensures, refl))
 
-returns-5 : tie.Need-returns-5
+returns-5 : tie.Need-returns-in-CarryTooSmall
 returns-5 c =
-    let a = c.before.before.before.before.before.before.before.before.before.before.before.args in
-    let l = c.before.before.before.before.before.before.next_line in
-    next_reads a.self a.chunk.now a.carry.now a.pool.now a.at l.result c.plain3.result l.new.1.1.0 a.pool.now l.ensures
-    (rw c.before.enum-told3.given.1 (c.plain3.ensures, refl))
+    let a = c.args in
+    let l = c.next_line-step in
+    next_reads a.self a.chunk.now a.carry.now a.pool.now a.at l.result c.plain-in-CarryTooSmall.result l.new.carry a.pool.now l.ensures
+    (rw c.in-CarryTooSmall.is (c.plain-in-CarryTooSmall.ensures, refl))
 
 pub next_spec : {M : Type 1} → statement M
 next_spec =

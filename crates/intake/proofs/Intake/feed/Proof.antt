@@ -11,53 +11,53 @@ use Rattle.intake.proofs.Feeding.{spoilt_small, spoilt_used, sound, stands_under
 use Rattle.intake.proofs.Intake.feed.Statement.{statement}
 use Rattle.intake.proofs.Intake.feed.Tie as tie
 
-returns : tie.Need-returns
+returns : tie.Need-returns-then-carry-lt-MOST_KEPT
 returns c =
-    let a = c.before.before.before.before.before.args in
-    feeds_small a.self a.chunk.now a.carry.now a.first a.stage.now a.stated.now (spoilt_small a.self a.carry.now c.if1.true)
+    let a = c.args in
+    feeds_small a.self a.chunk.now a.carry.now a.first a.stage.now a.stated.now (spoilt_small a.self a.carry.now c.if-carry-lt-MOST_KEPT.true)
 
-returns-2 : tie.Need-returns-2
+returns-2 : tie.Need-returns-then-self-gt-MOST_KEPT
 returns-2 c =
-    let a = c.before.before.before.before.before.before.before.args in
-    feeds_small a.self a.chunk.now a.carry.now a.first a.stage.now a.stated.now (spoilt_used a.self a.carry.now c.if2.true)
+    let a = c.args in
+    feeds_small a.self a.chunk.now a.carry.now a.first a.stage.now a.stated.now (spoilt_used a.self a.carry.now c.if-self-gt-MOST_KEPT.true)
 
-returns-3 : tie.Need-returns-3
+returns-3 : tie.Need-returns-then-is_unfit
 returns-3 c =
-    let a = c.before.before.before.before.before.before.before.before.before.args in
-    feeds_bad a.self a.chunk.now a.carry.now a.first a.stage.now a.stated.now (sound a.self a.carry.now c.before.before.before.before.if1.false c.before.before.if2.false) (sym c.before.is-unfit.ensures.answer ∙ c.if3.true)
+    let a = c.args in
+    feeds_bad a.self a.chunk.now a.carry.now a.first a.stage.now a.stated.now (sound a.self a.carry.now c.if-carry-lt-MOST_KEPT.false c.if-self-gt-MOST_KEPT.false) (sym c.is_unfit.ensures.answer ∙ c.if-is_unfit.true)
 
 -- the state and its carry are sound, and so is the window
-fit : (c : tie.Else3) → let a = c.before.before.before.before.before.before.before.before.before.args in (spoilt a.self a.carry.now ≡ false) × (unfit a.first (length a.stage.now) (length a.stated.now) ≡ false)
-fit c = let a = c.before.before.before.before.before.before.before.before.before.args in (sound a.self a.carry.now c.before.before.before.before.if1.false c.before.before.if2.false, sym c.before.is-unfit.ensures.answer ∙ c.if3.false)
+fit : (c : tie.Else-is_unfit) → let a = c.args in (spoilt a.self a.carry.now ≡ false) × (unfit a.first (length a.stage.now) (length a.stated.now) ≡ false)
+fit c = let a = c.args in (sound a.self a.carry.now c.if-carry-lt-MOST_KEPT.false c.if-self-gt-MOST_KEPT.false, sym c.is_unfit.ensures.answer ∙ c.if-is_unfit.false)
 
-take-all-requires : tie.Need-take-all-requires
+take-all-requires : tie.Need-take_all-requires
 take-all-requires c κs =
-    let a = c.before.before.before.before.before.before.before.before.before.before.before.before.before.args in (
-      subst (λ (w : Walk). UnderWay w.reader a.carry.now) (sym c.before.before.before.stand.ensures) (stands_under_way a.self a.carry.now c.before.before.before.before.before.before.before.before.if1.false c.before.before.before.before.before.before.if2.false),
+    let a = c.args in (
+      subst (λ (w : Walk). UnderWay w.reader a.carry.now) (sym c.stand.ensures) (stands_under_way a.self a.carry.now c.if-carry-lt-MOST_KEPT.false c.if-self-gt-MOST_KEPT.false),
       (fit c.before.before.before.before).1,
     )
 
-returns-4 : tie.Need-returns-4
+returns-4 : tie.Need-returns-in-UsedUp
 returns-4 c =
-    let a = c.before.before.before.before.before.before.before.before.before.before.before.before.before.before.before.before.before.before.before.before.before.before.before.before.args in
+    let a = c.args in
     let f = fit c.before.before.before.before.before.before.before.before.before.before.before.before.before.before.before in
-    let t = c.before.before.before.before.before.before.before.before.before.before.take_all in
-    subst (λ (s : Intake). Feeds a.self a.chunk.now a.carry.now a.first a.stage.now a.stated.now (WantsMore s) t.new.1.1.1.0 t.new.1.1.1.1.1.0 t.new.1.1.1.1.1.1.0) (sym c.pause.ensures)
-    (feeds_up a.self a.chunk.now a.carry.now a.first a.stage.now a.stated.now f.0 f.1 t.result _ _ _ (rw c.before.before.before.before.before.before.before.before.before.before.before.before.before.before.stand.ensures at t.ensures) t.auto.1.1.1.0 c.before.before.w.given.0.0 c.before.before.w.given.1)
+    let t = c.take_all in
+    subst (λ (s : Intake). Feeds a.self a.chunk.now a.carry.now a.first a.stage.now a.stated.now (WantsMore s) t.new.carry t.new.page t.new.marks) (sym c.pause.ensures)
+    (feeds_up a.self a.chunk.now a.carry.now a.first a.stage.now a.stated.now f.0 f.1 t.result _ _ _ (rw c.stand.ensures at t.ensures) t.auto.carry c.in-UsedUp.w c.in-UsedUp.is)
 
-returns-5 : tie.Need-returns-5
+returns-5 : tie.Need-returns-in-On
 returns-5 c =
-    let a = c.before.before.before.before.before.before.before.before.before.before.before.before.before.before.before.before.before.before.before.before.before.before.before.before.args in
+    let a = c.args in
     let f = fit c.before.before.before.before.before.before.before.before.before.before.before.before.before.before.before in
-    let t = c.before.before.before.before.before.before.before.before.before.before.take_all in
-    absurd (never_on a.self a.chunk.now a.carry.now a.first a.stage.now a.stated.now f.0 f.1 t.result _ _ _ (rw c.before.before.before.before.before.before.before.before.before.before.before.before.before.before.stand.ensures at t.ensures) c.before.before.w2.given.0.0 c.before.before.w2.given.1)
+    let t = c.take_all in
+    absurd (never_on a.self a.chunk.now a.carry.now a.first a.stage.now a.stated.now f.0 f.1 t.result _ _ _ (rw c.stand.ensures at t.ensures) c.in-On.w c.in-On.is)
 
-returns-6 : tie.Need-returns-6
+returns-6 : tie.Need-returns-in-Stop
 returns-6 c =
-    let a = c.before.before.before.before.before.before.before.before.before.before.before.before.before.before.before.before.before.before.before.before.before.before.before.args in
+    let a = c.args in
     let f = fit c.before.before.before.before.before.before.before.before.before.before.before.before.before.before in
-    let t = c.before.before.before.before.before.before.before.before.before.take_all in
-    feeds_stop a.self a.chunk.now a.carry.now a.first a.stage.now a.stated.now f.0 f.1 t.result _ _ _ (rw c.before.before.before.before.before.before.before.before.before.before.before.before.before.stand.ensures at t.ensures) _ _ c.before.answer.given.1
+    let t = c.take_all in
+    feeds_stop a.self a.chunk.now a.carry.now a.first a.stage.now a.stated.now f.0 f.1 t.result _ _ _ (rw c.stand.ensures at t.ensures) _ _ c.in-Stop.is
 
 pub feed_spec : {M : Type 1} → statement M
 feed_spec =

@@ -8,36 +8,36 @@ use Rattle.intake.proofs.Finishing.{finishes_small, finishes_bad, finishes_so}
 use Rattle.intake.proofs.Intake.finish.Statement.{statement}
 use Rattle.intake.proofs.Intake.finish.Tie as tie
 
-returns : tie.Need-returns
+returns : tie.Need-returns-then-carry-lt-MOST_KEPT
 returns c =
-    let a = c.before.before.before.before.args in
-    finishes_small a.self a.carry.now a.first a.stage.now a.stated.now (spoilt_small a.self a.carry.now c.if1.true)
+    let a = c.args in
+    finishes_small a.self a.carry.now a.first a.stage.now a.stated.now (spoilt_small a.self a.carry.now c.if-carry-lt-MOST_KEPT.true)
 
-returns-2 : tie.Need-returns-2
+returns-2 : tie.Need-returns-then-self-gt-MOST_KEPT
 returns-2 c =
-    let a = c.before.before.before.before.before.before.args in
-    finishes_small a.self a.carry.now a.first a.stage.now a.stated.now (spoilt_used a.self a.carry.now c.if2.true)
+    let a = c.args in
+    finishes_small a.self a.carry.now a.first a.stage.now a.stated.now (spoilt_used a.self a.carry.now c.if-self-gt-MOST_KEPT.true)
 
-returns-3 : tie.Need-returns-3
+returns-3 : tie.Need-returns-then-is_unfit
 returns-3 c =
-    let a = c.before.before.before.before.before.before.before.before.args in
-    finishes_bad a.self a.carry.now a.first a.stage.now a.stated.now (sound a.self a.carry.now c.before.before.before.before.if1.false c.before.before.if2.false)
-    (sym c.before.is-unfit.ensures.answer ∙ c.if3.true)
+    let a = c.args in
+    finishes_bad a.self a.carry.now a.first a.stage.now a.stated.now (sound a.self a.carry.now c.if-carry-lt-MOST_KEPT.false c.if-self-gt-MOST_KEPT.false)
+    (sym c.is_unfit.ensures.answer ∙ c.if-is_unfit.true)
 
 -- the state and its carry are sound, and so is the window
-fit : (c : tie.Else3) → let a = c.before.before.before.before.before.before.before.before.args in (spoilt a.self a.carry.now ≡ false) × (unfit a.first (length a.stage.now) (length a.stated.now) ≡ false)
+fit : (c : tie.Else-is_unfit) → let a = c.args in (spoilt a.self a.carry.now ≡ false) × (unfit a.first (length a.stage.now) (length a.stated.now) ≡ false)
 fit c =
-    let a = c.before.before.before.before.before.before.before.before.args in
-    (sound a.self a.carry.now c.before.before.before.before.if1.false c.before.before.if2.false, sym c.before.is-unfit.ensures.answer ∙ c.if3.false)
+    let a = c.args in
+    (sound a.self a.carry.now c.if-carry-lt-MOST_KEPT.false c.if-self-gt-MOST_KEPT.false, sym c.is_unfit.ensures.answer ∙ c.if-is_unfit.false)
 
-take-last-requires : tie.Need-take-last-requires
+take-last-requires : tie.Need-take_last-requires
 take-last-requires c κs = fit c.before.before.before
 
-returns-4 : tie.Need-returns-4
+returns-4 : tie.Need-returns
 returns-4 c =
-    let a = c.before.before.before.before.before.before.before.before.before.before.before.before.before.before.before.before.before.before.args in
+    let a = c.args in
     let f = fit c.before.before.before.before.before.before.before.before.before.before in
-    let t = c.before.before.before.before.before.before.take_last in
+    let t = c.take_last in
     finishes_so a.self a.carry.now a.first a.stage.now a.stated.now f.0 f.1 t.result _ _ _ t.ensures
 
 pub finish_spec : {M : Type 1} → statement M

@@ -10,31 +10,29 @@ use Rattle.light.proofs.Light.after.Statement.{statement}
 use Rattle.light.proofs.Light.after.Tie as tie
 
 -- the marks go with the answer
-went : (c : tie.Else2) → let a = c.before.before.before.before.before.before.args in goes_with (told_loading a.answer) (length a.page.now) a.marks.now ≡ true
-went c = let m = c.before.goes_with in sym m.ensures.answer_is ∙ not-false m.result c.if2.false
+went : (c : tie.Else-not-goes_with) → let a = c.args in goes_with (told_loading a.answer) (length a.page.now) a.marks.now ≡ true
+went c = let m = c.goes_with in sym m.ensures.answer_is ∙ not-false m.result c.if-not-goes_with.false
 
-returns : tie.Need-returns
+returns : tie.Need-returns-then-page-self
 returns c =
-    let a = c.before.before.before.before.before.args in
+    let a = c.args in
     subst (λ (r : Dumped). After a.self a.answer a.page.now a.marks.now r) (sym c.misfit.ensures)
-    (after_other_length a.self a.answer a.page.now a.marks.now c.before.if1.true)
+    (after_other_length a.self a.answer a.page.now a.marks.now c.if-page-self.true)
 
-returns-2 : tie.Need-returns-2
+returns-2 : tie.Need-returns-then-not-goes_with
 returns-2 c =
-    let t = c.before in
-    let a = t.before.before.before.before.before.before.args in
-    let m = t.before.goes_with in
-    subst (λ (r : Dumped). After a.self a.answer a.page.now a.marks.now r) (sym c.misfit2.ensures)
-    (after_other_marks a.self a.answer a.page.now a.marks.now t.before.before.if1.false (sym m.ensures.answer_is ∙ not-true m.result t.if2.true))
+    let a = c.args in
+    let m = c.goes_with in
+    subst (λ (r : Dumped). After a.self a.answer a.page.now a.marks.now r) (sym c.misfit-then-not-goes_with.ensures)
+    (after_other_marks a.self a.answer a.page.now a.marks.now c.if-page-self.false (sym m.ensures.answer_is ∙ not-true m.result c.if-not-goes_with.true))
 
 tell-requires : tie.Need-tell-requires
-tell-requires c κs = let a = c.before.before.before.before.before.before.args in goes_held a.answer a.page.now a.marks.now (went c)
+tell-requires c κs = let a = c.args in goes_held a.answer a.page.now a.marks.now (went c)
 
-returns-3 : tie.Need-returns-3
+returns-3 : tie.Need-returns
 returns-3 c =
-    let e = c.before in
-    let a = e.before.before.before.before.before.before.args in
-    after_told a.self a.answer a.page.now a.marks.now e.before.before.if1.false (went e) c.tell.result c.tell.ensures
+    let a = c.args in
+    after_told a.self a.answer a.page.now a.marks.now c.if-page-self.false (went c.before) c.tell.result c.tell.ensures
 
 pub after_spec : {M : Type 1} → statement M
 after_spec = tie.close (tie.spec (λ c κs. search rules) returns (λ c κs. search rules) (λ c κs. search rules) returns-2 tell-requires returns-3)

@@ -8,24 +8,22 @@ use Rattle.light.proofs.Telling.{dumps_misfit, held, dumps_told}
 use Rattle.light.proofs.Light.dump.Statement.{statement}
 use Rattle.light.proofs.Light.dump.Tie as tie
 
-returns : tie.Need-returns
+returns : tie.Need-returns-then-page-self
 returns c =
-    let a = c.before.before.before.before.before.before.args in
+    let a = c.args in
     subst (λ (r : Dumped). Dumps intel a.self a.text.now a.page.now a.marks.now r a.page.now a.marks.now) (sym c.misfit.ensures)
-    (dumps_misfit intel a.self a.text.now a.page.now a.marks.now c.before.if1.true)
+    (dumps_misfit intel a.self a.text.now a.page.now a.marks.now c.if-page-self.true)
 
 tell-requires : tie.Need-tell-requires
 tell-requires c κs =
-    let l = c.before.before.before.before.before.before in
-    let a = l.before.before.before.before.before.before.before.before.args in
-    held intel a.self a.text.now a.page.now a.marks.now l.load.result l.load.new.1.1.0 l.load.new.1.1.1.0 l.load.ensures
+    let a = c.args in
+    held intel a.self a.text.now a.page.now a.marks.now c.load-answer.result c.load-answer.new.page c.load-answer.new.marks c.load-answer.ensures
 
-returns-2 : tie.Need-returns-2
+returns-2 : tie.Need-returns
 returns-2 c =
-    let l = c.before.before.before.before.before.before.before in
-    let a = l.before.before.before.before.before.before.before.before.args in
-    dumps_told intel a.self a.text.now a.page.now a.marks.now l.load.result l.load.new.1.1.0 l.load.new.1.1.1.0 l.load.ensures
-    l.before.before.before.if1.false c.tell.result c.tell.ensures
+    let a = c.args in
+    dumps_told intel a.self a.text.now a.page.now a.marks.now c.load-answer.result c.load-answer.new.page c.load-answer.new.marks c.load-answer.ensures
+    c.if-page-self.false c.tell.result c.tell.ensures
 
 pub dump_spec : {M : Type 1} → statement M
 dump_spec =

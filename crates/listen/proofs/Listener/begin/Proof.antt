@@ -7,11 +7,11 @@ use Rattle.listen.specs.declared.Listener.TheVariants.{Within}
 use Rattle.listen.proofs.Listener.begin.Statement.{statement}
 use Rattle.listen.proofs.Listener.begin.Tie as tie
 
-returns : tie.Need-returns
-returns c = record { answer = sym (if_true _ _ _ c.if1.true) }
+returns : tie.Need-returns-then-known
+returns c = record { answer = sym (if_true _ _ _ c.if-known.true) }
 
-returns-2 : tie.Need-returns-2
-returns-2 c = record { answer = ap Within c.begin-tail.ensures.answer ∙ sym (if_false _ _ _ c.before.if1.false) }
+returns-2 : tie.Need-returns
+returns-2 c = record { answer = ap Within c.begin_tail.ensures.answer ∙ sym (if_false _ _ _ c.if-known.false) }
 
 pub begin_spec : {M : Type 1} → statement M
 begin_spec = tie.close (tie.spec returns (λ c κs. search rules) returns-2)

@@ -7,31 +7,27 @@ use Rattle.listen.proofs.Pausing.{committed_so, not_ready_front, not_ready_withi
 use Rattle.listen.proofs.Listener.commit.Statement.{statement}
 use Rattle.listen.proofs.Listener.commit.Tie as tie
 
-returns : tie.Need-returns
+returns : tie.Need-returns-then-commit
 returns c =
-    let a = c.before.before.before.before.before.before.before.before.before.before.before.before.before.before.before.args in
-    let k = c.before.before.before.before.before.before.before.before.before.self.given in
-    let t = c.before.before.before.before.before.commit in
-    committed_so a.stage.now a.stated.now a.page.now a.marks.now a.self k.0.0 k.1 t.result _ _ t.ensures _ (sym (if_true _ _ _ c.if1.true))
+    let a = c.args in
+    let t = c.commit in
+    committed_so a.stage.now a.stated.now a.page.now a.marks.now a.self c.in-Ready.kind c.in-Ready.is t.result _ _ t.ensures _ (sym (if_true _ _ _ c.if-commit.true))
 
-returns-2 : tie.Need-returns-2
+returns-2 : tie.Need-returns-in-Front
 returns-2 c =
-    let a = c.before.before.before.before.before.before.args in
-    let k = c.enum_told.given in
-    not_ready_front a.stage.now a.stated.now a.page.now a.marks.now a.self k.0.0 k.0.1.0 k.1
+    let a = c.args in
+    not_ready_front a.stage.now a.stated.now a.page.now a.marks.now a.self c.in-Front.field-0 c.in-Front.field-1 c.in-Front.is
 
-returns-3 : tie.Need-returns-3
+returns-3 : tie.Need-returns-in-Within
 returns-3 c =
-    let a = c.before.before.before.before.before.before.args in
-    let k = c.enum-told2.given in
-    not_ready_within a.stage.now a.stated.now a.page.now a.marks.now a.self k.0.0 k.1
+    let a = c.args in
+    not_ready_within a.stage.now a.stated.now a.page.now a.marks.now a.self c.in-Within.field-0 c.in-Within.is
 
-returns-4 : tie.Need-returns-4
+returns-4 : tie.Need-returns-else-commit
 returns-4 c =
-    let a = c.before.before.before.before.before.before.before.before.before.before.before.before.before.before.before.args in
-    let k = c.before.before.before.before.before.before.before.before.before.self.given in
-    let t = c.before.before.before.before.before.commit in
-    committed_so a.stage.now a.stated.now a.page.now a.marks.now a.self k.0.0 k.1 t.result _ _ t.ensures _ (sym (if_false _ _ _ c.if1.false))
+    let a = c.args in
+    let t = c.commit in
+    committed_so a.stage.now a.stated.now a.page.now a.marks.now a.self c.in-Ready.kind c.in-Ready.is t.result _ _ t.ensures _ (sym (if_false _ _ _ c.if-commit.false))
 
 pub commit_spec : {M : Type 1} → statement M
 commit_spec =

@@ -7,23 +7,23 @@ use Rattle.listen.specs.Listener.{Hears}
 use Rattle.listen.proofs.Listener.feed.Statement.{statement}
 use Rattle.listen.proofs.Listener.feed.Tie as tie
 
-returns : tie.Need-returns
+returns : tie.Need-returns-in-Front
 returns c =
-    let a = c.before.before.before.before.before.before.before.before.before.before.before.before.before.before.before.before.before.args in
-    let f = c.before.before.before.before.before.before.feed-new in
-    subst (λ (l : Listener). Hears l a.chunk.now a.carry.now a.first a.stage.now a.stated.now f.result f.new.1.1.1.1.0 f.new.1.1.1.1.1.1.0 f.new.1.1.1.1.1.1.1.0) (sym c.before.before.before.before.before.before.before.before.before.before.before.self.given.1) f.ensures
+    let a = c.args in
+    let f = c.feed_new in
+    subst (λ (l : Listener). Hears l a.chunk.now a.carry.now a.first a.stage.now a.stated.now f.result f.new.carry f.new.stage f.new.stated) (sym c.in-Front.is) f.ensures
 
-returns-2 : tie.Need-returns-2
+returns-2 : tie.Need-returns-in-Within
 returns-2 c =
-    let a = c.before.before.before.before.before.before.before.before.before.before.before.before.before.before.before.before.before.args in
-    let f = c.before.before.before.before.before.before.feed-within in
-    subst (λ (l : Listener). Hears l a.chunk.now a.carry.now a.first a.stage.now a.stated.now f.result f.new.1.1.0 f.new.1.1.1.1.0 f.new.1.1.1.1.1.0) (sym c.before.before.before.before.before.before.before.before.before.before.before.self2.given.1) f.ensures
+    let a = c.args in
+    let f = c.feed_within in
+    subst (λ (l : Listener). Hears l a.chunk.now a.carry.now a.first a.stage.now a.stated.now f.result f.new.carry f.new.stage f.new.stated) (sym c.in-Within.is) f.ensures
 
-returns-3 : tie.Need-returns-3
+returns-3 : tie.Need-returns-in-Ready
 returns-3 c =
-    let a = c.before.before.before.before.before.before.before.before.before.before.before.before.before.before.before.before.before.args in
-    let f = c.before.before.before.before.before.before.feed-new2 in
-    subst (λ (l : Listener). Hears l a.chunk.now a.carry.now a.first a.stage.now a.stated.now f.result f.new.1.1.1.1.0 f.new.1.1.1.1.1.1.0 f.new.1.1.1.1.1.1.1.0) (sym c.before.before.before.before.before.before.before.before.before.before.before.self3.given.1) f.ensures
+    let a = c.args in
+    let f = c.feed_new-in-Ready in
+    subst (λ (l : Listener). Hears l a.chunk.now a.carry.now a.first a.stage.now a.stated.now f.result f.new.carry f.new.stage f.new.stated) (sym c.in-Ready.is) f.ensures
 
 pub feed_spec : {M : Type 1} → statement M
 feed_spec =

@@ -4,14 +4,14 @@ use Rattle.std.proofs.Common.{refl, rules}
 use Rattle.reader.proofs.ReaderError.figures.Statement.{statement}
 use Rattle.reader.proofs.ReaderError.figures.Tie as tie
 
-returns-2 : tie.Need-returns-2
-returns-2 c = rw c.before.self.given.1 (record { number_is = refl; values_are = refl })
+returns-2 : tie.Need-returns-in-ContainsInvalidCharacters
+returns-2 c = rw c.in-ContainsInvalidCharacters.is (record { number_is = refl; values_are = refl })
 
-returns-6 : tie.Need-returns-6
-returns-6 c = rw c.before.self2.given.1 (record { number_is = refl; values_are = refl })
+returns-6 : tie.Need-returns-in-ChecksumMismatch
+returns-6 c = rw c.in-ChecksumMismatch.is (record { number_is = refl; values_are = refl })
 
-returns-8 : tie.Need-returns-8
-returns-8 c = rw c.before.self3.given.1 (record { number_is = refl; values_are = refl })
+returns-8 : tie.Need-returns-in-UnsupportedRecordType
+returns-8 c = rw c.in-UnsupportedRecordType.is (record { number_is = refl; values_are = refl })
 
 pub figures_spec : {M : Type 1} → statement M
 figures_spec =

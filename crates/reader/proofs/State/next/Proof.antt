@@ -9,46 +9,41 @@ use Rattle.reader.proofs.State.next.Statement.{statement}
 use Rattle.reader.proofs.State.next.Tie as tie
 
 -- where the line lies that was found
-spotted : (c : tie.After-from)
-    → let s = c.before.before.before.before.before.before in
-    let g = c.from.given.0 in
-    Ahead s.args.text.now s.args.self.position g.0 g.1.0 g.1.1.0 g.1.1.1.0
+spotted : (c : tie.In-At-2)
+    →    Ahead c.args.text.now c.args.self.position c.in-At.from c.in-At.len c.in-At.next c.in-At.empties
 spotted c =
-    let s = c.before.before.before.before.before.before in
-    subst (λ (x : Spot). Spotted s.args.text.now s.args.self.position x) c.from.given.1 c.before.before.find-line.ensures
+    subst (λ (x : Spot). Spotted c.args.text.now c.args.self.position x) c.in-At.is c.find_line.ensures
 
-returns : tie.Need-returns
+returns : tie.Need-returns-then-self
 returns c =
-    let a = c.before.before.before.args in
-    next_finished a.self a.text.now a.pool.now a.at c.if1.true
+    let a = c.args in
+    next_finished a.self a.text.now a.pool.now a.at c.if-self.true
 
-add-end : tie.Need-overflow-add-end
+add-end : tie.Need-overflow_add-end
 add-end c = omega (arith, (spotted c.before).inside)
 
-add-wrapping-add-usize : tie.Need-overflow-add-wrapping-add-usize
+add-wrapping-add-usize : tie.Need-overflow_add-empties
 add-wrapping-add-usize c = omega (arith, (spotted c.before).small)
 
-part-read-record-end : tie.Need-slice-bounds-read-record-end
+part-read-record-end : tie.Need-slice_bounds-read_record-end
 part-read-record-end c = (spotted c.before.before).inside
 
-returns-2 : tie.Need-returns-2
+returns-2 : tie.Need-returns-in-Nothing
 returns-2 c =
-    let a = c.before.before.before.before.before.before.before.args in
-    let f = c.before.before.before.find-line in
-    let none = subst (λ (x : Spot). Spotted a.text.now a.self.position x) c.before.enum_told.given.1 f.ensures in
-    next_none a.self a.text.now a.pool.now a.at none.0 c.before.before.before.before.if1.false none.1 c.at_end.result c.at_end.ensures
+    let a = c.args in
+    let f = c.find_line in
+    let none = subst (λ (x : Spot). Spotted a.text.now a.self.position x) c.in-Nothing.is f.ensures in
+    next_none a.self a.text.now a.pool.now a.at none.0 c.if-self.false none.1 c.at_end.result c.at_end.ensures
 
-returns-3 : tie.Need-returns-3
+returns-3 : tie.Need-returns-in-At
 returns-3 c =
-    let a = c.before.before.before.before.before.before.before.before.before.before.before.before.before.before.args in
-    let f = c.before.before.before.before.before.before.before.before in
-    let g = f.from.given.0 in
-    let r = c.before.before.before.read-record in
-    let n : g.0 + g.1.0 - g.0 ≡ g.1.0 = omega arith in
-    next_read a.self a.text.now a.pool.now a.at g.0 g.1.0 g.1.1.0 g.1.1.1.0
-    f.before.before.before.if1.false (spotted f) r.result r.new.1.0
-    (subst (λ (k : ℕ). ReadRecord (take k (drop g.0 a.text.now)) a.pool.now a.at r.result r.new.1.0) n r.ensures)
-    c.before.before.before.before.before.before.wrapping-add-usize.result c.before.before.before.before.before.before.wrapping-add-usize.ensures
+    let a = c.args in
+    let r = c.read_record-answer in
+    let n : c.in-At.from + c.in-At.len - c.in-At.from ≡ c.in-At.len = omega arith in
+    next_read a.self a.text.now a.pool.now a.at c.in-At.from c.in-At.len c.in-At.next c.in-At.empties
+    c.if-self.false (spotted c.before.before.before.before.before.before.before.before) r.result r.new.pool
+    (subst (λ (k : ℕ). ReadRecord (take k (drop c.in-At.from a.text.now)) a.pool.now a.at r.result r.new.pool) n r.ensures)
+    c.wrapping_add_usize-line.result c.wrapping_add_usize-line.ensures
     c.settle.result c.settle.ensures
 
 pub next_spec : {M : Type 1} → statement M

@@ -5,11 +5,11 @@ use borrow.Author.Rules.{rules}
 use Rattle.salvage.proofs.Spare.with_entry.Statement.{statement}
 use Rattle.salvage.proofs.Spare.with_entry.Tie as tie
 
-returns : tie.Need-returns
-returns c = entry_short c.before.before.args.self c.if1.true
+returns : tie.Need-returns-then-self-eq0
+returns c = entry_short c.args.self c.if-self-eq0.true
 
-returns-2 : tie.Need-returns-2
-returns-2 c = entry_fits c.before.before.before.args.self c.before.if1.false
+returns-2 : tie.Need-returns
+returns-2 c = entry_fits c.args.self c.if-self-eq0.false
 
 pub with_entry_spec : {M : Type 1} → statement M
 with_entry_spec =

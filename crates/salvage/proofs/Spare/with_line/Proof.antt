@@ -6,11 +6,11 @@ use borrow.Author.Rules.{rules}
 use Rattle.salvage.proofs.Spare.with_line.Statement.{statement}
 use Rattle.salvage.proofs.Spare.with_line.Tie as tie
 
-returns : tie.Need-returns
-returns c = line_full c.before.before.args.self c.before.before.args.n c.if1.true
+returns : tie.Need-returns-then-n-self
+returns c = line_full c.args.self c.args.n c.if-n-self.true
 
-returns-2 : tie.Need-returns-2
-returns-2 c = line_fits c.before.before.before.args.self c.before.before.before.args.n (omega (arith, c.before.if1.false))
+returns-2 : tie.Need-returns
+returns-2 c = line_fits c.args.self c.args.n (omega (arith, c.if-n-self.false))
 
 pub with_line_spec : {M : Type 1} → statement M
 with_line_spec =

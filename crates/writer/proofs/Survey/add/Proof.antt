@@ -7,9 +7,9 @@ use Rattle.writer.proofs.Survey.add.Tie as tie
 returns : tie.Need-returns
 returns c =
     record {
-      ends = rw (← c.before.before.before.is_end.ensures) c.before.before.counted.ensures;
-      ended = c.before.before.before.is_end.ensures;
-      total = rw (← c.before.measure.ensures) c.longer.ensures;
+      ends = rw (← c.is_end-end.ensures) c.counted-ends.ensures;
+      ended = c.is_end-end.ensures;
+      total = rw (← c.measure.ensures) c.longer-total.ensures;
     }
 
 pub add_spec : {M : Type 1} → statement M

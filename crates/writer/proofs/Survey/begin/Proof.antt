@@ -6,11 +6,11 @@ use Rattle.writer.specs.Survey.{begun}
 use Rattle.writer.proofs.Survey.begin.Statement.{statement}
 use Rattle.writer.proofs.Survey.begin.Tie as tie
 
-returns : tie.Need-returns
-returns c = record { answer = ap begun (sym (ap told_written c.before.why.given.1) ∙ c.before.before.before.answer.ensures.answer) }
+returns : tie.Need-returns-in-Refused
+returns c = record { answer = ap begun (sym (ap told_written c.in-Refused.is) ∙ c.answer.ensures.answer) }
 
-returns-2 : tie.Need-returns-2
-returns-2 c = record { answer = ap begun (sym (ap told_written c.enum_told.given.1) ∙ c.before.before.answer.ensures.answer) }
+returns-2 : tie.Need-returns-in-Wrote
+returns-2 c = record { answer = ap begun (sym (ap told_written c.in-Wrote.is) ∙ c.answer.ensures.answer) }
 
 pub begin_spec : {M : Type 1} → statement M
 begin_spec = tie.close (tie.spec (λ c κs. search rules) (λ c. search rules) (λ c. search rules) returns returns-2)
