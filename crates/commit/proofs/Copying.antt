@@ -104,7 +104,7 @@ module _ (stage page : List ℕ) (start end : ℕ) (l : start ≤ end) (u : end 
   ends = omega (arith, part_length stage start (end - start) (omega arith))
 
   -- the part of the page that was lent and filled, in the page
-  pub run_copied : (part : List ℕ) → part ≡ take (length bytes) bytes ++ drop (length bytes) lent
+  pub run_copied : (part : List ℕ) → part ≡ bytes ++ drop (length bytes) lent
       → Copied bytes start page (take start page ++ (part ++ drop (end - start) (drop start page)))
   run_copied part e = rw ends at (copied bytes start page (omega (arith, ends)) part lent (omega (arith, ends, part_length page start (end - start) (omega arith))) e)
 

@@ -20,10 +20,10 @@ rest_pasted out at xs p =
 
 -- and so was what was copied to its start
 pub rest_copied : (out : List ℕ) (at : ℕ) (xs : List ℕ)
-    → take at out ++ ((take (length xs) xs ++ drop (length xs) (take (length out - at) (drop at out))) ++ drop (length out - at) (drop at out)) ≡ pasted out at xs
+    → take at out ++ ((xs ++ drop (length xs) (take (length out - at) (drop at out))) ++ drop (length out - at) (drop at out)) ≡ pasted out at xs
 rest_copied out at xs =
     let n : length xs ≡ 0 + length xs = omega arith in
-    rest_pasted out at xs (ap₂ (λ (a b : List ℕ). a ++ drop (length xs) b) (take-length xs) (rest_is out at) ∙ ap (λ (k : ℕ). xs ++ drop k (drop at out)) n)
+    rest_pasted out at xs (ap (λ (b : List ℕ). xs ++ drop (length xs) b) (rest_is out at) ∙ ap (λ (k : ℕ). xs ++ drop k (drop at out)) n)
 
 -- the part from a place to another, as the code takes it
 pub part_is : (pool : List ℕ) (at len : ℕ) → take (at + len - at) (drop at pool) ≡ take len (drop at pool)

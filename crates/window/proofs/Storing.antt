@@ -150,7 +150,7 @@ pasted bytes place page h =
 
 -- a part of a page that was lent and filled, in the page
 pub copied : (bytes : List ℕ) (place : ℕ) (page : List ℕ) → place + length bytes ≤ length page
-    → (part old : List ℕ) → length old ≤ length bytes → part ≡ take (length bytes) bytes ++ drop (length bytes) old
+    → (part old : List ℕ) → length old ≤ length bytes → part ≡ bytes ++ drop (length bytes) old
     → Copied bytes place page (take place page ++ (part ++ drop (place + length bytes - place) (drop place page)))
 copied bytes place page h part old l e = rw (is, drop-drop (place + length bytes - place) place page, rest) (pasted bytes place page h)
   where
@@ -158,7 +158,7 @@ copied bytes place page h part old l e = rw (is, drop-drop (place + length bytes
     rest = omega arith
 
     is : part ≡ bytes
-    is = e ∙ rw (take-length bytes, drop_of_length-le old l) (append-nil bytes)
+    is = e ∙ rw (drop_of_length-le old l) (append-nil bytes)
 
 -- ---- one window of a table
 

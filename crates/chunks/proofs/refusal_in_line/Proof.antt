@@ -34,7 +34,7 @@ returns c =
     ap contains_invalid_characters c.place_in_line.ensures ∙ sym (ap (λ (e : ReaderError). refusal_in_line a.skipped (refusal_of e)) c.in-ContainsInvalidCharacters.is)
 
 returns-2 : tie.Need-returns
-returns-2 c = stays c.args.skipped c.args.e c.in_default.keys2
+returns-2 c = stays c.args.skipped c.args.e c.in_default.in_default-own.keys2
 
 pub refusal_in_line_spec : {M : Type 1} → statement M
 refusal_in_line_spec = tie.close (tie.spec (λ c. search rules) (λ c κs. search rules) returns returns-2)

@@ -34,7 +34,7 @@ returns-2 c =
     (sym c.entry_at.ensures ∙ ap entry_of c.in_default.is)
 
 add-p : tie.Need-overflow_add-p invariant-loop decreases-loop
-add-p c = omega (arith, passed_room c.loop-p.invariant.passed c.loop-p-test.true, c.well-formed.0)
+add-p c = omega (arith, passed_room c.loop-p.invariant.passed c.loop-p-test.true, c.well_formed.0)
 
 loop-less : tie.Need-loop-p-smaller invariant-loop decreases-loop
 loop-less c = omega (arith, c.loop-p-test.true)

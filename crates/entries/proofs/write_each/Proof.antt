@@ -27,7 +27,7 @@ record-in-requires c κs =
     passed_good c.args.list.now l.p l.invariant.rs c.requires.records l.invariant.passed c.loop-p-test.true c.requires.read
 
 add-p : tie.Need-overflow_add-p invariant-loop decreases-loop
-add-p c = omega (arith, passed_room c.loop-p.invariant.passed c.loop-p-test.true, c.well-formed.0)
+add-p c = omega (arith, passed_room c.loop-p.invariant.passed c.loop-p-test.true, c.well_formed.0)
 
 loop-less : tie.Need-loop-p-smaller invariant-loop decreases-loop
 loop-less c = omega (arith, c.loop-p-test.true)

@@ -38,7 +38,7 @@ returns-2 c =
     let w = c.write_each in
     made (λ (qs : List Record). object qs pool) (records_of list) c.args.out.now rs (told_written w.result) w.new.out whole.listed.read
     (object_written rs pool c.args.out.now c.in-Of.s b.result w.result w.new.out
-    (omega (arith, listed_length list rs whole.listed.read, c.well-formed.0)) (omega (arith, c.well-formed.1.1.0))
+    (omega (arith, listed_length list rs whole.listed.read, c.well_formed.0)) (omega (arith, c.well_formed.1.1.0))
     whole.surveys b.ensures (w.ensures rs whole.listed.read))
 
 pub write_list_spec : {M : Type 1} → statement M

@@ -41,7 +41,7 @@ returns c =
 returns-2 : tie.Need-returns-in_default-e
 returns-2 c =
     let a = c.args in
-    ap (λ (r : Refusal). refused r c.in-Refused.line) (stays a.skipped c.in-Refused.e c.in_default-e.keys2) ∙ sym (ap (named a.skipped) c.in-Refused.is)
+    ap (λ (r : Refusal). refused r c.in-Refused.line) (stays a.skipped c.in-Refused.e c.in_default-e.in_default-e-own.keys2) ∙ sym (ap (named a.skipped) c.in-Refused.is)
 
 pub in_line_spec : {M : Type 1} → statement M
 in_line_spec = tie.close (tie.spec (λ c. search rules) (λ c. search rules) (λ c κs. search rules) returns (λ c. search rules) returns-2 (λ c. search rules))

@@ -9,16 +9,16 @@ use Rattle.intake.proofs.Finishing.{last_by, no_last_by, ends_missing_so, ends_l
 use Rattle.intake.proofs.take_last.Statement.{statement}
 use Rattle.intake.proofs.take_last.Tie as tie
 
-in_carry : (c : tie.In-InCarry-2) → (c.in-InCarry.len ≤ 522) × (c.in-InCarry.len ≤ length c.last_line-step.new.carry)
+in_carry : (c : tie.In-InCarry) → (c.in-InCarry.len ≤ 522) × (c.in-InCarry.len ≤ length c.last_line-step.new.carry)
 in_carry c =
     let l = c.last_line-step in
     subst (λ (x : LineReply). Inside x [] l.new.carry) c.in-InCarry.is l.ensures.inside
 
 slice-reshare-prefix-take : tie.Need-slice_bounds-take-end
-slice-reshare-prefix-take c = (in_carry c.before).1
+slice-reshare-prefix-take c = (in_carry c).1
 
 slice-aggregate-take : tie.Need-slice_bounds-take-end-in-InCarry
-slice-aggregate-take c = sym (length-take-le c.in-InCarry.len c.last_line-step.new.carry (in_carry c.before).1)
+slice-aggregate-take c = sym (length-take-le c.in-InCarry.len c.last_line-step.new.carry (in_carry c).1)
 
 returns : tie.Need-returns-in-InCarry
 returns c =
@@ -30,7 +30,7 @@ returns c =
     rw c.answer_after.ensures
     (ends_line_so (way_of a.s.kind a.s.tail) (lawful a.s.kind a.s.tail) a.first a.s a.carry.now a.page.now a.marks.now l.new.carry c.in-InCarry.len c.in-InCarry.skipped l.result.state
     (subst (Last-by a.s a.carry.now l.result.state l.new.carry) c.in-InCarry.is (last_by a.s a.carry.now c.requires.0 w.result w.ensures l.result l.new.carry l.ensures))
-    (simp length-take (omega (arith, (in_carry c.before.before.before.before.before.before.before.before.before).0))) w.result w.ensures t.result _ _ t.ensures)
+    (simp length-take (omega (arith, (in_carry c.before.before.before.before.before.before.before.before).0))) w.result w.ensures t.result _ _ t.ensures)
 
 returns-2 : tie.Need-returns
 returns-2 c =
@@ -39,7 +39,7 @@ returns-2 c =
     let w = c.stand-w in
     let l = c.last_line-step in
     ends_missing_so (way_of a.s.kind a.s.tail) (lawful a.s.kind a.s.tail) a.first a.s a.carry.now a.page.now a.marks.now
-    (no_last_by a.s a.carry.now l.result.state l.new.carry l.result.reply c.in_default.keys2
+    (no_last_by a.s a.carry.now l.result.state l.new.carry l.result.reply c.in_default.in_default-own.keys2
     (last_by a.s a.carry.now c.requires.0 w.result w.ensures l.result l.new.carry l.ensures))
 
 pub take_last_spec : {M : Type 1} → statement M

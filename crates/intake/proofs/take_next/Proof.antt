@@ -12,27 +12,27 @@ use Rattle.intake.proofs.Hearing.{found_by, used_up_so, in_chunk_so, in_carry_so
 use Rattle.intake.proofs.take_next.Statement.{statement}
 use Rattle.intake.proofs.take_next.Tie as tie
 
-in_chunk : (c : tie.In-InChunk-2) → c.in-InChunk.from + c.in-InChunk.len ≤ length c.args.chunk.now
+in_chunk : (c : tie.In-InChunk) → c.in-InChunk.from + c.in-InChunk.len ≤ length c.args.chunk.now
 in_chunk c =
     let l = c.next_line-step in
     subst (λ (x : LineReply). Inside x c.args.chunk.now l.new.carry) c.in-InChunk.is l.ensures.inside
 
-in_carry : (c : tie.In-InCarry-2) → (c.in-InCarry.len ≤ 522) × (c.in-InCarry.len ≤ length c.next_line-step.new.carry)
+in_carry : (c : tie.In-InCarry) → (c.in-InCarry.len ≤ 522) × (c.in-InCarry.len ≤ length c.next_line-step.new.carry)
 in_carry c =
     let l = c.next_line-step in
     subst (λ (x : LineReply). Inside x c.args.chunk.now l.new.carry) c.in-InCarry.is l.ensures.inside
 
 add-to : tie.Need-overflow_add-to
-add-to c = omega (arith, in_chunk c.before)
+add-to c = omega (arith, in_chunk c)
 
 part-hear-end : tie.Need-slice_bounds-hear-end
 part-hear-end c = in_chunk c.before
 
 slice-reshare-prefix-hear : tie.Need-slice_bounds-hear-end-in-InCarry
-slice-reshare-prefix-hear c = (in_carry c.before).1
+slice-reshare-prefix-hear c = (in_carry c).1
 
 slice-aggregate-hear : tie.Need-slice_bounds-hear-end-in-InCarry-2
-slice-aggregate-hear c = sym (length-take-le c.in-InCarry.len c.next_line-step.new.carry (in_carry c.before).1)
+slice-aggregate-hear c = sym (length-take-le c.in-InCarry.len c.next_line-step.new.carry (in_carry c).1)
 
 returns : tie.Need-returns-in-InChunk
 returns c =
@@ -53,7 +53,7 @@ returns-2 c =
     rw h.answer
     (in_carry_so (way_of a.mode.kind a.mode.tail) (lawful a.mode.kind a.mode.tail) a.first a.w a.chunk.now a.carry.now a.page.now a.marks.now l.new.carry l.result.state
     (omega (arith, (fits a.w.reader a.carry.now c.requires.0.big_enough).0, l.auto.carry)) h.came _ _ (kept_in l.new.carry c.in-InCarry.len c.in-InCarry.skipped)
-    (simp length-take (omega (arith, (in_carry c.before.before.before.before.before.before.before.before).0)))
+    (simp length-take (omega (arith, (in_carry c.before.before.before.before.before.before.before).0)))
     (found_by a.w.reader a.chunk.now a.carry.now l.result l.new.carry c.requires.0 l.ensures _ c.in-InCarry.is)
     h.turned)
 

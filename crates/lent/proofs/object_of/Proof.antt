@@ -20,7 +20,7 @@ returns : tie.Need-returns-then-n-gt-MOST
 returns c =
     let w = c.write_front in
     same_front c.args.records (λ (rs : List Record). WriteObject rs c.args.pool.now c.args.out.now w.result w.new.out)
-    c.if-n-gt-MOST.true (omega (arith, c.well-formed.0)) w.ensures
+    c.if-n-gt-MOST.true (omega (arith, c.well_formed.0)) w.ensures
 
 pub object_of_spec : {M : Type 1} → statement M
 object_of_spec =

@@ -12,14 +12,14 @@ high-marked : (c : tie.Else-not-is_marked) → let a = c.args in eqb (mark_at a.
 high-marked c =
     let a = c.args in
     let m = c.is_marked in
-    marked_true a.marks.now a.high m.result m.ensures (not-false m.result c.if-not-is_marked.false)
+    marked_true a.marks.now a.high m.result m.ensures (c.if-not-is_marked.false)
 
 -- and so is the low byte's
 low-marked : (c : tie.Else-not-is_marked-2) → let a = c.args in eqb (mark_at a.marks.now a.low) 1 ≡ true
 low-marked c =
     let a = c.args in
     let m = c.is_marked-2 in
-    marked_true a.marks.now a.low m.result m.ensures (not-false m.result c.if-not-is_marked-2.false)
+    marked_true a.marks.now a.low m.result m.ensures (c.if-not-is_marked-2.false)
 
 -- so both lie in the page
 high-inside : (c : tie.Else-not-is_marked-2) → let a = c.args in a.high < length a.page.now
@@ -34,13 +34,13 @@ returns : tie.Need-returns-then-not-is_marked
 returns c =
     let a = c.args in
     let m = c.is_marked in
-    no_high a.page.now a.marks.now a.high a.low (marked_false a.marks.now a.high m.result m.ensures (not-true m.result c.if-not-is_marked.true))
+    no_high a.page.now a.marks.now a.high a.low (marked_false a.marks.now a.high m.result m.ensures (c.if-not-is_marked.true))
 
 returns-2 : tie.Need-returns-then-not-is_marked-2
 returns-2 c =
     let a = c.args in
     let m = c.is_marked-2 in
-    no_low a.page.now a.marks.now a.high a.low (high-marked c.before.before) (marked_false a.marks.now a.low m.result m.ensures (not-true m.result c.if-not-is_marked-2.true))
+    no_low a.page.now a.marks.now a.high a.low (high-marked c.before.before) (marked_false a.marks.now a.low m.result m.ensures (c.if-not-is_marked-2.true))
 
 shared-slice-read-joined : tie.Need-bounds-page-high
 shared-slice-read-joined c = high-inside c.before

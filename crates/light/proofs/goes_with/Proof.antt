@@ -10,7 +10,7 @@ use Rattle.light.proofs.goes_with.Tie as tie
 
 -- the answer accepts
 went : (c : tie.Else-not-is_accepted) → is_accepted c.args.answer ≡ true
-went c = let m = c.is_accepted in sym m.ensures.answer ∙ not-false m.result c.if-not-is_accepted.false
+went c = let m = c.is_accepted in sym m.ensures.answer ∙ c.if-not-is_accepted.false
 
 -- and the marks have the size of a row
 sized : (c : tie.Else-marks-row_length) → let a = c.args in length a.marks.now ≡ row_length a.places
@@ -20,7 +20,7 @@ returns : tie.Need-returns-then-not-is_accepted
 returns c =
     let a = c.args in
     let m = c.is_accepted in
-    goes_refused a.answer a.places a.marks.now (sym m.ensures.answer ∙ not-true m.result c.if-not-is_accepted.true)
+    goes_refused a.answer a.places a.marks.now (sym m.ensures.answer ∙ c.if-not-is_accepted.true)
 
 returns-2 : tie.Need-returns-then-marks-row_length
 returns-2 c =

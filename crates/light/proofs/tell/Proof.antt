@@ -11,13 +11,13 @@ use Rattle.light.proofs.tell.Tie as tie
 
 -- the load was accepted
 went : (c : tie.Else-not-is_accepted) → is_accepted c.args.answer ≡ true
-went c = let m = c.is_accepted in sym m.ensures.answer ∙ not-false m.result c.if-not-is_accepted.false
+went c = let m = c.is_accepted in sym m.ensures.answer ∙ c.if-not-is_accepted.false
 
 returns : tie.Need-returns-then-not-is_accepted
 returns c =
     let a = c.args in
     let m = c.is_accepted in
-    tells_broken a.light a.answer a.page.now a.marks.now (sym m.ensures.answer ∙ not-true m.result c.if-not-is_accepted.true)
+    tells_broken a.light a.answer a.page.now a.marks.now (sym m.ensures.answer ∙ c.if-not-is_accepted.true)
 
 count-in-requires : tie.Need-count_in-requires
 count-in-requires c κs =

@@ -48,7 +48,7 @@ returns-3 : tie.Need-returns
 returns-3 c =
     let a = c.args in
     let f = c.feed-reply in
-    heard_else a.s a.chunk.now a.carry.now a.first a.stage.now a.stated.now f.result _ _ _ f.ensures c.tell.result (undecided f.result c.in_default.keys2) c.tell.ensures
+    heard_else a.s a.chunk.now a.carry.now a.first a.stage.now a.stated.now f.result _ _ _ f.ensures c.tell.result (undecided f.result c.in_default.in_default-own.keys2) c.tell.ensures
 
 pub feed_within_spec : {M : Type 1} → statement M
 feed_within_spec =

@@ -27,7 +27,7 @@ returns : tie.Need-returns-then-not-is_blank invariant-loop decreases-loop
 returns c =
     let a = c.args in
     let l = c.loop-at in
-    stands_there a.chunk.now a.cr l.waits l.at c.loop-at-test.true l.invariant (sym c.is_blank.ensures ∙ not-true c.is_blank.result c.if-not-is_blank.true)
+    stands_there a.chunk.now a.cr l.waits l.at c.loop-at-test.true l.invariant (sym c.is_blank.ensures ∙ c.if-not-is_blank.true)
 
 add_at : tie.Need-overflow_add-at invariant-loop decreases-loop
 add_at c = omega (arith, c.loop-at-test.true)
@@ -40,7 +40,7 @@ loop-again c =
     let a = c.args in
     let l = c.loop-at in
     subst (λ (w : Bool). Stands a.chunk.now a.cr w (l.at + 1)) (sym c.is_cr-waits.ensures)
-    (stands_next a.chunk.now a.cr l.waits l.at c.loop-at-test.true l.invariant (sym c.is_blank.ensures ∙ not-false c.is_blank.result c.if-not-is_blank.false))
+    (stands_next a.chunk.now a.cr l.waits l.at c.loop-at-test.true l.invariant (sym c.is_blank.ensures ∙ c.if-not-is_blank.false))
 
 returns-2 : tie.Need-returns invariant-loop decreases-loop
 returns-2 c =

@@ -18,11 +18,11 @@ use Rattle.listing.proofs.list.Tie as tie
 returns : tie.Need-returns-then-not-text_room
 returns c =
     let a = c.args in
-    lists_full a.text.now a.out.now (leb-false _ _ (sym c.text_room.ensures ∙ not-true _ c.if-not-text_room.true))
+    lists_full a.text.now a.out.now (leb-false _ _ (sym c.text_room.ensures ∙ c.if-not-text_room.true))
 
 -- past the first test there is room
 roomy : (c : tie.Else-not-text_room) → 3 * length c.args.text.now + 32 ≤ length c.args.out.now
-roomy c = leb-true _ _ (sym c.text_room.ensures ∙ not-false _ c.if-not-text_room.false)
+roomy c = leb-true _ _ (sym c.text_room.ensures ∙ c.if-not-text_room.false)
 
 put-text-requires : tie.Need-put_text-requires
 put-text-requires c κs = omega (arith, roomy c.before.before.before.before)

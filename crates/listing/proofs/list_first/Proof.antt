@@ -14,16 +14,16 @@ use Rattle.listing.proofs.list_first.Tie as tie
 returns : tie.Need-returns-then-not-has_room
 returns c =
     let a = c.args in
-    writes_none (line_room 0 (length a.out.now)) heading a.out.now (sym c.has_room.ensures ∙ not-true _ c.if-not-has_room.true)
+    writes_none (line_room 0 (length a.out.now)) heading a.out.now (sym c.has_room.ensures ∙ c.if-not-has_room.true)
 
 put-first-requires : tie.Need-put_first-requires
-put-first-requires c κs = omega (arith, leb-true 32 (length c.args.out.now) (sym c.has_room.ensures ∙ not-false _ c.if-not-has_room.false))
+put-first-requires c κs = omega (arith, leb-true 32 (length c.args.out.now) (sym c.has_room.ensures ∙ c.if-not-has_room.false))
 
 returns-2 : tie.Need-returns
 returns-2 c =
     let a = c.args in
     let p = c.put_first in
-    writes_put (line_room 0 (length a.out.now)) heading a.out.now p.result p.new.out (sym c.has_room.ensures ∙ not-false _ c.if-not-has_room.false) p.ensures
+    writes_put (line_room 0 (length a.out.now)) heading a.out.now p.result p.new.out (sym c.has_room.ensures ∙ c.if-not-has_room.false) p.ensures
 
 pub list_first_spec : {M : Type 1} → statement M
 list_first_spec = tie.close (tie.spec (λ c κs. search rules) returns put-first-requires (λ c. search rules) returns-2)

@@ -14,18 +14,18 @@ use Rattle.listing.proofs.list_reply.Tie as tie
 returns : tie.Need-returns-then-not-reply_room
 returns c =
     let a = c.args in
-    writes_none (reply_room a.reply (length a.pool.now) (length a.out.now)) (shown a.reply a.pool.now) a.out.now (sym c.reply_room.ensures ∙ not-true _ c.if-not-reply_room.true)
+    writes_none (reply_room a.reply (length a.pool.now) (length a.out.now)) (shown a.reply a.pool.now) a.out.now (sym c.reply_room.ensures ∙ c.if-not-reply_room.true)
 
 put-reply-requires : tie.Need-put_reply-requires
 put-reply-requires c κs =
     let a = c.args in
-    reply_fits a.pool.now a.out.now a.reply (sym c.reply_room.ensures ∙ not-false _ c.if-not-reply_room.false)
+    reply_fits a.pool.now a.out.now a.reply (sym c.reply_room.ensures ∙ c.if-not-reply_room.false)
 
 returns-2 : tie.Need-returns
 returns-2 c =
     let a = c.args in
     let p = c.put_reply in
-    writes_put (reply_room a.reply (length a.pool.now) (length a.out.now)) (shown a.reply a.pool.now) a.out.now p.result p.new.out (sym c.reply_room.ensures ∙ not-false _ c.if-not-reply_room.false) p.ensures
+    writes_put (reply_room a.reply (length a.pool.now) (length a.out.now)) (shown a.reply a.pool.now) a.out.now p.result p.new.out (sym c.reply_room.ensures ∙ c.if-not-reply_room.false) p.ensures
 
 pub list_reply_spec : {M : Type 1} → statement M
 list_reply_spec =

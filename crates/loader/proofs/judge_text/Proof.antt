@@ -30,7 +30,7 @@ slice-aggregate-next : tie.Need-slice_bounds-next-end invariant-loop decreases-l
 slice-aggregate-next c = sym c.loop-given.invariant.room
 
 -- the record that was read
-one : (c : tie.In-Read-2 invariant-loop decreases-loop)
+one : (c : tie.In-Read invariant-loop decreases-loop)
     → let s = c.args in
     let l = c.loop-given in
     let n = c.next-step in
@@ -46,12 +46,12 @@ judge-record-requires c κs =
     let s = c.args in
     let l = c.loop-given in
     let n = c.next-step in (
-      short_record c.in-Read.given n.new.pool ((one c.before).lies (n.auto.pool ∙ l.invariant.room)),
-      countable_records s.text.now l.w l.pool n.result n.new.pool l.invariant.under_way l.invariant.room n.ensures l.tally _ (one c.before) l.invariant.few (countable c.before.before.before.before.before.before.before.before.before),
+      short_record c.in-Read.given n.new.pool ((one c).lies (n.auto.pool ∙ l.invariant.room)),
+      countable_records s.text.now l.w l.pool n.result n.new.pool l.invariant.under_way l.invariant.room n.ensures l.tally _ (one c) l.invariant.few (countable c.before.before.before.before.before.before.before.before.before),
     )
 
 -- the load goes on
-goes_on : (c : tie.In-On-2 invariant-loop decreases-loop)
+goes_on : (c : tie.In-On invariant-loop decreases-loop)
     → let s = c.args in
     let l = c.loop-given in
     Onward (inside_of s.owner (rows_in s.rows.now)) s.text.now l.w l.tally (record { state = c.next-step.result.state; base = c.in-On.after }) c.in-On.t
@@ -64,14 +64,14 @@ goes_on c =
     (c.judge_record.ensures n.new.pool ((one c.before.before.before.before).lies (n.auto.pool ∙ l.invariant.room))))
 
 loop-less : tie.Need-loop-given-smaller invariant-loop decreases-loop
-loop-less c = (goes_on c.before).less
+loop-less c = (goes_on c).less
 
 loop-again : tie.Need-loop-given-preserved invariant-loop decreases-loop
 loop-again c =
     let s = c.args in
     let l = c.loop-given in
     let n = c.next-step in
-    judging_again (inside_of s.owner (rows_in s.rows.now)) s.text.now l.pool l.w l.tally l.invariant _ _ (goes_on c.before) n.new.pool n.auto.pool
+    judging_again (inside_of s.owner (rows_in s.rows.now)) s.text.now l.pool l.w l.tally l.invariant _ _ (goes_on c) n.new.pool n.auto.pool
 
 returns : tie.Need-returns-in-Stop invariant-loop decreases-loop
 returns c =
@@ -79,9 +79,9 @@ returns c =
     let l = c.loop-given in
     let n = c.next-step in
     judging_end (inside_of s.owner (rows_in s.rows.now)) s.text.now l.pool l.w l.tally l.invariant c.in-Stop.answer
-    (judged_stop s.text.now l.w l.pool n.result n.new.pool l.invariant.under_way l.invariant.room n.ensures (inside_of s.owner (rows_in s.rows.now)) l.tally _ (one c.before.before.before.before.before) c.in-Stop.answer
+    (judged_stop s.text.now l.w l.pool n.result n.new.pool l.invariant.under_way l.invariant.room n.ensures (inside_of s.owner (rows_in s.rows.now)) l.tally _ (one c.before.before.before.before) c.in-Stop.answer
     (subst (Met (inside_of s.owner (rows_in s.rows.now)) n.result.state.line l.w.base l.tally (meant c.in-Read.given n.new.pool)) c.in-Stop.is
-    (c.judge_record.ensures n.new.pool ((one c.before.before.before.before.before).lies (n.auto.pool ∙ l.invariant.room)))))
+    (c.judge_record.ensures n.new.pool ((one c.before.before.before.before).lies (n.auto.pool ∙ l.invariant.room)))))
 
 returns-2 : tie.Need-returns-in-Refused invariant-loop decreases-loop
 returns-2 c =

@@ -9,17 +9,17 @@ use Rattle.loader.proofs.put_whole.Statement.{statement}
 use Rattle.loader.proofs.put_whole.Tie as tie
 
 -- where the payload lies
-lies : (c : tie.In-Data-2) → LiesIn (Data c.in-Data.offset c.in-Data.at c.in-Data.len) c.args.pool.now
+lies : (c : tie.In-Data) → LiesIn (Data c.in-Data.offset c.in-Data.at c.in-Data.len) c.args.pool.now
 lies c = subst (λ (x : Record). LiesIn x c.args.pool.now) c.in-Data.is c.requires
 
 returns : tie.Need-returns-then-first_run-len
 returns c = let a = c.args in not_put a.base a.given a.pool.now a.first a.page.now a.marks.now
 
 add-end : tie.Need-overflow_add-end
-add-end c = omega (arith, lies c.before.before.before)
+add-end c = omega (arith, lies c.before.before)
 
 part-put-inside-end : tie.Need-slice_bounds-put_inside-end
-part-put-inside-end c = (lies c.before.before.before.before).0
+part-put-inside-end c = (lies c.before.before.before).0
 
 returns-2 : tie.Need-returns-in-Data
 returns-2 c =

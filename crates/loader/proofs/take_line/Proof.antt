@@ -33,7 +33,7 @@ not-shut : (c : tie.Else-tally-eq-MOST_RECORDS) → let s = c.args in closed s.t
 not-shut c = let s = c.args in not_closed s.tally.records s.first (length s.page.now) (length s.marks.now) (fit c) (counts-on c)
 
 -- the record that was read
-said : (c : tie.In-Read-2) → let s = c.args in let n = c.read_record in ReadAs s.line.now n.new.pool c.in-Read.given
+said : (c : tie.In-Read) → let s = c.args in let n = c.read_record in ReadAs s.line.now n.new.pool c.in-Read.given
 said c =
     let s = c.args in
     let n = c.read_record in
@@ -44,13 +44,13 @@ room c = c.read_record.auto.pool
 
 take-record-requires : tie.Need-take_record-requires
 take-record-requires c κs =
-    ((said c.before.before.before.before).lies (room c.before.before.before.before.before.before.before), omega (arith, counts-on c.before.before.before.before.before.before.before.before.before, c.struct_known-1.given), fit c.before.before.before.before.before.before.before.before.before)
+    ((said c.before.before.before).lies (room c.before.before.before.before.before.before.before), omega (arith, counts-on c.before.before.before.before.before.before.before.before.before, c.struct_known-1.given), fit c.before.before.before.before.before.before.before.before.before)
 
 returns-2 : tie.Need-returns-in-Read
 returns-2 c =
     let s = c.args in
     let t = c.take_record in
-    taken_read s.line.now s.number s.base s.tally s.first s.page.now s.marks.now (not-shut c.before.before.before.before.before.before.before.before.before.before.before.before.before.before) c.read_record.new.pool c.in-Read.given (said c.before.before.before.before.before.before.before.before.before) t.result _ _ t.ensures
+    taken_read s.line.now s.number s.base s.tally s.first s.page.now s.marks.now (not-shut c.before.before.before.before.before.before.before.before.before.before.before.before.before.before) c.read_record.new.pool c.in-Read.given (said c.before.before.before.before.before.before.before.before) t.result _ _ t.ensures
 
 returns-3 : tie.Need-returns-in-Refused
 returns-3 c =

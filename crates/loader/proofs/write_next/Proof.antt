@@ -8,7 +8,7 @@ use Rattle.loader.proofs.write_next.Statement.{statement}
 use Rattle.loader.proofs.write_next.Tie as tie
 
 -- the record that was read
-one : (c : tie.In-Read-2)
+one : (c : tie.In-Read)
     →    let n = c.next-step in
     One c.args.w.state c.args.text.now c.args.pool.now n.result n.new.pool c.requires.0.options c.requires.0.countable c.requires.1 n.ensures c.in-Read.given
 one c =
@@ -16,14 +16,14 @@ one c =
     came_read c.args.w.state c.args.text.now c.args.pool.now n.result n.new.pool c.requires.0.options c.requires.0.countable c.requires.1 n.ensures c.in-Read.given c.in-Read.is
 
 write-record-requires : tie.Need-write_record-requires
-write-record-requires c κs = ((one c.before.before.before).lies (c.next-step.auto.pool ∙ c.requires.1), c.requires.2)
+write-record-requires c κs = ((one c.before.before).lies (c.next-step.auto.pool ∙ c.requires.1), c.requires.2)
 
 returns : tie.Need-returns-in-Read
 returns c =
     let n = c.next-step in
     let t = c.write_record in
     wrote c.args.text.now c.args.w c.args.pool.now n.result n.new.pool c.requires.0 c.requires.1 n.ensures
-    (site_of c.args.owner (rows_in c.args.rows.now)) c.args.page.now c.args.marks.now _ _ _ (one c.before.before.before.before.before.before.before.before.before) c.base_behind.result t.ensures c.base_behind.ensures
+    (site_of c.args.owner (rows_in c.args.rows.now)) c.args.page.now c.args.marks.now _ _ _ (one c.before.before.before.before.before.before.before.before) c.base_behind.result t.ensures c.base_behind.ensures
 
 returns-2 : tie.Need-returns-in-Refused
 returns-2 c =

@@ -8,7 +8,7 @@ use Rattle.page.proofs.farthest.Statement.{statement}
 use Rattle.page.proofs.farthest.Tie as tie
 
 add-result : tie.Need-overflow_add-result
-add-result c = omega (arith, c.requires, c.least-2.ensures, c.well-formed.1.1.0)
+add-result c = omega (arith, c.requires, c.least-2.ensures, c.well_formed.1.1.0)
 
 returns : tie.Need-returns
 returns c =

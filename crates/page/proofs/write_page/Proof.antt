@@ -23,7 +23,7 @@ writes c =
     let b = c.before.before in
     let s = b.before.before.before.before.before.before.before.before in
     file_written c.args.first c.args.page.now c.args.marks.now c.in-Of.s (whole c.before.before) c.args.out.now c.begin-start.result c.write_records.result c.write_records.new.out
-    (omega (arith, c.well-formed.1.1.1.0)) c.begin-start.ensures c.write_records.ensures
+    (omega (arith, c.well_formed.1.1.1.0)) c.begin-start.ensures c.write_records.ensures
 
 write-records-requires : tie.Need-write_records-requires
 write-records-requires c κs = let w = (whole c.before).window in omega (arith, w.below)

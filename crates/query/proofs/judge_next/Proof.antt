@@ -7,7 +7,7 @@ use Rattle.query.proofs.judge_next.Statement.{statement}
 use Rattle.query.proofs.judge_next.Tie as tie
 
 -- the record that was read
-one : (c : tie.In-Read-2)
+one : (c : tie.In-Read)
     →    let n = c.next-step in
     One c.args.w.state c.args.text.now c.args.pool.now n.result n.new.pool c.requires.0.options c.requires.0.countable c.requires.1 n.ensures c.in-Read.given
 one c =
@@ -18,14 +18,14 @@ judge-record-requires : tie.Need-judge_record-requires
 judge-record-requires c κs =
     let r = c.before.before.before in
     let n = c.next-step in
-    (one c.before.before).lies (n.auto.pool ∙ c.requires.1)
+    (one c.before).lies (n.auto.pool ∙ c.requires.1)
 
 returns : tie.Need-returns-in-Read
 returns c =
     let r = c.before.before.before.before in
     let n = c.next-step in
     judged_record c.args.address c.args.text.now c.args.w c.args.pool.now n.result n.new.pool c.requires.0 c.requires.1 n.ensures
-    c.in-Read.given (one c.before.before.before) c.judge_record.result c.judge_record.ensures
+    c.in-Read.given (one c.before.before) c.judge_record.result c.judge_record.ensures
 
 returns-2 : tie.Need-returns-in-Refused
 returns-2 c =

@@ -65,12 +65,12 @@ returns-5 c =
     refused (whole c.before.before.before.before.before.before.before.before.before.before.before) c.args.pool.now c.args.at InvalidLengthForType
     (agreed c.before.before.before.before.before.before.before.before
     ∙ fields_misfit (get_or (bytes_of c.before.before.before.before.before.before.before.before.before.before.before) 0 0) (word (bytes_of c.before.before.before.before.before.before.before.before.before.before.before) 1) k (payload-of c.before.before.before.before.before.before.before.before.before.before.before) (sized c.before.before.before.before.before) c.if-kind-gt-START_LINEAR_ADDRESS.false
-    (size_misfits k (length (payload-of c.before.before.before.before.before.before.before.before.before.before.before)) c.if-kind-eq-DATA.false (λ e. c.if-size_of-n.true (c.type_size.ensures ∙ e ∙ size-of-payload s))))
+    (size_misfits k (length (payload-of c.before.before.before.before.before.before.before.before.before.before.before)) c.if-kind-eq-DATA.false (λ e. c.if-size_of-n.true (c.size_of.ensures ∙ e ∙ size-of-payload s))))
 
 returns-6 : tie.Need-returns
 returns-6 c =
     let k = get_or (bytes_of c.before.before.before.before.before.before.before.before.before.before.before.before) 3 0 in
-    let z : size k ≡ c.args.m - 5 = sym c.type_size.ensures ∙ c.if-size_of-n.false in
+    let z : size k ≡ c.args.m - 5 = sym c.size_of.ensures ∙ c.if-size_of-n.false in
     gave (whole c.before.before.before.before.before.before.before.before.before.before.before.before) c.args.pool.now c.args.at c.special.result k (word (bytes_of c.before.before.before.before.before.before.before.before.before.before.before.before) 1) (payload-of c.before.before.before.before.before.before.before.before.before.before.before.before)
     (agreed c.before.before.before.before.before.before.before.before.before
     ∙ fields_fit (get_or (bytes_of c.before.before.before.before.before.before.before.before.before.before.before.before) 0 0) (word (bytes_of c.before.before.before.before.before.before.before.before.before.before.before.before) 1) k (payload-of c.before.before.before.before.before.before.before.before.before.before.before.before) (sized c.before.before.before.before.before.before) c.if-kind-gt-START_LINEAR_ADDRESS.false

@@ -36,7 +36,7 @@ decoded c =
 
 -- after the sixth test each character is a digit
 all_good : (c : tie.Else-not-whole) → all_digits (drop 1 (line_of c.before.before.before.before.before.before.before.before.before.before.before.before.before.before.before)) ≡ true
-all_good c = sym (decoded c.before.before.before).digits ∙ not-false _ c.if-not-whole.false
+all_good c = sym (decoded c.before.before.before).digits ∙ c.if-not-whole.false
 
 -- and the decoded bytes are what the digits spell, with their sum
 spelt : (c : tie.Else-not-whole)
@@ -88,7 +88,7 @@ returns-6 c =
     let e = place ∙ ap leading (rest_is l 1) in
     let g : f.result + 1 ≡ suc (leading (drop 1 l)) = omega arith in
     refused (said c.before.before.before.before.before.before.before.before.before.before.before.before.before.before.before.before.before.before) c.args.pool.now c.args.at (ContainsInvalidCharacters c.name_place.result)
-    (judge_bad l c.if-line-ne-COLON.false (sym (decoded c.before.before.before.before.before.before).digits ∙ not-true _ c.if-not-whole.true)
+    (judge_bad l c.if-line-ne-COLON.false (sym (decoded c.before.before.before.before.before.before).digits ∙ c.if-not-whole.true)
     ∙ ap (λ (place : ℕ). wrong (contains_invalid_characters place)) (sym (c.name_place.ensures.answer ∙ ap named g)))
 
 judge-bytes-requires : tie.Need-judge_bytes-requires

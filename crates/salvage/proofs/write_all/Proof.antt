@@ -64,7 +64,7 @@ add-place c =
     let t = c.sort_next in
     let h = drops_room a.text.now a.out.now a.list.now f l.out l.list l.pool l.w l.at l.place l.invariant t.new.pool t.result t.ensures c.in-Drops.e c.in-Drops.next c.in-Drops.is in
     let q = l.invariant.list_same in
-    let small : l.place + 1 < 2 ^ 64 = omega (arith, c.well-formed) in
+    let small : l.place + 1 < 2 ^ 64 = omega (arith, c.well_formed) in
     search rules
 
 loop-less-2 : tie.Need-loop-given-smaller invariant-loop decreases-loop

@@ -25,34 +25,34 @@ returns-3 : tie.Need-returns-then-not-may_hold
 returns-3 c =
     let r = c.args.«record» in
     let pool = c.args.pool.now in
-    misfit r pool (omega arith) (ap (λ (k : ℕ). fits k r.len) (sym c.digit-kind.ensures.answer) ∙ sym c.may_hold.ensures ∙ not-true c.may_hold.result c.if-not-may_hold.true)
+    misfit r pool (omega arith) (ap (λ (k : ℕ). fits k r.len) (sym c.digit-kind.ensures.answer) ∙ sym c.may_hold.ensures ∙ c.if-not-may_hold.true)
 
 returns-4 : tie.Need-returns-then-len-w
 returns-4 c =
     let r = c.args.«record» in
     let pool = c.args.pool.now in
     let d = c.digit-kind.ensures.answer in
-    let w = c.width_of_lem.ensures in
+    let w = c.width_of-w.ensures in
     let e = ap width d in
-    too_long r pool (omega arith) (ap (λ (k : ℕ). fits k r.len) (sym c.digit-kind.ensures.answer) ∙ sym c.may_hold.ensures ∙ not-false c.may_hold.result c.if-not-may_hold.false) (omega arith)
+    too_long r pool (omega arith) (ap (λ (k : ℕ). fits k r.len) (sym c.digit-kind.ensures.answer) ∙ sym c.may_hold.ensures ∙ c.if-not-may_hold.false) (omega arith)
 
 returns-5 : tie.Need-returns-then-not-fits_in
 returns-5 c =
     let r = c.args.«record» in
     let pool = c.args.pool.now in
     let d = c.digit-kind.ensures.answer in
-    let w = c.width_of_lem.ensures in
+    let w = c.width_of-w.ensures in
     let e = ap width d in
-    too_wide r pool (omega arith) (ap (λ (k : ℕ). fits k r.len) (sym c.digit-kind.ensures.answer) ∙ sym c.may_hold.ensures ∙ not-false c.may_hold.result c.if-not-may_hold.false) (omega arith) (ap (λ (n : ℕ). ltb r.address (beyond n)) (sym (w.0 ∙ ap width d)) ∙ sym c.fits_in.ensures ∙ not-true c.fits_in.result c.if-not-fits_in.true)
+    too_wide r pool (omega arith) (ap (λ (k : ℕ). fits k r.len) (sym c.digit-kind.ensures.answer) ∙ sym c.may_hold.ensures ∙ c.if-not-may_hold.false) (omega arith) (ap (λ (n : ℕ). ltb r.address (beyond n)) (sym (w.0 ∙ ap width d)) ∙ sym c.fits_in.ensures ∙ c.if-not-fits_in.true)
 
 returns-6 : tie.Need-returns
 returns-6 c =
     let r = c.args.«record» in
     let pool = c.args.pool.now in
     let d = c.digit-kind.ensures.answer in
-    let w = c.width_of_lem.ensures in
+    let w = c.width_of-w.ensures in
     let e = ap width d in
-    ap wrote (omega arith) ∙ fits_line r pool (omega arith) (ap (λ (k : ℕ). fits k r.len) (sym c.digit-kind.ensures.answer) ∙ sym c.may_hold.ensures ∙ not-false c.may_hold.result c.if-not-may_hold.false) (omega arith) (ap (λ (n : ℕ). ltb r.address (beyond n)) (sym (w.0 ∙ ap width d)) ∙ sym c.fits_in.ensures ∙ not-false c.fits_in.result c.if-not-fits_in.false)
+    ap wrote (omega arith) ∙ fits_line r pool (omega arith) (ap (λ (k : ℕ). fits k r.len) (sym c.digit-kind.ensures.answer) ∙ sym c.may_hold.ensures ∙ c.if-not-may_hold.false) (omega arith) (ap (λ (n : ℕ). ltb r.address (beyond n)) (sym (w.0 ∙ ap width d)) ∙ sym c.fits_in.ensures ∙ c.if-not-fits_in.false)
 
 pub measure_spec : {M : Type 1} → statement M
 measure_spec =

@@ -15,20 +15,20 @@ four c = c.low.result ∷ c.low-2.result ∷ c.low-3.result ∷ c.low-4.result �
 
 -- those that the type has
 place_of : (c : tie.After-low-4) → List ℕ
-place_of c = take (4 - (4 - c.width_of_lem.result)) (drop (4 - c.width_of_lem.result) (four c))
+place_of c = take (4 - (4 - c.width_of-w.result)) (drop (4 - c.width_of-w.result) (four c))
 
 place_is : (c : tie.After-low-4) → let a = c.args in place_of c ≡ in_bytes (width a.kind) a.address
 unfolding place_of four
 place_is c =
     let a = c.args in
-    let w = c.width_of_lem in
+    let w = c.width_of-w in
     let e : four c ≡ four_bytes a.address = four_is a.address _ _ _ _ (search rules) c.low.ensures c.low-2.ensures c.low-3.ensures c.low-4.ensures in
     rest_is (four c) (4 - w.result) ∙ ap (drop (4 - w.result)) e ∙ ap (λ (n : ℕ). drop (4 - n) (four_bytes a.address)) w.ensures.0
 
 -- as many as its width
-place-size : (c : tie.After-low-4) → length (place_of c) ≡ c.width_of_lem.result
+place-size : (c : tie.After-low-4) → length (place_of c) ≡ c.width_of-w.result
 place-size c =
-    place_length c.args.kind c.args.address c.args.payload.now c.args.out.now (place_of c) c.requires (place_is c) ∙ sym c.width_of_lem.ensures.0
+    place_length c.args.kind c.args.address c.args.payload.now c.args.out.now (place_of c) c.requires (place_is c) ∙ sym c.width_of-w.ensures.0
 
 -- after each row the output is as long as at first
 sized : (c : tie.After-put-first) → length c.put-first.new.out ≡ length c.args.out.now
@@ -53,7 +53,7 @@ put-requires-2 : tie.Need-put-second-requires
 unfolding place_of four
 put-requires-2 c κs =
     let l = sized c.before.before.before.before.before in
-    let n : length (place_of c.before.before.before.before.before.before.before) ≡ c.width_of_lem.result = place-size c.before.before.before.before.before.before.before.before in
+    let n : length (place_of c.before.before.before.before.before.before.before) ≡ c.width_of-w.result = place-size c.before.before.before.before.before.before.before.before in
     omega (arith, c.requires.room)
 
 put-requires-3 : tie.Need-put-sum-requires
@@ -68,7 +68,7 @@ same_length c = sized4 c.before.before
 returns : tie.Need-returns
 unfolding place_of four
 returns c =
-    let w = c.width_of_lem in
+    let w = c.width_of-w in
     line_put c.args.kind c.args.address c.args.payload.now c.args.out.now (place_of c.before.before.before.before.before.before.before.before.before.before.before.before.before.before.before.before.before.before.before) c.requires (place_is c.before.before.before.before.before.before.before.before.before.before.before.before.before.before.before.before.before.before.before)
     w.result (length c.args.payload.now) _ c.put-first.result c.put-second.result c.put-sum.result c.put.result
     w.ensures.0 refl (omega arith) c.put-first.ensures c.put-second.ensures c.put-sum.ensures c.put.ensures

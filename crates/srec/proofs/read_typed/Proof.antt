@@ -38,7 +38,7 @@ decoded c =
 
 -- after the fourth test each character is a digit
 good : (c : tie.Else-not-whole) → all_digits (drop 2 (line_of c.before.before.before.before.before.before.before.before.before.before.before.before.before)) ≡ true
-good c = sym (decoded c.before.before.before).digits ∙ not-false _ c.if-not-whole.false
+good c = sym (decoded c.before.before.before).digits ∙ c.if-not-whole.false
 
 all_good : (c : tie.Else-not-whole) → all_digits (drop 1 (line_of c.before.before.before.before.before.before.before.before.before.before.before.before.before)) ≡ true
 all_good c =
@@ -56,17 +56,17 @@ spelt c =
 returns : tie.Need-returns-then-n-width_of
 returns c =
     chosen (said c.before.before.before.before.before.before) c.args.pool.now c.args.at (all_digits (drop 1 (line_of c.before.before.before.before.before.before))) c.digits_or.result RecordTooShort (invalid_at (line_of c.before.before.before.before.before.before))
-    (judge_few (line_of c.before.before.before.before.before.before) c.requires.starts c.requires.long c.args.kind c.requires.typed c.requires.named (omega (arith, c.width_of_lem.ensures.0, c.if-n-width_of.true))) c.digits_or.ensures
+    (judge_few (line_of c.before.before.before.before.before.before) c.requires.starts c.requires.long c.args.kind c.requires.typed c.requires.named (omega (arith, c.width_of.ensures.0, c.if-n-width_of.true))) c.digits_or.ensures
 
 returns-2 : tie.Need-returns-then-n-gt-MOST_DIGITS
 returns-2 c =
     chosen (said c.before.before.before.before.before.before.before) c.args.pool.now c.args.at (all_digits (drop 1 (line_of c.before.before.before.before.before.before.before))) c.digits_or-then-n-gt-MOST_DIGITS.result RecordTooLong (invalid_at (line_of c.before.before.before.before.before.before.before))
-    (judge_many (line_of c.before.before.before.before.before.before.before) c.requires.starts c.requires.long c.args.kind c.requires.typed c.requires.named (omega (arith, c.width_of_lem.ensures.0, c.if-n-width_of.false)) c.if-n-gt-MOST_DIGITS.true) c.digits_or-then-n-gt-MOST_DIGITS.ensures
+    (judge_many (line_of c.before.before.before.before.before.before.before) c.requires.starts c.requires.long c.args.kind c.requires.typed c.requires.named (omega (arith, c.width_of.ensures.0, c.if-n-width_of.false)) c.if-n-gt-MOST_DIGITS.true) c.digits_or-then-n-gt-MOST_DIGITS.ensures
 
 returns-3 : tie.Need-returns-then-n-ne0
 returns-3 c =
     chosen (said c.before.before.before.before.before.before.before.before) c.args.pool.now c.args.at (all_digits (drop 1 (line_of c.before.before.before.before.before.before.before.before))) c.digits_or-then-n-ne0.result RecordNotEvenLength (invalid_at (line_of c.before.before.before.before.before.before.before.before))
-    (judge_uneven (line_of c.before.before.before.before.before.before.before.before) c.requires.starts c.requires.long c.args.kind c.requires.typed c.requires.named (omega (arith, c.width_of_lem.ensures.0, c.if-n-width_of.false)) c.if-n-gt-MOST_DIGITS.false c.if-n-ne0.true) c.digits_or-then-n-ne0.ensures
+    (judge_uneven (line_of c.before.before.before.before.before.before.before.before) c.requires.starts c.requires.long c.args.kind c.requires.typed c.requires.named (omega (arith, c.width_of.ensures.0, c.if-n-width_of.false)) c.if-n-gt-MOST_DIGITS.false c.if-n-ne0.true) c.digits_or-then-n-ne0.ensures
 
 add-name-place : tie.Need-overflow_add-good
 add-name-place c =
@@ -84,7 +84,7 @@ returns-4 c =
     let e = place ∙ ap leading (rest_is l 1) in
     let g : f.result + 1 ≡ suc (leading (drop 1 l)) = omega arith in
     refused (said c.before.before.before.before.before.before.before.before.before.before.before.before.before.before.before.before) c.args.pool.now c.args.at (ContainsInvalidCharacters c.name_place.result)
-    (judge_bad l c.requires.starts (digits_bad l c.requires.long (sym (decoded c.before.before.before.before.before.before).digits ∙ not-true _ c.if-not-whole.true))
+    (judge_bad l c.requires.starts (digits_bad l c.requires.long (sym (decoded c.before.before.before.before.before.before).digits ∙ c.if-not-whole.true))
     ∙ ap (λ (place : ℕ). wrong (contains_invalid_characters place)) (sym (c.name_place.ensures.answer ∙ ap named g)))
 
 judge-bytes-requires : tie.Need-judge_bytes-requires
@@ -94,7 +94,7 @@ judge-bytes-requires c κs =
     let e = spelt c.before.before in
     record {
       named = c.requires.named;
-      least = omega (arith, c.width_of_lem.ensures.0, c.if-n-width_of.false);
+      least = omega (arith, c.width_of.ensures.0, c.if-n-width_of.false);
       most = omega arith;
       room = omega (arith, c.requires.room);
       sums = e.1 ∙ ap (λ (bs : List ℕ). sum bs % 256) (sym e.0);
@@ -102,7 +102,7 @@ judge-bytes-requires c κs =
 
 returns-5 : tie.Need-returns
 returns-5 c =
-    rw (judge_whole (line_of c.before.before.before.before.before.before.before.before.before.before.before.before.before.before.before.before.before) c.requires.starts c.requires.long c.args.kind c.requires.typed c.requires.named (omega (arith, c.width_of_lem.ensures.0, c.if-n-width_of.false)) (omega arith) (omega arith) (all_good c.before.before.before.before)
+    rw (judge_whole (line_of c.before.before.before.before.before.before.before.before.before.before.before.before.before.before.before.before.before) c.requires.starts c.requires.long c.args.kind c.requires.typed c.requires.named (omega (arith, c.width_of.ensures.0, c.if-n-width_of.false)) (omega arith) (omega arith) (all_good c.before.before.before.before)
     ∙ ap (judge_bytes c.args.kind) (sym (spelt c.before.before.before.before).0))
     c.judge_bytes.ensures
 

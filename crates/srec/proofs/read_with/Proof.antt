@@ -35,7 +35,7 @@ returns-4 c =
     let k = c.digit_value-kind in
     let n = c.is_named in
     chosen (said c.before.before.before.before.before.before.before.before.before.before.before.before) c.args.pool.now c.args.at (all_digits (drop 1 (line_of c.before.before.before.before.before.before.before.before.before.before.before.before))) c.digits_or.result (UnsupportedRecordType k.result) (invalid_at (line_of c.before.before.before.before.before.before.before.before.before.before.before.before))
-    (judge_unnamed (line_of c.before.before.before.before.before.before.before.before.before.before.before.before) c.if-line-ne-START.false (omega arith) k.result k.ensures.answer (sym n.ensures ∙ not-true n.result c.if-not-is_named.true))
+    (judge_unnamed (line_of c.before.before.before.before.before.before.before.before.before.before.before.before) c.if-line-ne-START.false (omega arith) k.result k.ensures.answer (sym n.ensures ∙ c.if-not-is_named.true))
     c.digits_or.ensures
 
 read-typed-requires : tie.Need-read_typed-requires
@@ -46,7 +46,7 @@ read-typed-requires c κs =
       starts = c.if-line-ne-START.false;
       long = omega arith;
       typed = k.ensures.answer;
-      named = sym n.ensures ∙ not-false n.result c.if-not-is_named.false;
+      named = sym n.ensures ∙ c.if-not-is_named.false;
       room = c.requires;
     }
 

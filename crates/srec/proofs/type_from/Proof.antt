@@ -7,7 +7,7 @@ use Rattle.srec.proofs.type_from.Tie as tie
 
 returns-8 : tie.Need-returns-in_default
 returns-8 c =
-    let r = c.in_default.rest in
+    let r = c.in_default.in_default-own.rest in
     only_nine c.args.kind c.requires
     r.0.0.0.0.0.0.1 r.0.0.0.0.0.1 r.0.0.0.0.1 r.0.0.0.1 r.0.0.1 r.0.1 r.1
 

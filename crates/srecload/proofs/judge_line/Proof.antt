@@ -11,7 +11,7 @@ use Rattle.srecload.proofs.judge_line.Statement.{statement}
 use Rattle.srecload.proofs.judge_line.Tie as tie
 
 -- the record that was read
-came : (c : tie.In-Read-2)
+came : (c : tie.In-Read)
     →    let r = c.read_srecord in
     Came c.args.line.now r.new.pool c.in-Read.given
 came c =
@@ -25,13 +25,13 @@ returns c =
     rw (line_empty a.there.line a.line.now c.if-line-eq0.true) (met_nothing (inside_of a.owner (rows_in a.rows.now)) a.there a.seen)
 
 judge-record-requires : tie.Need-judge_record-requires
-judge-record-requires c κs = ((came c.before).few, c.requires.1)
+judge-record-requires c κs = ((came c).few, c.requires.1)
 
 returns-2 : tie.Need-returns-in-Read
 returns-2 c =
     let r = c.read_srecord in
     let x = c.in-Read.given in
-    rw (line_came c.args.there.line c.args.line.now r.new.pool x (omega arith) (came c.before.before)) (c.judge_record.ensures (data_of x r.new.pool) (came c.before.before).sized)
+    rw (line_came c.args.there.line c.args.line.now r.new.pool x (omega arith) (came c.before)) (c.judge_record.ensures (data_of x r.new.pool) (came c.before).sized)
 
 returns-3 : tie.Need-returns-in-Refused
 returns-3 c =

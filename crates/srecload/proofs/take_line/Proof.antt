@@ -24,7 +24,7 @@ may-go : (c : tie.Else-seen-eq-MOST) → let a = c.args in closed a.seen a.first
 may-go c = let a = c.args in not_closed a.seen a.first (length a.page.now) (length a.marks.now) (fit c) (λ e. omega (arith, grows c))
 
 -- the record that was read
-came : (c : tie.In-Read-2)
+came : (c : tie.In-Read)
     →    let r = c.read_srecord in
     Came c.args.line.now r.new.pool c.in-Read.given
 came c =
@@ -47,7 +47,7 @@ returns-2 c =
     let a = c.args in
     let t = c.take_record in
     let (ps, e, p) = t.ensures in
-    take_open a.line.now a.number a.seen a.first a.page.now a.marks.now (may-go c.before.before.before.before.before.before.before.before.before.before.before.before.before.before) t.result ps _ _ (line_read (within a.first (length a.page.now)) a.number a.seen a.line.now _ _ (told_taken t.result ps) (came c.before.before.before.before.before.before.before.before.before) e) p
+    take_open a.line.now a.number a.seen a.first a.page.now a.marks.now (may-go c.before.before.before.before.before.before.before.before.before.before.before.before.before.before) t.result ps _ _ (line_read (within a.first (length a.page.now)) a.number a.seen a.line.now _ _ (told_taken t.result ps) (came c.before.before.before.before.before.before.before.before) e) p
 
 returns-3 : tie.Need-returns-in-Refused
 returns-3 c =

@@ -10,7 +10,7 @@ use Rattle.srecload.proofs.write_line.Statement.{statement}
 use Rattle.srecload.proofs.write_line.Tie as tie
 
 -- the record that was read
-came : (c : tie.In-Read-2)
+came : (c : tie.In-Read)
     →    let r = c.read_srecord in
     Came c.args.line.now r.new.pool c.in-Read.given
 came c =
@@ -29,7 +29,7 @@ returns-2 : tie.Need-returns-in-Read
 returns-2 c =
     let a = c.args in
     let r = c.read_srecord in
-    wrote_came (site_of a.owner (rows_in a.rows.now)) a.page.now a.marks.now a.line.now r.new.pool c.in-Read.given _ _ _ (omega arith) (came c.before.before.before.before.before.before.before.before) c.write_record.ensures
+    wrote_came (site_of a.owner (rows_in a.rows.now)) a.page.now a.marks.now a.line.now r.new.pool c.in-Read.given _ _ _ (omega arith) (came c.before.before.before.before.before.before.before) c.write_record.ensures
 
 returns-3 : tie.Need-returns-in-Refused
 returns-3 c =

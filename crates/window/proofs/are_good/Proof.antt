@@ -26,7 +26,7 @@ returns c =
     let s = c.args in
     let l = c.loop-i in
     not_good s.pool (rows_in s.rows.now) l.i l.invariant.1 (omega (arith, c.loop-i-test.true, rows_length s.rows.now))
-    (sym (ap (good_row s.pool) c.row_at.ensures) ∙ sym c.is_good.ensures ∙ not-true c.is_good.result c.if-not-is_good.true)
+    (sym (ap (good_row s.pool) c.row_at.ensures) ∙ sym c.is_good.ensures ∙ c.if-not-is_good.true)
 
 loop-less : tie.Need-loop-i-smaller invariant-loop decreases-loop
 loop-less c = omega (arith, c.loop-i-test.true, rows_length c.args.rows.now)
@@ -36,7 +36,7 @@ loop-again c =
     let s = c.args in
     let l = c.loop-i in
     let h : l.i < length (rows_in s.rows.now) = omega (arith, c.loop-i-test.true, rows_length s.rows.now) in
-    (omega arith, still_good s.pool (rows_in s.rows.now) l.i l.invariant.1 h (sym (ap (good_row s.pool) c.row_at.ensures) ∙ sym c.is_good.ensures ∙ not-false c.is_good.result c.if-not-is_good.false))
+    (omega arith, still_good s.pool (rows_in s.rows.now) l.i l.invariant.1 h (sym (ap (good_row s.pool) c.row_at.ensures) ∙ sym c.is_good.ensures ∙ c.if-not-is_good.false))
 
 returns-2 : tie.Need-returns invariant-loop decreases-loop
 returns-2 c =

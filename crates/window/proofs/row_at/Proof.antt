@@ -12,7 +12,7 @@ use Rattle.window.proofs.row_at.Tie as tie
 
 -- the four numbers stand in the table, which is no longer than a slice can be
 room : (s : lts.Start reads.Pre reads.Post) → (4 * s.args.i + 4 ≤ length s.args.rows.now) × (length s.args.rows.now * 8 < 2 ^ 63)
-room s = (rows_room s.args.rows.now s.args.i s.requires, s.well-formed.0.1)
+room s = (rows_room s.args.rows.now s.args.i s.requires, s.well_formed.0.1)
 
 pub row_at_spec : {M : Type 1} → statement M
 row_at_spec =

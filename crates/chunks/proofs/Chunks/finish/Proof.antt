@@ -11,19 +11,19 @@ use Rattle.chunks.proofs.Reading.{finish_reads}
 use Rattle.chunks.proofs.Chunks.finish.Statement.{statement}
 use Rattle.chunks.proofs.Chunks.finish.Tie as tie
 
-in_carry : (c : tie.In-InCarry-2) → (c.in-InCarry.len ≤ 522) × (c.in-InCarry.len ≤ length c.last_line-step.new.carry)
+in_carry : (c : tie.In-InCarry) → (c.in-InCarry.len ≤ 522) × (c.in-InCarry.len ≤ length c.last_line-step.new.carry)
 in_carry c =
     let l = c.last_line-step in
     subst (λ (x : LineReply). Inside x [] l.new.carry) c.in-InCarry.is l.ensures.inside
 
 slice-reshare-prefix-read-kept : tie.Need-slice_bounds-read_kept-end
-slice-reshare-prefix-read-kept c = (in_carry c.before).1
+slice-reshare-prefix-read-kept c = (in_carry c).1
 
 slice-aggregate-read-kept : tie.Need-slice_bounds-read_kept-end-in-InCarry
-slice-aggregate-read-kept c = sym (length-take-le c.in-InCarry.len c.last_line-step.new.carry (in_carry c.before).1)
+slice-aggregate-read-kept c = sym (length-take-le c.in-InCarry.len c.last_line-step.new.carry (in_carry c).1)
 
 read-kept-requires : tie.Need-read_kept-answer-requires
-read-kept-requires c κs = simp length-take (omega (arith, (in_carry c.before.before).0))
+read-kept-requires c κs = simp length-take (omega (arith, (in_carry c.before).0))
 
 returns : tie.Need-returns-in-InCarry
 returns c =
@@ -48,7 +48,7 @@ returns-3 : tie.Need-returns-in_default
 returns-3 c =
     let a = c.args in
     let l = c.last_line-step in
-    let h : OneOf others (tag_of the_type l.result.reply) = c.in_default.keys3 in
+    let h : OneOf others (tag_of the_type l.result.reply) = c.in_default.in_default-own.keys3 in
     finish_reads a.self a.carry.now a.pool.now a.at l.result c.plain-in_default.result l.new.carry a.pool.now l.ensures
     (rw (last_other a.self a.carry.now l.result l.new.carry l.ensures
     (λ n k e. miss others 1 tt (subst (λ (x : LineReply). OneOf others (tag_of the_type x)) e h)) (λ e. miss others 3 tt (subst (λ (x : LineReply). OneOf others (tag_of the_type x)) e h)))

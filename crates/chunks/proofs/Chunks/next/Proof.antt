@@ -8,30 +8,30 @@ use Rattle.chunks.proofs.Reading.{next_reads}
 use Rattle.chunks.proofs.Chunks.next.Statement.{statement}
 use Rattle.chunks.proofs.Chunks.next.Tie as tie
 
-in_chunk : (c : tie.In-InChunk-2) → c.in-InChunk.from + c.in-InChunk.len ≤ length c.args.chunk.now
+in_chunk : (c : tie.In-InChunk) → c.in-InChunk.from + c.in-InChunk.len ≤ length c.args.chunk.now
 in_chunk c =
     let l = c.next_line-step in
     subst (λ (x : LineReply). Inside x c.args.chunk.now l.new.carry) c.in-InChunk.is l.ensures.inside
 
-in_carry : (c : tie.In-InCarry-2) → (c.in-InCarry.len ≤ 522) × (c.in-InCarry.len ≤ length c.next_line-step.new.carry)
+in_carry : (c : tie.In-InCarry) → (c.in-InCarry.len ≤ 522) × (c.in-InCarry.len ≤ length c.next_line-step.new.carry)
 in_carry c =
     let l = c.next_line-step in
     subst (λ (x : LineReply). Inside x c.args.chunk.now l.new.carry) c.in-InCarry.is l.ensures.inside
 
 add-to : tie.Need-overflow_add-to
-add-to c = omega (arith, in_chunk c.before)
+add-to c = omega (arith, in_chunk c)
 
 part-read-record-end : tie.Need-slice_bounds-read_record-end
 part-read-record-end c = in_chunk c.before
 
 slice-reshare-prefix-read-kept : tie.Need-slice_bounds-read_kept-end
-slice-reshare-prefix-read-kept c = (in_carry c.before).1
+slice-reshare-prefix-read-kept c = (in_carry c).1
 
 slice-aggregate-read-kept : tie.Need-slice_bounds-read_kept-end-in-InCarry
-slice-aggregate-read-kept c = sym (length-take-le c.in-InCarry.len c.next_line-step.new.carry (in_carry c.before).1)
+slice-aggregate-read-kept c = sym (length-take-le c.in-InCarry.len c.next_line-step.new.carry (in_carry c).1)
 
 read-kept-requires : tie.Need-read_kept-answer-requires
-read-kept-requires c κs = simp length-take (omega (arith, (in_carry c.before.before).0))
+read-kept-requires c κs = simp length-take (omega (arith, (in_carry c.before).0))
 
 returns : tie.Need-returns-in-InChunk
 returns c =

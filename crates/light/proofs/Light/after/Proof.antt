@@ -11,7 +11,7 @@ use Rattle.light.proofs.Light.after.Tie as tie
 
 -- the marks go with the answer
 went : (c : tie.Else-not-goes_with) → let a = c.args in goes_with (told_loading a.answer) (length a.page.now) a.marks.now ≡ true
-went c = let m = c.goes_with in sym m.ensures.answer_is ∙ not-false m.result c.if-not-goes_with.false
+went c = let m = c.goes_with in sym m.ensures.answer_is ∙ c.if-not-goes_with.false
 
 returns : tie.Need-returns-then-page-self
 returns c =
@@ -24,7 +24,7 @@ returns-2 c =
     let a = c.args in
     let m = c.goes_with in
     subst (λ (r : Dumped). After a.self a.answer a.page.now a.marks.now r) (sym c.misfit-then-not-goes_with.ensures)
-    (after_other_marks a.self a.answer a.page.now a.marks.now c.if-page-self.false (sym m.ensures.answer_is ∙ not-true m.result c.if-not-goes_with.true))
+    (after_other_marks a.self a.answer a.page.now a.marks.now c.if-page-self.false (sym m.ensures.answer_is ∙ c.if-not-goes_with.true))
 
 tell-requires : tie.Need-tell-requires
 tell-requires c κs = let a = c.args in goes_held a.answer a.page.now a.marks.now (went c)

@@ -9,7 +9,7 @@ use Rattle.reader.proofs.State.next.Statement.{statement}
 use Rattle.reader.proofs.State.next.Tie as tie
 
 -- where the line lies that was found
-spotted : (c : tie.In-At-2)
+spotted : (c : tie.In-At)
     →    Ahead c.args.text.now c.args.self.position c.in-At.from c.in-At.len c.in-At.next c.in-At.empties
 spotted c =
     subst (λ (x : Spot). Spotted c.args.text.now c.args.self.position x) c.in-At.is c.find_line.ensures
@@ -20,13 +20,13 @@ returns c =
     next_finished a.self a.text.now a.pool.now a.at c.if-self.true
 
 add-end : tie.Need-overflow_add-end
-add-end c = omega (arith, (spotted c.before).inside)
+add-end c = omega (arith, (spotted c).inside)
 
 add-wrapping-add-usize : tie.Need-overflow_add-empties
-add-wrapping-add-usize c = omega (arith, (spotted c.before).small)
+add-wrapping-add-usize c = omega (arith, (spotted c).small)
 
 part-read-record-end : tie.Need-slice_bounds-read_record-end
-part-read-record-end c = (spotted c.before.before).inside
+part-read-record-end c = (spotted c.before).inside
 
 returns-2 : tie.Need-returns-in-Nothing
 returns-2 c =
@@ -41,7 +41,7 @@ returns-3 c =
     let r = c.read_record-answer in
     let n : c.in-At.from + c.in-At.len - c.in-At.from ≡ c.in-At.len = omega arith in
     next_read a.self a.text.now a.pool.now a.at c.in-At.from c.in-At.len c.in-At.next c.in-At.empties
-    c.if-self.false (spotted c.before.before.before.before.before.before.before.before) r.result r.new.pool
+    c.if-self.false (spotted c.before.before.before.before.before.before.before) r.result r.new.pool
     (subst (λ (k : ℕ). ReadRecord (take k (drop c.in-At.from a.text.now)) a.pool.now a.at r.result r.new.pool) n r.ensures)
     c.wrapping_add_usize-line.result c.wrapping_add_usize-line.ensures
     c.settle.result c.settle.ensures

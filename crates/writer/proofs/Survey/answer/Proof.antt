@@ -6,32 +6,32 @@ use Rattle.writer.proofs.Survey.answer.Statement.{statement}
 use Rattle.writer.proofs.Survey.answer.Tie as tie
 
 returns : tie.Need-returns-then-not-ended
-returns c = record { answer = rw (not-true c.args.self.ended c.if-not-ended.true) }
+returns c = record { answer = rw (c.if-not-ended.true) }
 
 returns-2 : tie.Need-returns-then-ends-gt1
 returns-2 c =
     let s = c.args.self in
-    record { answer = rw (not-false s.ended c.if-not-ended.false, lt-ltb 1 s.ends (omega arith)) }
+    record { answer = rw (c.if-not-ended.false, lt-ltb 1 s.ends (omega arith)) }
 
 returns-3 : tie.Need-returns-then-n-room
 returns-3 c =
     let s = c.args.self in
     record {
       answer =
-          rw (not-false s.ended c.if-not-ended.false, le-ltb 1 s.ends (omega arith), c.in-Wrote.is, lt-leb c.in-Wrote.n c.args.room c.if-n-room.true);
+          rw (c.if-not-ended.false, le-ltb 1 s.ends (omega arith), c.in-Wrote.is, lt-leb c.in-Wrote.n c.args.room c.if-n-room.true);
     }
 
 returns-4 : tie.Need-returns-in-Refused
 returns-4 c =
     let s = c.args.self in
-    record { answer = rw (not-false s.ended c.if-not-ended.false, le-ltb 1 s.ends (omega arith), c.in-Refused.is) }
+    record { answer = rw (c.if-not-ended.false, le-ltb 1 s.ends (omega arith), c.in-Refused.is) }
 
 returns-5 : tie.Need-returns-else-n-room
 returns-5 c =
     let s = c.args.self in
     record {
       answer =
-          rw (not-false s.ended c.if-not-ended.false, le-ltb 1 s.ends (omega arith), c.in-Wrote.is, le-leb c.in-Wrote.n c.args.room c.if-n-room.false);
+          rw (c.if-not-ended.false, le-ltb 1 s.ends (omega arith), c.in-Wrote.is, le-leb c.in-Wrote.n c.args.room c.if-n-room.false);
     }
 
 pub answer_spec : {M : Type 1} → statement M
