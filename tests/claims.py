@@ -5,8 +5,8 @@ In a cell of a table of docs/CLAIMS.md each file in backquotes is there, and eac
 that file, outside its comments. A claim is a name of a crate's specs/ that is a statement by itself: `abbrev pub X : Type n`,
 or a record without parameters each of whose fields is a statement. It stands in docs/CLAIMS.md after its file, and has a proof of exactly its type: `pub x : X` in the
 crate's proofs/, in a file that has X from the file of specs/ that states it. That the proof holds is the check's to say.
-Files and names of docs/GLOSSARY.md are looked up in the same way. Each edit of a must-fail folder has a line that stands once in
-the file that it changes, and a row in docs/CLAIMS.md."""
+Files and names of docs/GLOSSARY.md are looked up in the same way. Each text that an edit of a must-fail folder changes stands once in
+the file that it names, as the edit's changes before it leave that, and the edit has a row in docs/CLAIMS.md."""
 import pathlib
 import re
 import sys
@@ -51,7 +51,7 @@ def claims(spec):
 
 def proves(proof, crate, stem, claim):
     """Whether a file of proofs has a declaration of exactly that type, by the name that specs/STEM.antt states."""
-    has = r'^use Rattle·%s·specs\.specs\.%s\.\{(?:[^}]*, )?%s(?:, [^}]*)?\}$' % (crate, stem, re.escape(claim))
+    has = r'^use Rattle\.%s\.specs\.%s\.\{(?:[^}]*, )?%s(?:, [^}]*)?\}$' % (crate, stem, re.escape(claim))
     anew = r'^(?:abbrev |unfoldable )*(?:pub )?(?:record |data )?%s :' % re.escape(claim)
     return (re.search(r'^pub \S+ : %s$' % re.escape(claim), proof, re.M) is not None
             and re.search(has, proof, re.M) is not None and re.search(anew, proof, re.M) is None)
@@ -62,11 +62,12 @@ def finds_what_is_wrong():
     spec = ('abbrev pub Holds : Type 0\nHolds = Unit\n\nabbrev pub Takes : ℕ → Type 0\n\npub record Cell : Type 0 where\n  pub place : ℕ\n\n'
             'pub record Given : Type 1 where\n  pub holds : (n : ℕ) → Type 0\n\n'
             'pub record Examples : Type 0 where\n  -- one\n  pub one : 1 ≤ 1\n\n  pub all : (n : ℕ)\n      → n ≡ n\n')
-    use, lemma = 'use Rattle·a·specs.specs.B.{Other, Holds}\n', 'pub holds : Holds\n'
+    use, lemma = 'use Rattle.a.specs.B.{Other, Holds}\n', 'pub holds : Holds\n'
     wrong = [use + 'pub holds : ℕ → Holds\n', use.replace('.B.', '.C.') + lemma, use + 'abbrev Holds : Type 0\n' + lemma, use + '-- ' + lemma]
     return (list(claims(spec)) == ['Holds', 'Examples'] and proves(use + lemma, 'a', 'B', 'Holds')
             and not any(proves(text, 'a', 'B', 'Holds') for text in wrong)
-            and times('file: f\nold:   x = 1\nnew:   x = 2\n', 'x = 1\n  x = 1\n') == 1
+            and counts('file: f\nold:   x = 1\nnew:   x = 2\n', 'x = 1\n  x = 1\n') == [1]
+            and counts('file: f\nold: y\nnew: x\nold: x\nnew: z\n', 'x y') == [1, 2] and counts('file: f\nold: x\nold: y\nnew: z\nnew: x\n', 'x y') == []
             and list(names('| `x` | `crates/a` `y` |\n`z`')) == [(1, 'crates/a', 'crates/a'), (1, 'crates/a', 'y')])
 
 
@@ -81,9 +82,17 @@ def unproved(listed):
                                     *([] if (file, claim) in listed else ['is not in docs/CLAIMS.md'])]
 
 
-def times(edit, text):
-    """How often the line that an edit changes stands in the text of its file."""
-    return text.count(re.search(r'(?m)^old: (.*)$', edit)[1])
+def counts(edit, text):
+    """How often each text that an edit changes stands in its file, as the changes before it leave that; nothing for an edit that is
+    not a file's name and then pairs of an old text and a new one."""
+    told = re.findall(r'(?m)^(file|old|new):(?: (.*))?$', edit)
+    if [key for key, _ in told] != ['file'] + ['old', 'new'] * (len(told) // 2):
+        return []
+    found = []
+    for (_, old), (_, new) in zip(told[1::2], told[2::2]):
+        found.append(text.count(old))
+        text = text.replace(old, new)
+    return found
 
 
 def edits(listed):
@@ -91,8 +100,8 @@ def edits(listed):
     for path in sorted((repo / 'crates').glob('*/must-fail/*.edit')):
         file, edit = str(path.relative_to(repo)), path.read_text(encoding='utf-8')
         changed = path.parent.parent / re.search(r'(?m)^file: (.*)$', edit)[1]
-        there = times(edit, changed.read_text(encoding='utf-8')) if changed.is_file() else 0
-        yield file, [*([] if there == 1 else ['changes a line that stands %d times in its file' % there]),
+        there = counts(edit, changed.read_text(encoding='utf-8')) if changed.is_file() else []
+        yield file, [*([] if there and set(there) == {1} else ['changes a text that stands %s times in its file' % (' and '.join(map(str, there)) or 0)]),
                      *([] if (file, file) in listed else ['is not in docs/CLAIMS.md'])]
 
 

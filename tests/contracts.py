@@ -1,8 +1,8 @@
 #!/usr/bin/env python3
 """Holds each public function of the crates to what its contract must have: no `requires`, an `ensures`, and a lemma
-that no second answer meets it, or else a row of docs/EXCEPTIONS.md that says why not. The lemma of `f` is `f-unique`, that of
-a method `T::f` is `f-unique` or `t-f-unique`; no lemma serves two functions of a crate. Its type is a claim of the crate's specs/,
-`..-unique`, which says "if two answers meet the contract they are the same", or names such a claim."""
+that no second answer meets it, or else a row of docs/EXCEPTIONS.md that says why not. The lemma of `f` is `f_unique`, that of
+a method `T::f` is `f_unique` or `t_f_unique`; no lemma serves two functions of a crate. Its type is a claim of the crate's specs/,
+`..Unique`, which says "if two answers meet the contract they are the same", or names such a claim."""
 import pathlib
 import re
 import sys
@@ -13,7 +13,7 @@ ITEM = re.compile(r'^impl(?:<[^>]*>)? (?P<type>\w+)|^(?P<end>\})|^ *pub (?:exter
 
 def small(name):
     """A name of the code as the proofs spell it."""
-    return re.sub(r'(?<=[a-z])(?=[A-Z])', '-', name).lower().replace('_', '-')
+    return re.sub(r'(?<=[a-z])(?=[A-Z])', '_', name).lower()
 
 
 def contract(source, start):
@@ -40,7 +40,7 @@ def lacks(holder, name, head, lemmas, excepted):
         yield 'it has a requires'
     if not re.search(r'\bensures\b', head):
         yield 'it has no ensures'
-    wanted = [small(holder) + '-' + small(name) + '-unique'] * bool(holder) + [small(name) + '-unique']
+    wanted = [small(holder) + '_' + small(name) + '_unique'] * bool(holder) + [small(name) + '_unique']
     served = [lemma for lemma in wanted if lemma in lemmas][:1]
     lemmas.difference_update(served)
     if not served and (holder + '::' + name if holder else name) not in excepted:
@@ -49,24 +49,24 @@ def lacks(holder, name, head, lemmas, excepted):
 
 def claims(specs):
     """The claims that say of two answers, or of two contents of a buffer, that they are the same, or that name such a claim."""
-    found = re.findall(r'^abbrev pub (\S+-unique) : Type 0\n\S+ =\s+(\S(?:.|\n(?! *\n))*)', specs, re.M)
-    return {name for name, said in found if re.fullmatch(r'\S+-unique', said.strip()) or said.count('→') > 1 and '≡' in said or 'One-' in said}
+    found = re.findall(r'^abbrev pub (\S+Unique) : Type 0\n\S+ =\s+(\S(?:.|\n(?! *\n))*)', specs, re.M)
+    return {name for name, said in found if re.fullmatch(r'\S+Unique', said.strip()) or said.count('→') > 1 and '≡' in said or re.search(r'\bOne[A-Z]', said)}
 
 
 def of_crate(sources, proofs, specs, excepted):
     """What each public function of a crate lacks. Those with a lemma of their type's name take theirs first."""
     stated = claims(specs)
-    lemmas = {name for name, claim in re.findall(r'^pub (\S+-unique) : (\S+)$', proofs, re.M) if claim in stated}
+    lemmas = {name for name, claim in re.findall(r'^pub (\S+_unique) : (\S+)$', proofs, re.M) if claim in stated}
     found = [(path, item) for path, source in sources for item in public_functions(source)]
-    found.sort(key=lambda x: small(x[1][1]) + '-' + small(x[1][2]) + '-unique' not in lemmas)
+    found.sort(key=lambda x: small(x[1][1]) + '_' + small(x[1][2]) + '_unique' not in lemmas)
     return [(path, line, name, list(lacks(holder, name, head, lemmas, excepted))) for path, (line, holder, name, head) in found]
 
 
 def finds_what_is_wrong():
     """Six functions that lack one thing each, and two that lack nothing."""
     wrong = '''pub fn a(n: u8) -> u8
-    requires { ⌜ n < 9 ⌝ }
-    ensures { λ r. ⌜ A n r ⌝ }
+    requires { n < 9 }
+    ensures { A n result }
 {
 }
 pub fn b(n: u8) -> u8 {
@@ -74,40 +74,41 @@ pub fn b(n: u8) -> u8 {
 }
 impl Top {
     pub fn c(self) -> u8
-        ensures { λ r. ⌜ C r ⌝ }
+        ensures { C result }
     {
     }
 }
 impl<'a> LowTop<'a> {
     pub fn c(self) -> u8
-        ensures { λ r. ⌜ C r ⌝ }
+        ensures { C result }
     {
     }
     pub fn d(self) -> u8
-        ensures { λ r. ⌜ D r ⌝ }
+        ensures low { D result }
+        ensures high { result < 9 }
     {
     }
 }
 pub extern "C" fn e(n: u8) -> u8
-    ensures { λ r. ⌜ E n r ⌝ }
+    ensures { E n result }
 {
 }
 pub fn f() -> u8
-    ensures { λ r. ⌜ F r ⌝ }
+    ensures { F result }
 {
 }
 pub fn g(n: u8) -> u8
-    ensures { λ r. ⌜ G n r ⌝ }
-    requires {
-        ⌜ n < 9 ⌝
+    ensures { G n result }
+    requires small {
+        n < 9
     }
 {
 }
 '''
-    proofs = ''.join('pub %s-unique : %s\n' % (name, claim) for name, claim in (
-        ('a', 'X-unique'), ('b', 'X-unique'), ('c', 'Y-unique'), ('low-top-d', 'X-unique'), ('f', 'Z-unique'), ('g', 'X-unique')))
-    specs = ('abbrev pub X-unique : Type 0\nX-unique = (n r r′ : ℕ) → X n r → X n r′ → r ≡ r′\n\n'
-             'abbrev pub Y-unique : Type 0\nY-unique = X-unique\n\nabbrev pub Z-unique : Type 0\nZ-unique = Unit\n')
+    proofs = ''.join('pub %s_unique : %s\n' % (name, claim) for name, claim in (
+        ('a', 'XUnique'), ('b', 'XUnique'), ('c', 'YUnique'), ('low_top_d', 'XUnique'), ('f', 'ZUnique'), ('g', 'XUnique')))
+    specs = ("abbrev pub XUnique : Type 0\nXUnique = (n r r' : ℕ) → X n r → X n r' → r ≡ r'\n\n"
+             'abbrev pub YUnique : Type 0\nYUnique = XUnique\n\nabbrev pub ZUnique : Type 0\nZUnique = Unit\n')
     return sorted((name, len(why)) for _, _, name, why in of_crate([('', wrong)], proofs, specs, set())) == [
         ('a', 1), ('b', 1), ('c', 0), ('c', 1), ('d', 0), ('e', 1), ('f', 1), ('g', 1)]
 

@@ -134,11 +134,11 @@ module _ (stage stated page marks : List ℕ) where
 
   -- else the row of marks is copied whole
   pub all_copied : length stage ≡ length page → length stated ≡ length marks → length marks ≡ row_length (length page)
-      → (page' marks' : List ℕ) → page' ≡ committed stage stated page → marks' ≡ take (length stated) stated ++ drop (length stated) marks
+      → (page' marks' : List ℕ) → page' ≡ committed stage stated page → marks' ≡ stated ++ drop (length stated) marks
       → Commit stage stated page marks true page' marks'
   all_copied e f g page' marks' p m =
       record {
         answer = sym (fits (length stage) (length stated) (length page) (length marks) e f g);
         page = p;
-        marks = m ∙ rw (take-length stated, drop_of_length-le marks {i = length stated} (omega arith)) (append-nil stated);
+        marks = m ∙ rw (drop_of_length-le marks {i = length stated} (omega arith)) (append-nil stated);
       }

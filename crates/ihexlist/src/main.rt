@@ -4,12 +4,21 @@ ghost use Rattle.std.specs.Prelude.{◌≡◌, ◌≤◌, length};
 ghost use Rattle.ihexlist.specs.Status.{said_status};
 
 use listing::Listed;
+use std::env::{Env, FillError};
+use std::fs::OpenOptions;
+use std::io;
+use std::io::{ErrorKind, Read, Write};
+use std::process::ExitCode;
+use std::rt::Files;
 
-// Where the exit status is written, as one digit. A program has no other way to say it.
-const STATUS_FILENO: i32 = 3;
+// Where the status of a text is written, as one digit: descriptor 3, by its name. The process ends with status 0.
+const STATUS_FILE: &str = "/proc/self/fd/3";
 
-// The exit status where the input cannot be read or the output cannot be written.
+// The status where the input cannot be read or the output cannot be written.
 const FAILED: u8 = 2;
+
+// What the process ends with where nobody reads its output any more: what a shell says of a program that SIGPIPE ended.
+const NOBODY_READS: u8 = 141;
 
 // How many bytes were read, and whether a read failed.
 #[derive(Clone, Copy)]
@@ -33,30 +42,43 @@ fn output() -> [u8; 196643]
 }
 
 // Reads until the space is full, the input ends or a read fails.
-fn read_all(text: &mut [u8]) -> Taken
+fn read_all(from: &mut impl Read, text: &mut [u8]) -> Taken
     ensures { result.n ≤ length text.new }
 {
     let mut n = 0;
     while n < text.len() {
-        let got = libc::read(libc::STDIN_FILENO, &mut text[n..]);
-        if got < 0 {
-            return Taken { n, failed: true };
+        match from.read(&mut text[n..]) {
+            Ok(more) => {
+                if more == 0 {
+                    break;
+                }
+                n += more;
+            }
+            Err(_) => return Taken { n, failed: true },
         }
-        let more = io::count(got, &text[n..]);
-        if more == 0 {
-            break;
-        }
-        n += more;
     }
     Taken { n, failed: false }
 }
 
+// Prints bytes, and answers whether that went well. An error says that nobody reads them.
+fn print(rt: &impl Print, bytes: &[u8]) -> io::Result<bool> {
+    match rt.write_all(bytes) {
+        Ok(()) => Ok(true),
+        Err(e) => {
+            if e.kind() == ErrorKind::BrokenPipe {
+                return Err(e);
+            }
+            Ok(false)
+        }
+    }
+}
+
 // Prints the listing of a text, and answers whether that went well.
-fn show(text: &[u8]) -> bool {
+fn show(rt: &impl Print, text: &[u8]) -> io::Result<bool> {
     let mut out = output();
     match listing::list(text, &mut out) {
-        Listed::Wrote(m) => io::write_all(libc::STDOUT_FILENO, &out[..m]),
-        Listed::NoRoom => false,
+        Listed::Wrote(m) => print(rt, &out[..m]),
+        Listed::NoRoom => Ok(false),
     }
 }
 
@@ -71,34 +93,56 @@ fn status(text: &[u8], written: bool) -> u8
 }
 
 // Says on standard error what failed.
-fn complain(what: &[u8]) {
-    io::write_all(libc::STDERR_FILENO, what);
+fn complain(rt: &impl Eprint, what: &str) {
+    let _ = rt.eprint(what);
 }
 
-// Prints the listing of a text, and returns its exit status.
-fn report(text: &[u8]) -> u8 {
-    let written = show(text);
+// Prints the listing of a text, and returns its status.
+fn report(rt: &(impl Print + Eprint), text: &[u8]) -> io::Result<u8> {
+    let written = show(rt, text)?;
     if !written {
-        complain(b"cannot write\n");
+        complain(rt, "cannot write\n");
     }
-    status(text, written)
+    Ok(status(text, written))
 }
 
-// Writes the exit status where the program was started with an argument. Without one, descriptor 3 may be somebody else's.
-fn tell(status: u8) {
-    if os::arg_count() > 1 {
-        io::write_all(STATUS_FILENO, &[std::num::wrapping_add_u8(b'0', status)]);
+// Whether the program was started with an argument.
+fn is_asked(rt: &impl Env) -> bool {
+    let mut word = [0u8; 1];
+    match rt.arg(1, &mut word) {
+        Ok(_) => true,
+        Err(FillError::TooLong) => true,
+        Err(FillError::NotPresent) => false,
     }
 }
 
-fn main() {
+// Writes a digit to descriptor 3.
+fn write_digit(rt: &impl Files, digit: u8) -> io::Result<()> {
+    let mut file = OpenOptions::new().append(true).open(rt, STATUS_FILE)?;
+    file.write_all(&[digit])
+}
+
+// Writes the status where the program was started with an argument. Without one, descriptor 3 may be somebody else's.
+fn tell(rt: &(impl Env + Files), status: u8) {
+    if is_asked(rt) {
+        let _ = write_digit(rt, std::num::wrapping_add_u8(b'0', status));
+    }
+}
+
+fn main(rt: HostRuntime) -> ExitCode {
     let mut text = input();
-    let read = read_all(&mut text);
+    let read = read_all(&mut rt.stdin(), &mut text);
     if read.failed {
-        complain(b"cannot read\n");
-        tell(FAILED);
-        return;
+        complain(&rt, "cannot read\n");
+        tell(&rt, FAILED);
+        return ExitCode::SUCCESS;
     }
     let n = read.n;
-    tell(report(&text[..n]));
+    match report(&rt, &text[..n]) {
+        Ok(status) => {
+            tell(&rt, status);
+            ExitCode::SUCCESS
+        }
+        Err(_) => ExitCode::from(NOBODY_READS),
+    }
 }

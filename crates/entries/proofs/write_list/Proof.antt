@@ -29,7 +29,6 @@ returns c =
 
 returns-2 : tie.Need-returns-in-Of
 returns-2 c =
-    let s = c.before.before.before.before.before.before.before.before.before.before.before.before in
     let list = c.args.list.now in
     let pool = c.args.pool.now in
     let whole = subst (λ (y : ListSurvey). ListSurveyAs list pool y) c.in-Of.is c.survey_list-surveyed.ensures in

@@ -19,7 +19,6 @@ returns c =
 returns-2 : tie.Need-returns-in-Is
 returns-2 c =
     let s = c.args in
-    let x = c.entry-1.given in
     let w = c.to_record_string in
     made (λ (x : Record). line_text x s.pool.now) (record_of s.kind s.number s.second s.at s.len) s.out.now
     c.in-Is.x (told_written w.result) w.new.out (sym c.record_from-entry.ensures ∙ ap entry_of c.in-Is.is) w.ensures

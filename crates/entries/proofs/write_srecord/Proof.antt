@@ -24,7 +24,6 @@ returns c =
 returns-2 : tie.Need-returns-in-Kind
 returns-2 c =
     let s = c.args in
-    let t = c.named-1.given in
     let w = c.to_srecord_string in
     made (λ (x : SRecord). line_text x s.pool.now) (srecord_of s.kind s.address s.at s.len) s.out.now
     (record { kind = c.in-Kind.t; address = s.address; at = s.at; len = s.len }) (told_swritten w.result) w.new.out

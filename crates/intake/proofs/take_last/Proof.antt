@@ -22,7 +22,6 @@ slice-aggregate-take c = sym (length-take-le c.in-InCarry.len c.last_line-step.n
 
 returns : tie.Need-returns-in-InCarry
 returns c =
-    let s = c.before.before.before.before.before.before.before.before.before.before.before.before.before.before.before.before.before.before.before.before.before.before.before in
     let a = c.args in
     let w = c.stand-w in
     let l = c.last_line-step in
@@ -34,7 +33,6 @@ returns c =
 
 returns-2 : tie.Need-returns
 returns-2 c =
-    let s = c.before.before.before.before.before.before.before.before.before.before.before.before in
     let a = c.args in
     let w = c.stand-w in
     let l = c.last_line-step in

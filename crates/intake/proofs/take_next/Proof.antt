@@ -26,7 +26,7 @@ add-to : tie.Need-overflow_add-to
 add-to c = omega (arith, in_chunk c)
 
 part-hear-end : tie.Need-slice_bounds-hear-end
-part-hear-end c = in_chunk c.before
+part-hear-end c = in_chunk c
 
 slice-reshare-prefix-hear : tie.Need-slice_bounds-hear-end-in-InCarry
 slice-reshare-prefix-hear c = (in_carry c).1

@@ -70,7 +70,6 @@ list_spec =
     (tie.spec
     (λ c κs. search rules)
     returns
-    (λ c. search rules)
     put-text-requires
     (λ c. search rules)
     returns-2

@@ -49,7 +49,6 @@ pub put_data_spec : {M : Type 1} → statement M
 put_data_spec =
     tie.close
     (tie.spec
-    (λ c. search rules)
     put-text-requires
     put-word-requires
     (λ c. search rules)

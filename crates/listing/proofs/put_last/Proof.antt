@@ -28,4 +28,4 @@ returns c =
 pub put_last_spec : {M : Type 1} → statement M
 put_last_spec =
     tie.close
-    (tie.spec put-decimal-requires (λ c. search rules) put-text-requires (λ c. search rules) returns)
+    (tie.spec put-decimal-requires put-text-requires (λ c. search rules) returns)

@@ -51,7 +51,6 @@ put_refusal_spec =
     tie.close
     (tie.spec
     (λ c κs. search rules)
-    (λ c. search rules)
     put-text-requires
     (λ c. search rules)
     put-decimal-requires

@@ -47,7 +47,7 @@ judge-record-requires c κs =
     let l = c.loop-given in
     let n = c.next-step in (
       short_record c.in-Read.given n.new.pool ((one c).lies (n.auto.pool ∙ l.invariant.room)),
-      countable_records s.text.now l.w l.pool n.result n.new.pool l.invariant.under_way l.invariant.room n.ensures l.tally _ (one c) l.invariant.few (countable c.before.before.before.before.before.before.before.before.before),
+      countable_records s.text.now l.w l.pool n.result n.new.pool l.invariant.under_way l.invariant.room n.ensures l.tally _ (one c) l.invariant.few (countable c.before.before.before.before.before.before.before),
     )
 
 -- the load goes on
@@ -59,9 +59,9 @@ goes_on c =
     let s = c.args in
     let l = c.loop-given in
     let n = c.next-step in
-    judged_on s.text.now l.w l.pool n.result n.new.pool l.invariant.under_way l.invariant.room n.ensures (inside_of s.owner (rows_in s.rows.now)) l.tally _ (one c.before.before.before.before) l.invariant.few c.in-On.after c.in-On.t
+    judged_on s.text.now l.w l.pool n.result n.new.pool l.invariant.under_way l.invariant.room n.ensures (inside_of s.owner (rows_in s.rows.now)) l.tally _ (one c.before.before) l.invariant.few c.in-On.after c.in-On.t
     (subst (Met (inside_of s.owner (rows_in s.rows.now)) n.result.state.line l.w.base l.tally (meant c.in-Read.given n.new.pool)) c.in-On.is
-    (c.judge_record.ensures n.new.pool ((one c.before.before.before.before).lies (n.auto.pool ∙ l.invariant.room))))
+    (c.judge_record.ensures n.new.pool ((one c.before.before).lies (n.auto.pool ∙ l.invariant.room))))
 
 loop-less : tie.Need-loop-given-smaller invariant-loop decreases-loop
 loop-less c = (goes_on c).less
@@ -79,9 +79,9 @@ returns c =
     let l = c.loop-given in
     let n = c.next-step in
     judging_end (inside_of s.owner (rows_in s.rows.now)) s.text.now l.pool l.w l.tally l.invariant c.in-Stop.answer
-    (judged_stop s.text.now l.w l.pool n.result n.new.pool l.invariant.under_way l.invariant.room n.ensures (inside_of s.owner (rows_in s.rows.now)) l.tally _ (one c.before.before.before.before) c.in-Stop.answer
+    (judged_stop s.text.now l.w l.pool n.result n.new.pool l.invariant.under_way l.invariant.room n.ensures (inside_of s.owner (rows_in s.rows.now)) l.tally _ (one c.before.before) c.in-Stop.answer
     (subst (Met (inside_of s.owner (rows_in s.rows.now)) n.result.state.line l.w.base l.tally (meant c.in-Read.given n.new.pool)) c.in-Stop.is
-    (c.judge_record.ensures n.new.pool ((one c.before.before.before.before).lies (n.auto.pool ∙ l.invariant.room)))))
+    (c.judge_record.ensures n.new.pool ((one c.before.before).lies (n.auto.pool ∙ l.invariant.room)))))
 
 returns-2 : tie.Need-returns-in-Refused invariant-loop decreases-loop
 returns-2 c =

@@ -28,13 +28,13 @@ judge-record-requires c κs = (short_record c.args.given c.args.pool.now c.requi
 write-record-requires : tie.Need-write_record-requires
 write-record-requires c κs =
     let l = c.put_whole.new in
-    (c.requires.0, alone_sound c.args.first l.page l.marks (let e = left c.before.before.before.before.before.before.before.before in rw (e.0, e.1) c.requires.2))
+    (c.requires.0, alone_sound c.args.first l.page l.marks (let e = left c.before.before.before.before.before.before in rw (e.0, e.1) c.requires.2))
 
 returns-2 : tie.Need-returns-in-On
 returns-2 c =
     let a = c.args in
     let l = c.put_whole.new in
-    took_by_table a.number a.base a.tally a.given a.pool.now a.first a.page.now a.marks.now l.page l.marks (left c.before.before.before.before.before.before.before.before.before.before.before.before.before) (On c.in-On.next c.in-On.t)
+    took_by_table a.number a.base a.tally a.given a.pool.now a.first a.page.now a.marks.now l.page l.marks (left c.before.before.before.before.before.before.before.before.before.before.before) (On c.in-On.next c.in-On.t)
     (subst (Met (inside_of 1 (rows_in (alone a.first (length l.page)))) a.number a.base a.tally (meant a.given a.pool.now)) c.in-On.is (c.judge_record.ensures a.pool.now c.requires.0))
     _ _ c.write_record.ensures
 
@@ -42,7 +42,7 @@ returns-3 : tie.Need-returns-in-Stop
 returns-3 c =
     let a = c.args in
     let l = c.put_whole.new in
-    took_by_table a.number a.base a.tally a.given a.pool.now a.first a.page.now a.marks.now l.page l.marks (left c.before.before.before.before.before) (Stop c.in-Stop.answer)
+    took_by_table a.number a.base a.tally a.given a.pool.now a.first a.page.now a.marks.now l.page l.marks (left c.before.before.before) (Stop c.in-Stop.answer)
     (subst (Met (inside_of 1 (rows_in (alone a.first (length l.page)))) a.number a.base a.tally (meant a.given a.pool.now)) c.in-Stop.is (c.judge_record.ensures a.pool.now c.requires.0))
     _ _ (painted_nothing _ l.page l.marks)
 

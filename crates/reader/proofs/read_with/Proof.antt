@@ -25,11 +25,9 @@ said s = judge (line_of s)
 
 -- what was decoded: the characters after the colon, all of them
 decoded : (c : tie.After-decode-scan)
-    → let s = c.before.before.before.before.before.before.before.before.before.before.before.before in
-    Decoded (drop 1 (line_of c.before.before.before.before.before.before.before.before.before.before.before.before)) c.args.buf.now c.decode-scan.result.whole c.decode-scan.result.sum c.decode-scan.new.buf
+    →    Decoded (drop 1 (line_of c.before.before.before.before.before.before.before.before.before.before.before.before)) c.args.buf.now c.decode-scan.result.whole c.decode-scan.result.sum c.decode-scan.new.buf
 decoded c =
-    let s = c.before.before.before.before.before.before.before.before.before.before.before.before in
-    let l = line_of s in
+    let l = line_of c.before.before.before.before.before.before.before.before.before.before.before.before in
     let room : ℕ = length c.args.buf.now in
     let d : Decoded (pairs (take (length l - 1) (drop 1 l)) room) c.args.buf.now c.decode-scan.result.whole c.decode-scan.result.sum c.decode-scan.new.buf = c.decode-scan.ensures in
     rw (rest_is l 1, pairs_all (drop 1 l) room (omega (arith, length-drop 1 l)) (omega (arith, length-drop 1 l, c.requires))) at d
@@ -81,8 +79,7 @@ add-name-place c =
 
 returns-6 : tie.Need-returns-then-not-whole
 returns-6 c =
-    let s = c.before.before.before.before.before.before.before.before.before.before.before.before.before.before.before.before.before.before in
-    let l = line_of s in
+    let l = line_of c.before.before.before.before.before.before.before.before.before.before.before.before.before.before.before.before.before.before in
     let f = c.first_other-good in
     let place : f.result ≡ leading (take (length l - 1) (drop 1 l)) = f.ensures.answer in
     let e = place ∙ ap leading (rest_is l 1) in
@@ -95,7 +92,7 @@ judge-bytes-requires : tie.Need-judge_bytes-requires
 judge-bytes-requires c κs =
     let d = c.decode-scan in
     let k : length d.new.buf ≡ length c.args.buf.now = d.auto.buf in
-    let e = spelt c.before.before in
+    let e = spelt c.before in
     record {
       least = omega arith;
       most = omega arith;

@@ -35,7 +35,7 @@ sized : (c : tie.After-put-first) → length c.put-first.new.out ≡ length c.ar
 sized c = c.put-first.auto.out ∙ simp length-set
 
 sized2 : (c : tie.After-put-second) → length c.put-second.new.out ≡ length c.args.out.now
-sized2 c = c.put-second.auto.out ∙ sized c.before.before.before.before.before.before
+sized2 c = c.put-second.auto.out ∙ sized c.before.before.before.before.before
 
 sized3 : (c : tie.After-put-sum) → length c.put-sum.new.out ≡ length c.args.out.now
 sized3 c = c.put-sum.auto.out ∙ sized2 c.before.before.before.before
@@ -52,8 +52,8 @@ put-requires c κs = simp length-set (omega (arith, c.requires.room))
 put-requires-2 : tie.Need-put-second-requires
 unfolding place_of four
 put-requires-2 c κs =
-    let l = sized c.before.before.before.before.before in
-    let n : length (place_of c.before.before.before.before.before.before.before) ≡ c.width_of-w.result = place-size c.before.before.before.before.before.before.before.before in
+    let l = sized c.before.before.before.before in
+    let n : length (place_of c.before.before.before.before.before.before.before) ≡ c.width_of-w.result = place-size c.before.before.before.before.before.before.before in
     omega (arith, c.requires.room)
 
 put-requires-3 : tie.Need-put-sum-requires

@@ -91,7 +91,7 @@ judge-bytes-requires : tie.Need-judge_bytes-requires
 judge-bytes-requires c κs =
     let d = c.decode-scan in
     let k : length d.new.buf ≡ length c.args.buf.now = d.auto.buf in
-    let e = spelt c.before.before in
+    let e = spelt c.before in
     record {
       named = c.requires.named;
       least = omega (arith, c.width_of.ensures.0, c.if-n-width_of.false);

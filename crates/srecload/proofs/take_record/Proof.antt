@@ -29,7 +29,7 @@ returns c = let a = c.args in c.put_whole.ensures.took c.if-put_whole.true a.num
 write-record-requires : tie.Need-write_record-requires
 write-record-requires c κs =
     let l = c.put_whole.new in
-    let e = left c.before.before.before.before.before.before.before.before in
+    let e = left c.before.before.before.before.before.before in
     (c.requires.0, alone_sound c.args.first l.page l.marks (rw (e.0, e.1) c.requires.2))
 
 returns-2 : tie.Need-returns-in-On
@@ -40,7 +40,7 @@ returns-2 c =
     let there : Walk = record { position = 0; line = a.number } in
     let m = meant_in a.given a.pool.now in
     let met = c.judge_record.ensures (data_of a.given a.pool.now) (part_length a.pool.now a.given.at a.given.len c.requires.0.0) in
-    took_by_table a.number a.seen a.given a.pool.now a.first a.page.now a.marks.now l.page l.marks (left c.before.before.before.before.before.before.before.before.before.before.before.before.before) (On c.in-On.n) (stated (map (step a.number) (s_does m)))
+    took_by_table a.number a.seen a.given a.pool.now a.first a.page.now a.marks.now l.page l.marks (left c.before.before.before.before.before.before.before.before.before.before.before) (On c.in-On.n) (stated (map (step a.number) (s_does m)))
     (record_goes inside there a.seen m c.in-On.field-1 c.in-On.n (subst (λ (t : Turn). Met inside there a.seen (map (step a.number) (s_does m)) t) c.in-On.is met)) _ _ (c.write_record.ensures a.number).painted
 
 returns-3 : tie.Need-returns-in-Stop
@@ -51,7 +51,7 @@ returns-3 c =
     let there : Walk = record { position = 0; line = a.number } in
     let m = meant_in a.given a.pool.now in
     let met = c.judge_record.ensures (data_of a.given a.pool.now) (part_length a.pool.now a.given.at a.given.len c.requires.0.0) in
-    took_by_table a.number a.seen a.given a.pool.now a.first a.page.now a.marks.now l.page l.marks (left c.before.before.before.before.before) (Stop c.in-Stop.answer) []
+    took_by_table a.number a.seen a.given a.pool.now a.first a.page.now a.marks.now l.page l.marks (left c.before.before.before) (Stop c.in-Stop.answer) []
     (record_stops inside there a.seen m c.in-Stop.answer (subst (λ (t : Turn). Met inside there a.seen (map (step a.number) (s_does m)) t) c.in-Stop.is met)) _ _ (painted_nothing _ l.page l.marks)
 
 pub take_record_spec : {M : Type 1} → statement M

@@ -23,7 +23,7 @@ returns c =
     let a = c.args in wrote_empty (site_of a.owner (rows_in a.rows.now)) a.page.now a.marks.now a.line.now c.if-line-eq0.true
 
 write-record-requires : tie.Need-write_record-requires
-write-record-requires c κs = let k = came c.before.before.before.before in ((k.lies, k.few), c.requires.1)
+write-record-requires c κs = let k = came c.before.before in ((k.lies, k.few), c.requires.1)
 
 returns-2 : tie.Need-returns-in-Read
 returns-2 c =

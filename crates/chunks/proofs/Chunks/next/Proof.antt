@@ -22,7 +22,7 @@ add-to : tie.Need-overflow_add-to
 add-to c = omega (arith, in_chunk c)
 
 part-read-record-end : tie.Need-slice_bounds-read_record-end
-part-read-record-end c = in_chunk c.before
+part-read-record-end c = in_chunk c
 
 slice-reshare-prefix-read-kept : tie.Need-slice_bounds-read_kept-end
 slice-reshare-prefix-read-kept c = (in_carry c).1

@@ -40,7 +40,7 @@ take-all-requires c κs =
 returns-4 : tie.Need-returns-in-UsedUp
 returns-4 c =
     let a = c.args in
-    let f = fit c.before.before.before.before.before.before.before.before.before.before.before.before.before.before.before in
+    let f = fit c.before.before.before.before.before.before.before.before.before.before.before.before.before in
     let t = c.take_all in
     subst (λ (s : Intake). Feeds a.self a.chunk.now a.carry.now a.first a.stage.now a.stated.now (WantsMore s) t.new.carry t.new.page t.new.marks) (sym c.pause.ensures)
     (feeds_up a.self a.chunk.now a.carry.now a.first a.stage.now a.stated.now f.0 f.1 t.result _ _ _ (rw c.stand.ensures at t.ensures) t.auto.carry c.in-UsedUp.w c.in-UsedUp.is)
@@ -48,14 +48,14 @@ returns-4 c =
 returns-5 : tie.Need-returns-in-On
 returns-5 c =
     let a = c.args in
-    let f = fit c.before.before.before.before.before.before.before.before.before.before.before.before.before.before.before in
+    let f = fit c.before.before.before.before.before.before.before.before.before.before.before.before.before in
     let t = c.take_all in
     absurd (never_on a.self a.chunk.now a.carry.now a.first a.stage.now a.stated.now f.0 f.1 t.result _ _ _ (rw c.stand.ensures at t.ensures) c.in-On.w c.in-On.is)
 
 returns-6 : tie.Need-returns-in-Stop
 returns-6 c =
     let a = c.args in
-    let f = fit c.before.before.before.before.before.before.before.before.before.before.before.before.before.before in
+    let f = fit c.before.before.before.before.before.before.before.before.before.before.before.before in
     let t = c.take_all in
     feeds_stop a.self a.chunk.now a.carry.now a.first a.stage.now a.stated.now f.0 f.1 t.result _ _ _ (rw c.stand.ensures at t.ensures) _ _ c.in-Stop.is
 
