@@ -351,7 +351,7 @@ which {step = step} t d =
     (answer, e, t.numbers ∙ ap said_numbers e)
 
 -- a row of calls in numbers is one of the listener's
-listens : {first : ℕ} {s₀ s : Stand} {carry₀ stage₀ stated₀ bytes carry stage stated : List ℕ} → IhexListens first s₀ carry₀ stage₀ stated₀ bytes s carry stage stated
+listens : {first : ℕ} {s₀ : Stand} {carry₀ stage₀ stated₀ : List ℕ} {s : Stand} {bytes carry stage stated : List ℕ} → IhexListens first s₀ carry₀ stage₀ stated₀ bytes s carry stage stated
     → Listens first (stands_for s₀) carry₀ stage₀ stated₀ bytes (stands_for s) carry stage stated
 listens no_call = no_chunk
 listens {first = first} {s₀ = s₀} {carry₀ = carry₀} {stage₀ = stage₀} {stated₀ = stated₀} (one_more {bytes} {s} {carry} {stage} {stated} chunk taken s' r carry' stage' stated' row f code) =

@@ -25,6 +25,9 @@ use Rattle.ihex.proofs.RoundTrip.{written_reads_back}
 
 returned_again : (rs : List Record) (pool : List ℕ) (calls : List Call) (givens : List Given) → Again rs pool calls givens → ReturnedAgain rs pool calls (all_in_numbers givens)
 returned_again rs pool [] [] h = tt
+returned_again rs pool [] (g ∷ gs) h = absurd h
+returned_again [] pool (call ∷ calls) [] h = absurd h
+returned_again (r ∷ rs) pool (call ∷ calls) [] h = absurd h
 returned_again [] pool (call ∷ calls) (g ∷ gs) (t, h) = ((numbers_of t).code_is, returned_again [] pool calls gs h)
 returned_again (r ∷ rs) pool (call ∷ calls) (g ∷ gs) ((r', t, p), h) = ((r', numbers_of t, p), returned_again rs pool calls gs h)
 

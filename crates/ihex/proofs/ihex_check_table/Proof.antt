@@ -9,7 +9,7 @@ use Rattle.ihex.proofs.ihex_check_table.Statement.{statement}
 use Rattle.ihex.proofs.ihex_check_table.Tie as tie
 
 returns : tie.Need-returns
-returns c = record { answer = c.code-table.ensures.answer ∙ ap (λ (b : Bool). if b then BADTABLE else OK) c.before.is-bad.ensures.answer }
+returns c = record { answer = c.code_table.ensures.answer ∙ ap (λ (b : Bool). if b then BADTABLE else OK) c.is_bad.ensures.answer }
 
 pub ihex_check_table_spec : {M : Type 1} → statement M
 ihex_check_table_spec = tie.close (tie.spec (λ c κs. search rules) (λ c κs. search rules) returns)

@@ -9,8 +9,7 @@ returns : tie.Need-returns
 returns c =
     let f = c.before in
     let n = f.before.before.before.before.before in
-    let s = n.before.before.before in
-    committed_so _ _ _ _ _ _ n.commit.result _ _ _ _ s.listener-from.ensures.answer n.commit.ensures c.code-committed.ensures.answer f.flags_after.ensures
+    committed_so _ _ _ _ _ _ c.commit-committed.result _ _ _ _ c.listener_from-l.ensures.answer c.commit-committed.ensures c.code_committed.ensures.answer c.flags_after.ensures
 
 pub ihex_commit_spec : {M : Type 1} → statement M
 ihex_commit_spec = tie.close (tie.spec (λ c κs. search rules) (λ c κs. search rules) (λ c κs. search rules) (λ c κs. search rules) (λ c. search rules) (λ c. search rules) returns)

@@ -9,8 +9,8 @@ use Rattle.ihex.proofs.ihex_create_object_file_representation.Tie as tie
 
 returns : tie.Need-returns
 returns c =
-    let w = c.before.before.before.write-list.ensures in
-    let k = coded (ap writing w.answer) c.code-attempt.ensures in
+    let w = c.write_list.ensures in
+    let k = coded (ap writing w.answer) c.code_attempt-told.ensures in
     record { code_is = k.code_is; value_is = k.a_is; left = w.left }
 
 pub ihex_create_object_file_representation_spec : {M : Type 1} → statement M

@@ -8,8 +8,7 @@ use Rattle.ihex.proofs.ihex_feed.Tie as tie
 returns : tie.Need-returns
 returns c =
     let n = c.before.before.before.before.before.before.before.before.before.before.before.before.before.before.before.before.before.before.before in
-    let s = n.before.before.before.before in
-    fed_so s.listener-from.ensures.answer n.feed.ensures c.tell-said.ensures
+    fed_so c.listener_from-l.ensures.answer c.feed-step.ensures c.tell_said.ensures
 
 pub ihex_feed_spec : {M : Type 1} → statement M
 ihex_feed_spec = tie.close (tie.spec (λ c κs. search rules) (λ c κs. search rules) (λ c κs. search rules) (λ c. search rules) (λ c. search rules) (λ c. search rules) returns)

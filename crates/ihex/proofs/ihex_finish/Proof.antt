@@ -12,11 +12,10 @@ use Rattle.ihex.proofs.ihex_finish.Tie as tie
 returns : tie.Need-returns
 returns c =
     let n = c.before.before.before.before.before.before.before.before.before.before.before.before.before.before.before.before.before in
-    let s = n.before.before.before in
-    let a = s.before.before.before.before.before.before.before.before.before.args in
+    let a = c.args in
     chunk_read (finish_outcome _ a.carry.now a.pool.now a.at) []
-    (subst (λ (x : Chunks). Finish x a.carry.now a.pool.now a.at n.finish.result n.finish.new.1.0 n.finish.new.1.1.0) s.chunks-from.ensures.answer n.finish.ensures)
-    c.tell-step.ensures
+    (subst (λ (x : Chunks). Finish x a.carry.now a.pool.now a.at c.finish-step.result c.finish-step.new.carry c.finish-step.new.pool) c.chunks_from-state.ensures.answer c.finish-step.ensures)
+    c.tell_step.ensures
 
 pub ihex_finish_spec : {M : Type 1} → statement M
 ihex_finish_spec =

@@ -8,9 +8,9 @@ use Rattle.ihex.proofs.ihex_light.Tie as tie
 
 returns : tie.Need-returns
 returns c =
-    let made = c.before.before.before.before.before.before.before.before.before.before.before.before.before.before.before.light-from.ensures in
-    let done = c.before.before.before.before.before.before.before.before.before.before.before.before.dump.ensures in
-    dumped intel _ _ _ _ _ _ _ _ _ made.answer done c.tell-light.ensures
+    let made = c.light_from.ensures in
+    let done = c.dump-dumped.ensures in
+    dumped intel _ _ _ _ _ _ _ _ _ made.answer done c.tell_light.ensures
 
 pub ihex_light_spec : {M : Type 1} → statement M
 ihex_light_spec = tie.close (tie.spec (λ c κs. search rules) (λ c κs. search rules) (λ c κs. search rules) (λ c. search rules) (λ c. search rules) returns)

@@ -8,8 +8,8 @@ use Rattle.ihex.proofs.ihex_load_srecords.Tie as tie
 
 returns : tie.Need-returns
 returns c =
-    let l = c.before.before.before.before.before.before.before.before.before.before.load-srecords.ensures in
-    record { numbers = c.tell-load.ensures.numbers ∙ ap load_numbers l.answer; page_is = l.page; marks_is = l.marks }
+    let l = c.load_srecords-answer.ensures in
+    record { numbers = c.tell_load.ensures.numbers ∙ ap load_numbers l.answer; page_is = l.page; marks_is = l.marks }
 
 pub ihex_load_srecords_spec : {M : Type 1} → statement M
 ihex_load_srecords_spec = tie.close (tie.spec (λ c κs. search rules) (λ c κs. search rules) (λ c. search rules) (λ c. search rules) returns)

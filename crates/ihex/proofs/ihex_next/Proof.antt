@@ -11,15 +11,15 @@ use Rattle.ihex.proofs.ihex_next.Tie as tie
 
 returns : tie.Need-returns
 returns c =
-    let a = c.before.before.before.before.before.before.before.before.before.before.before.before.before.args in
-    let n = c.before.before.before.before.before.next in
-    let s = c.before.before.before.before.before.before.before.state-from in
-    let e = subst (λ (x : State). Next x a.text.now a.pool.now a.at n.result n.new.1.1.0) s.ensures.answer n.ensures in
+    let a = c.args in
+    let n = c.next-step in
+    let s = c.state_from in
+    let e = subst (λ (x : State). Next x a.text.now a.pool.now a.at n.result n.new.pool) s.ensures.answer n.ensures in
     record {
-      answer = numbers e.answer c.code-reply.ensures;
+      answer = numbers e.answer c.code_reply-told.ensures;
       position_is = ap (λ (x : State). x.position) e.state;
       line_is = ap (λ (x : State). x.line) e.state;
-      flags_is = c.before.flags-from.ensures.answer ∙ ap flags_of e.state;
+      flags_is = c.flags_from.ensures.answer ∙ ap flags_of e.state;
       left = e.left;
     }
 

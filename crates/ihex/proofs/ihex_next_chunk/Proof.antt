@@ -11,11 +11,10 @@ use Rattle.ihex.proofs.ihex_next_chunk.Tie as tie
 returns : tie.Need-returns
 returns c =
     let n = c.before.before.before.before.before.before.before.before.before.before.before.before.before.before.before.before.before in
-    let s = n.before.before.before in
-    let a = s.before.before.before.before.before.before.before.before.before.before.args in
+    let a = c.args in
     chunk_read (next_outcome _ a.chunk.now a.carry.now a.pool.now a.at) a.chunk.now
-    (subst (λ (x : Chunks). NextChunk x a.chunk.now a.carry.now a.pool.now a.at n.next.result n.next.new.1.1.0 n.next.new.1.1.1.0) s.chunks-from.ensures.answer n.next.ensures)
-    c.tell-step.ensures
+    (subst (λ (x : Chunks). NextChunk x a.chunk.now a.carry.now a.pool.now a.at c.next-step.result c.next-step.new.carry c.next-step.new.pool) c.chunks_from-state.ensures.answer c.next-step.ensures)
+    c.tell_step.ensures
 
 pub ihex_next_chunk_spec : {M : Type 1} → statement M
 ihex_next_chunk_spec =

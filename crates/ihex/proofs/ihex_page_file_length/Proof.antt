@@ -11,7 +11,7 @@ use Rattle.ihex.proofs.ihex_page_file_length.Tie as tie
 
 returns : tie.Need-returns
 returns c =
-    let k = coded (ap (λ (t : ToldWritten). writing (some t)) c.before.page-file-length.ensures.answer) c.code-paged.ensures in
+    let k = coded (ap (λ (t : ToldWritten). writing (some t)) c.page_file_length.ensures.answer) c.code_paged-told.ensures in
     record { code_is = k.code_is; value_is = k.a_is }
 
 pub ihex_page_file_length_spec : {M : Type 1} → statement M

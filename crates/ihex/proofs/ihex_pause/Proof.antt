@@ -8,8 +8,7 @@ use Rattle.ihex.proofs.ihex_pause.Tie as tie
 returns : tie.Need-returns
 returns c =
     let n = c.before.before.before.before.before.before.before.before.before.before.before.before.before.before.before.before.before.before.before in
-    let s = n.before.before.before.before in
-    paused_so s.listener-from.ensures.answer n.pause.ensures c.tell-said.ensures
+    paused_so c.listener_from-l.ensures.answer c.pause-step.ensures c.tell_said.ensures
 
 pub ihex_pause_spec : {M : Type 1} → statement M
 ihex_pause_spec = tie.close (tie.spec (λ c κs. search rules) (λ c κs. search rules) (λ c κs. search rules) (λ c. search rules) (λ c. search rules) (λ c. search rules) returns)

@@ -7,8 +7,8 @@ use Rattle.ihex.proofs.ihex_read_record.Tie as tie
 
 returns : tie.Need-returns
 returns c =
-    let r = c.before.before.before.read-record in
-    record { answer = numbers r.ensures.answer c.code-answer.ensures; left = r.ensures.left }
+    let r = c.read_record in
+    record { answer = numbers r.ensures.answer c.code_answer-told.ensures; left = r.ensures.left }
 
 pub ihex_read_record_spec : {M : Type 1} → statement M
 ihex_read_record_spec =

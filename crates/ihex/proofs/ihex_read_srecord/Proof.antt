@@ -7,8 +7,8 @@ use Rattle.ihex.proofs.ihex_read_srecord.Tie as tie
 
 returns : tie.Need-returns
 returns c =
-    let r = c.before.before.before.read-srecord in
-    record { answer = numbers r.ensures.answer c.code-sanswer.ensures; left = r.ensures.left }
+    let r = c.read_srecord in
+    record { answer = numbers r.ensures.answer c.code_sanswer-told.ensures; left = r.ensures.left }
 
 pub ihex_read_srecord_spec : {M : Type 1} → statement M
 ihex_read_srecord_spec =

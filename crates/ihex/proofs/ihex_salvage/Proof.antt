@@ -9,8 +9,8 @@ use Rattle.ihex.proofs.ihex_salvage.Tie as tie
 
 returns : tie.Need-returns
 returns c =
-    let s = c.before.before.before.before.before.salvage.ensures in
-    let k = coded (ap salvaging s.answer) c.code-salvaged.ensures in
+    let s = c.salvage.ensures in
+    let k = coded (ap salvaging s.answer) c.code_salvaged-told.ensures in
     record { code_is = k.code_is; a_is = k.a_is; b_is = k.b_is; output_is = s.output; list_is = s.entries }
 
 pub ihex_salvage_spec : {M : Type 1} → statement M

@@ -11,10 +11,10 @@ use Rattle.ihex.proofs.ihex_shown.Tie as tie
 
 returns : tie.Need-returns
 returns c =
-    let a = c.before.before.before.before.before.args in
-    let p = c.before.before.place-from in
-    subst (λ (x : Place). IhexShown x a.chunk.now a.carry.now c.before.start-at.result (length c.shown.result.now)) p.ensures.answer
-    (shown_as p.result a.chunk a.carry c.shown.result c.before.start-at.ensures c.shown.ensures)
+    let a = c.args in
+    let p = c.place_from-place in
+    subst (λ (x : Place). IhexShown x a.chunk.now a.carry.now c.start_at.result (length c.shown-line.result.now)) p.ensures.answer
+    (shown_as p.result a.chunk a.carry c.shown-line.result c.start_at.ensures c.shown-line.ensures)
 
 pub ihex_shown_spec : {M : Type 1} → statement M
 ihex_shown_spec = tie.close (tie.spec (λ c κs. search rules) (λ c κs. search rules) (λ c κs. search rules) returns)

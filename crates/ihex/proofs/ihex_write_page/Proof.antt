@@ -11,8 +11,8 @@ use Rattle.ihex.proofs.ihex_write_page.Tie as tie
 
 returns : tie.Need-returns
 returns c =
-    let w = c.before.before.before.write-page.ensures in
-    let k = coded (ap (λ (t : ToldWritten). writing (some t)) w.answer) c.code-paged.ensures in
+    let w = c.write_page.ensures in
+    let k = coded (ap (λ (t : ToldWritten). writing (some t)) w.answer) c.code_paged-told.ensures in
     record { code_is = k.code_is; value_is = k.a_is; left = w.left }
 
 pub ihex_write_page_spec : {M : Type 1} → statement M

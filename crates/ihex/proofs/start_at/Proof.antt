@@ -5,11 +5,11 @@ use borrow.Author.Rules.{rules}
 use Rattle.ihex.proofs.start_at.Statement.{statement}
 use Rattle.ihex.proofs.start_at.Tie as tie
 
-returns : tie.Need-returns
-returns c = rw (c.before.before.place.given.1, lt-leb _ _ c.if1.true)
+returns : tie.Need-returns-then-from-chunk
+returns c = rw (c.in-InChunk.is, lt-leb _ _ c.if-from-chunk.true)
 
-returns-2 : tie.Need-returns-2
-returns-2 c = rw (c.before.before.place.given.1, le-leb _ _ c.if1.false)
+returns-2 : tie.Need-returns-else-from-chunk
+returns-2 c = rw (c.in-InChunk.is, le-leb _ _ c.if-from-chunk.false)
 
 pub start_at_spec : {M : Type 1} → statement M
 start_at_spec =

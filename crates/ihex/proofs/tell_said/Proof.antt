@@ -7,8 +7,8 @@ use Rattle.ihex.proofs.tell_said.Tie as tie
 
 returns : tie.Need-returns
 returns c =
-    said_so c.before.before.before.before.args.step c.before.before.before.Stand-of.ensures c.code-said.ensures c.before.before.said_line.ensures.answer
-    c.before.said-start.ensures.answer
+    said_so c.args.step c.stand_of-stand.ensures c.code_said-told.ensures c.said_line.ensures.answer
+    c.said_start.ensures.answer
 
 pub tell_said_spec : {M : Type 1} → statement M
 tell_said_spec = tie.close (tie.spec (λ c κs. search rules) (λ c κs. search rules) (λ c κs. search rules) (λ c κs. search rules) returns)

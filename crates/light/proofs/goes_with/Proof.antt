@@ -30,12 +30,12 @@ returns-2 c =
 returns-3 : tie.Need-returns-in-At
 returns-3 c =
     let a = c.args in
-    goes_by_unused a.answer a.places a.marks.now (went c.before.before.before.before.before) (sized c.before.before.before) _ (sym c.first_unused.ensures.answer ∙ ap told_unused c.in-At.is)
+    goes_by_unused a.answer a.places a.marks.now (went c.before.before.before.before) (sized c.before.before) _ (sym c.first_unused.ensures.answer ∙ ap told_unused c.in-At.is)
 
 returns-4 : tie.Need-returns-in-Clear
 returns-4 c =
     let a = c.args in
-    goes_by_unused a.answer a.places a.marks.now (went c.before.before.before.before.before) (sized c.before.before.before) _ (sym c.first_unused.ensures.answer ∙ ap told_unused c.in-Clear.is)
+    goes_by_unused a.answer a.places a.marks.now (went c.before.before.before.before) (sized c.before.before) _ (sym c.first_unused.ensures.answer ∙ ap told_unused c.in-Clear.is)
 
 pub goes_with_spec : {M : Type 1} → statement M
 goes_with_spec =

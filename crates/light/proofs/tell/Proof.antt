@@ -26,12 +26,12 @@ count-in-requires c κs =
 returns-2 : tie.Need-returns-in-Unknown
 returns-2 c =
     let a = c.args in
-    tells_none a.light a.answer a.page.now a.marks.now (went c.before.before.before) (subst (λ (k : Count). Counts a.page.now a.marks.now a.light.high a.light.low k) c.in-Unknown.is c.count_in.ensures)
+    tells_none a.light a.answer a.page.now a.marks.now (went c.before.before) (subst (λ (k : Count). Counts a.page.now a.marks.now a.light.high a.light.low k) c.in-Unknown.is c.count_in.ensures)
 
 returns-3 : tie.Need-returns-in-Known
 returns-3 c =
     let a = c.args in
-    tells_count a.light a.answer a.page.now a.marks.now _ c.compare.result (went c.before.before.before.before.before)
+    tells_count a.light a.answer a.page.now a.marks.now _ c.compare.result (went c.before.before.before)
     (subst (λ (k : Count). Counts a.page.now a.marks.now a.light.high a.light.low k) c.in-Known.is c.count_in.ensures) c.compare.ensures
 
 pub tell_spec : {M : Type 1} → statement M

@@ -1,6 +1,6 @@
 -- `loader::take_line` meets its contract: a window that is refused and a line that is refused change nothing; a record is taken.
 -- Assumes nothing.
-use Rattle.std.proofs.Common.{◌≡◌, ◌+◌, ◌-◌, ◌^◌, false, ◌≢◌, length, replicate, sym, refl, ◌∙◌, subst, ⊎_elim, arith, rules}
+use Rattle.std.proofs.Common.{◌≡◌, ◌+◌, ◌^◌, false, ◌≢◌, length, replicate, sym, refl, ◌∙◌, subst, ⊎_elim, arith, rules}
 use Rattle.reader.specs.declared.Answer.{Answer}
 use Rattle.reader.specs.Answer.{ReadRecord}
 use Rattle.window.specs.Window.{unfit}

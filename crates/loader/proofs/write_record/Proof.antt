@@ -12,7 +12,7 @@ use Rattle.loader.proofs.write_record.Tie as tie
 
 -- where the payload lies
 lies : (c : tie.In-Data)
-    →    let p = c.args.pool.now in
+    → let p = c.args.pool.now in
     LiesIn (Data c.in-Data.offset c.in-Data.at c.in-Data.len) p
 lies c =
     subst (λ (x : Record). LiesIn x c.args.pool.now) c.in-Data.is c.requires.0

@@ -5,7 +5,6 @@ use mathlib.Core.List.{List, [], ◌∷◌, ◌++◌}
 use native.Mathlib.Omega.{arith}
 use lib.ListN.{length}
 use borrow.Author.Rules.{rules}
-use borrow.Author.Tests.{not-true, not-false}
 use Rattle.marks.specs.Marks.{flags}
 use Rattle.marks.proofs.Rows.{flags_length}
 use Rattle.record.specs.declared.Record.{Record}
@@ -29,7 +28,7 @@ loop-holds c =
 next-record-requires : tie.Need-next_record-step-requires invariant-loop decreases-loop
 next-record-requires c κs =
     let l = c.loop-finished in
-    under_way c.args.first (flags (length c.args.page.now) c.args.marks.now) l.invariant.rs l.w l.finished l.invariant.passed (not-true l.finished c.loop-finished-test.true) (omega (arith, flags_length (length c.args.page.now) c.args.marks.now, c.requires))
+    under_way c.args.first (flags (length c.args.page.now) c.args.marks.now) l.invariant.rs l.w l.finished l.invariant.passed c.loop-finished-test.true (omega (arith, flags_length (length c.args.page.now) c.args.marks.now, c.requires))
 
 loop-less : tie.Need-loop-finished-smaller invariant-loop decreases-loop
 loop-less c =
@@ -52,7 +51,7 @@ returns : tie.Need-returns invariant-loop decreases-loop
 returns c =
     let a = c.args in
     let l = c.loop-finished in
-    subst (λ (rs : List Record). Surveys a.page.now rs l.s) (passed_all a.first (flags (length a.page.now) a.marks.now) l.invariant.rs l.w l.finished l.invariant.passed (not-false l.finished c.loop-finished-test.false)) l.invariant.surveys
+    subst (λ (rs : List Record). Surveys a.page.now rs l.s) (passed_all a.first (flags (length a.page.now) a.marks.now) l.invariant.rs l.w l.finished l.invariant.passed c.loop-finished-test.false) l.invariant.surveys
 
 pub survey_spec : {M : Type 1} → statement M
 survey_spec = tie.close (tie.spec invariant-loop decreases-loop (λ c κs. search rules) (λ c κs. search rules) loop-holds next-record-requires (λ c κs. search rules) loop-less loop-again returns)

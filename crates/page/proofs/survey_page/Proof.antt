@@ -24,17 +24,17 @@ returns-2 : tie.Need-returns-in-At
 returns-2 c =
     let a = c.args in
     let u = sym c.first_unused.ensures.answer ∙ ap told_unused c.in-At.is in
-    text_bad a.first a.page.now a.marks.now (fit c.before.before.before.before) _ u
+    text_bad a.first a.page.now a.marks.now (fit c.before.before) _ u
 
 survey-requires : tie.Need-survey-requires
 survey-requires c κs =
     let a = c.args in
-    (good_window a.first a.page.now a.marks.now (fit c.before.before.before)).below
+    (good_window a.first a.page.now a.marks.now (fit c.before.before)).below
 
 returns-3 : tie.Need-returns-in-Clear
 returns-3 c =
     let a = c.args in
-    let f = fit c.before.before.before.before in
+    let f = fit c.before.before.before in
     let u = sym c.first_unused.ensures.answer ∙ ap told_unused c.in-Clear.is in
     record {
       window = good_window a.first a.page.now a.marks.now f;

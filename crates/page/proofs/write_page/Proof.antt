@@ -18,10 +18,8 @@ whole c =
 
 -- what was written
 writes : (c : tie.After-write_records) → let s = c.args in
-    Writes (page_text c.first c.page.now c.marks.now) c.out-1.now 0 c.write_records.result c.write_records.new.out
+    Writes (page_text s.first s.page.now s.marks.now) s.out.now 0 c.write_records.result c.write_records.new.out
 writes c =
-    let b = c.before.before in
-    let s = b.before.before.before.before.before.before.before.before in
     file_written c.args.first c.args.page.now c.args.marks.now c.in-Of.s (whole c.before.before) c.args.out.now c.begin-start.result c.write_records.result c.write_records.new.out
     (omega (arith, c.well_formed.1.1.1.0)) c.begin-start.ensures c.write_records.ensures
 

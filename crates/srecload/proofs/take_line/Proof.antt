@@ -24,7 +24,7 @@ may-go c = let a = c.args in not_closed a.seen a.first (length a.page.now) (leng
 
 -- the record that was read
 came : (c : tie.In-Read)
-    →    let r = c.read_srecord in
+    → let r = c.read_srecord in
     Came c.args.line.now r.new.pool c.in-Read.given
 came c =
     let r = c.read_srecord in

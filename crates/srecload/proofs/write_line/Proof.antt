@@ -11,7 +11,7 @@ use Rattle.srecload.proofs.write_line.Tie as tie
 
 -- the record that was read
 came : (c : tie.In-Read)
-    →    let r = c.read_srecord in
+    → let r = c.read_srecord in
     Came c.args.line.now r.new.pool c.in-Read.given
 came c =
     let r = c.read_srecord in
