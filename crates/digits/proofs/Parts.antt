@@ -1,7 +1,6 @@
 -- Parts of rows. The code takes a part from a place to another, or to the row's end.
 -- Assumes nothing.
 use Rattle.std.proofs.Common.{◌≡◌, ℕ, zero, suc, ◌+◌, ◌-◌, ◌≤◌, List, [], ◌∷◌, ◌++◌, length, take, drop, sym, refl, ap, ◌∙◌, ap₂, append_assoc, append-nil, arith, length-drop, drop_of_length-le, length-take, take_all, drop-drop}
-use lib.Seq.{take-length}
 use Rattle.digits.specs.Common.{Every, pasted}
 
 pub rest_is : (l : List ℕ) (k : ℕ) → take (length l - k) (drop k l) ≡ drop k l

@@ -1,17 +1,26 @@
 #![tactic(auto)]
 // Lists the Intel HEX text on standard input as it comes: a line for each record or refusal, as soon as its line has come.
-ghost use Rattle.std.specs.Prelude.{◌≡◌};
+ghost use Rattle.std.specs.Prelude.{◌≡◌, length};
 ghost use Rattle.ihexfollow.specs.Replies.{reply_of, is_answer, is_used_up, Asks, Begins};
 
 use chunks::{ChunkReply, ChunkStep, Chunks};
 use listing::{Listed, Verdict};
 use reader::Reply;
+use std::env::{Env, FillError};
+use std::fs::OpenOptions;
+use std::io;
+use std::io::{ErrorKind, Read, Write};
+use std::process::ExitCode;
+use std::rt::Files;
 
-// Where the exit status is written, as one digit. A program has no other way to say it.
-const STATUS_FILENO: i32 = 3;
+// Where the status of the text is written, as one digit: descriptor 3, by its name. The process ends with status 0.
+const STATUS_FILE: &str = "/proc/self/fd/3";
 
-// The exit status where the input cannot be read or the output cannot be written.
+// The status where the input cannot be read or the output cannot be written.
 const FAILED: u8 = 2;
+
+// What the process ends with where nobody reads its output any more: what a shell says of a program that SIGPIPE ended.
+const NOBODY_READS: u8 = 141;
 
 // Where the reader stands, what the answers so far come to and how many there are, whether the input may hold more, whether every
 // read went well, and whether every write did.
@@ -25,35 +34,55 @@ struct Progress {
     written: bool,
 }
 
-// Prints what was listed, and answers whether that went well.
-fn say(listed: Listed, out: &[u8]) -> bool {
-    match listed {
-        Listed::Wrote(n) => {
-            if n > out.len() {
-                return false;
+// Space for a chunk of the input, for what is left of a line, for a payload or for a line of the listing.
+fn buffer() -> [u8; 4096]
+    ensures { 4096 ≡ length result }
+{
+    [0; 4096]
+}
+
+// Prints bytes, and answers whether that went well. An error says that nobody reads them.
+fn print(rt: &impl Print, bytes: &[u8]) -> io::Result<bool> {
+    match rt.write_all(bytes) {
+        Ok(()) => Ok(true),
+        Err(e) => {
+            if e.kind() == ErrorKind::BrokenPipe {
+                return Err(e);
             }
-            io::write_all(libc::STDOUT_FILENO, &out[0..n])
+            Ok(false)
         }
-        Listed::NoRoom => false,
     }
 }
 
-fn say_first() -> bool {
-    let mut out = io::buffer();
+// Prints what was listed, and answers whether that went well.
+fn say(rt: &impl Print, listed: Listed, out: &[u8]) -> io::Result<bool> {
+    match listed {
+        Listed::Wrote(n) => {
+            if n > out.len() {
+                return Ok(false);
+            }
+            print(rt, &out[0..n])
+        }
+        Listed::NoRoom => Ok(false),
+    }
+}
+
+fn say_first(rt: &impl Print) -> io::Result<bool> {
+    let mut out = buffer();
     let listed = listing::list_first(&mut out);
-    say(listed, &out)
+    say(rt, listed, &out)
 }
 
-fn say_reply(reply: Reply, pool: &[u8]) -> bool {
-    let mut out = io::buffer();
+fn say_reply(rt: &impl Print, reply: Reply, pool: &[u8]) -> io::Result<bool> {
+    let mut out = buffer();
     let listed = listing::list_reply(reply, pool, &mut out);
-    say(listed, &out)
+    say(rt, listed, &out)
 }
 
-fn say_last(count: usize) -> bool {
-    let mut out = io::buffer();
+fn say_last(rt: &impl Print, count: usize) -> io::Result<bool> {
+    let mut out = buffer();
     let listed = listing::list_last(count, &mut out);
-    say(listed, &out)
+    say(rt, listed, &out)
 }
 
 // The reply that is printed; "done" where there is none.
@@ -105,63 +134,70 @@ fn ask(state: Chunks, chunk: &[u8], carry: &mut [u8], pool: &mut [u8]) -> ChunkS
     state.next(chunk, carry, pool, 0)
 }
 
-// Prints the answers of a chunk. The turns are counted down from a number that no run uses up.
-fn take(start: Progress, chunk: &[u8], carry: &mut [u8], pool: &mut [u8]) -> Progress {
+// Prints the answers of a chunk. The turns are counted up to a number that no run reaches.
+fn take(
+    rt: &impl Print,
+    start: Progress,
+    chunk: &[u8],
+    carry: &mut [u8],
+    pool: &mut [u8],
+) -> io::Result<Progress> {
     let mut state = start.state;
     let mut verdict = start.verdict;
     let mut count = start.count;
-    let mut turns = u64::MAX;
-    while turns > 0 {
+    let mut more = false;
+    let mut written = false;
+    for _ in 0..u64::MAX {
         let step = ask(state, chunk, carry, pool);
         let reply = step.reply;
         let next = step.state;
         state = next;
         if !is_answer(reply) {
-            return Progress {
-                state,
-                verdict,
-                count,
-                more: is_used_up(reply),
-                read: true,
-                written: true,
-            };
+            more = is_used_up(reply);
+            written = true;
+            break;
         }
         let answer = reply_of(reply);
-        if !say_reply(answer, pool) {
+        if !say_reply(rt, answer, pool)? {
             break;
         }
         verdict = listing::verdict_after(verdict, answer);
         count = std::num::wrapping_add_usize(count, 1);
-        turns -= 1;
     }
-    Progress {
+    Ok(Progress {
         state,
         verdict,
         count,
-        more: false,
+        more,
         read: true,
-        written: false,
-    }
+        written,
+    })
 }
 
 // Reads once, as much as is there, and prints its answers. A read of no bytes is the input's end.
-fn read_on(start: Progress, carry: &mut [u8], pool: &mut [u8]) -> Progress {
-    let mut chunk = io::buffer();
-    let got = libc::read(libc::STDIN_FILENO, &mut chunk);
-    if got < 0 {
-        let state = start.state;
-        let verdict = start.verdict;
-        return Progress {
-            state,
-            verdict,
-            count: start.count,
-            more: false,
-            read: false,
-            written: true,
-        };
+fn read_on(
+    rt: &impl Print,
+    from: &mut impl Read,
+    start: Progress,
+    carry: &mut [u8],
+    pool: &mut [u8],
+) -> io::Result<Progress> {
+    let mut chunk = buffer();
+    match from.read(&mut chunk) {
+        Ok(n) => take(rt, start, &chunk[..n], carry, pool),
+        Err(_) => {
+            let state = start.state;
+            let verdict = start.verdict;
+            Ok(Progress {
+                state,
+                verdict,
+                count: start.count,
+                more: false,
+                read: false,
+                written: true,
+            })
+        }
     }
-    let n = io::count(got, &chunk);
-    take(start, &chunk[..n], carry, pool)
 }
 
 fn begin() -> Progress
@@ -180,56 +216,84 @@ fn begin() -> Progress
     }
 }
 
-// Reads until there are no more answers. Nothing says that an input ends, so here too the turns are counted down.
-fn follow(carry: &mut [u8], pool: &mut [u8]) -> Progress {
+// Reads until there are no more answers. Nothing says that an input ends, so here too the turns are counted.
+fn follow(
+    rt: &impl Print,
+    from: &mut impl Read,
+    carry: &mut [u8],
+    pool: &mut [u8],
+) -> io::Result<Progress> {
     let mut progress = begin();
-    let mut turns = u64::MAX;
-    while turns > 0 {
-        progress = read_on(progress, carry, pool);
+    for _ in 0..u64::MAX {
+        progress = read_on(rt, from, progress, carry, pool)?;
         if !progress.more {
             break;
         }
-        turns -= 1;
     }
-    progress
+    Ok(progress)
 }
 
-// Says on standard error what failed, and returns the exit status for that.
-fn fail(what: &[u8]) -> u8
+// Says on standard error what failed, and returns the status for that.
+fn fail(rt: &impl Eprint, what: &str) -> u8
     ensures { result ≡ 2 }
 {
-    io::write_all(libc::STDERR_FILENO, what);
+    let _ = rt.eprint(what);
     FAILED
 }
 
-// Prints the listing, and returns its exit status.
-fn show() -> u8 {
-    if !say_first() {
-        return fail(b"cannot write\n");
+// Prints the listing, and returns its status.
+fn show(rt: &(impl Print + Eprint), from: &mut impl Read) -> io::Result<u8> {
+    if !say_first(rt)? {
+        return Ok(fail(rt, "cannot write\n"));
     }
-    let mut carry = io::buffer();
-    let mut pool = io::buffer();
-    let end = follow(&mut carry, &mut pool);
+    let mut carry = buffer();
+    let mut pool = buffer();
+    let end = follow(rt, from, &mut carry, &mut pool)?;
     if !end.read {
-        return fail(b"cannot read\n");
+        return Ok(fail(rt, "cannot read\n"));
     }
     if !end.written {
-        return fail(b"cannot write\n");
+        return Ok(fail(rt, "cannot write\n"));
     }
-    if !say_last(end.count) {
-        return fail(b"cannot write\n");
+    if !say_last(rt, end.count)? {
+        return Ok(fail(rt, "cannot write\n"));
     }
     let verdict = end.verdict;
-    listing::exit_status(verdict)
+    Ok(listing::exit_status(verdict))
 }
 
-// Writes the exit status where the program was started with an argument. Without one, descriptor 3 may be somebody else's.
-fn tell(status: u8) {
-    if os::arg_count() > 1 {
-        io::write_all(STATUS_FILENO, &[std::num::wrapping_add_u8(b'0', status)]);
+// Whether the program was started with an argument.
+fn is_asked(rt: &impl Env) -> bool {
+    let mut word = [0u8; 1];
+    match rt.arg(1, &mut word) {
+        Ok(_) => true,
+        Err(FillError::TooLong) => true,
+        Err(FillError::NotPresent) => false,
     }
 }
 
-fn main() {
-    tell(show());
+// Writes a digit to descriptor 3. Opened to be read too, a pipe that nobody reads makes nobody wait.
+fn write_digit(rt: &impl Files, digit: u8) -> io::Result<()> {
+    let mut file = OpenOptions::new()
+        .read(true)
+        .append(true)
+        .open(rt, STATUS_FILE)?;
+    file.write_all(&[digit])
+}
+
+// Writes the status where the program was started with an argument. Without one, descriptor 3 may be somebody else's.
+fn tell(rt: &(impl Env + Files), status: u8) {
+    if is_asked(rt) {
+        let _ = write_digit(rt, std::num::wrapping_add_u8(b'0', status));
+    }
+}
+
+fn main(rt: HostRuntime) -> ExitCode {
+    match show(&rt, &mut rt.stdin()) {
+        Ok(status) => {
+            tell(&rt, status);
+            ExitCode::SUCCESS
+        }
+        Err(_) => ExitCode::from(NOBODY_READS),
+    }
 }

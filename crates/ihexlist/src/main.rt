@@ -116,9 +116,12 @@ fn is_asked(rt: &impl Env) -> bool {
     }
 }
 
-// Writes a digit to descriptor 3.
+// Writes a digit to descriptor 3. Opened to be read too, a pipe that nobody reads makes nobody wait.
 fn write_digit(rt: &impl Files, digit: u8) -> io::Result<()> {
-    let mut file = OpenOptions::new().append(true).open(rt, STATUS_FILE)?;
+    let mut file = OpenOptions::new()
+        .read(true)
+        .append(true)
+        .open(rt, STATUS_FILE)?;
     file.write_all(&[digit])
 }
 
