@@ -1,16 +1,15 @@
 #!/usr/bin/env python3
 """Holds crates.txt to the crates, and docs/house.svg to crates.txt. floors.py --write writes both.
 
-A crate's line lists each crate that its files name, and no other: in src/ as `NAME::`, in contracts, specs/ and proofs/ as `Rattle·NAME`. The
-checker asks for these, and not for what they stand on. The lines stand floor by floor, lowest first, under `# Floor N`; a crate's floor is the
-length of the longest way down from it. In README.md each crate has its floor in a row `| N | `crates/NAME` .. | .. |`."""
+A crate's line lists each crate that its files name, and no other: in src/ as `NAME::`, in contracts, specs/ and proofs/ as `Rattle.NAME.`. The
+checker asks for these, and not for what they stand on. A name on a line that is no crate's is one of the kit's libraries; std is on no line. The
+lines stand floor by floor, lowest first, under `# Floor N`; a crate's floor is the length of the longest way down from it. In README.md each crate has its floor in a row `| N | `crates/NAME` .. | .. |`."""
 import re
 import sys
 
 import house
 
 repo = house.repo
-KIT = ['check', 'bytes', 'io', 'libc', 'os']  # the kit's libraries that a crate can list
 HEAD = '# A line for each crate: its name, then each crate that its files name. Floor by floor, lowest first; docs/house.svg is the drawing.\n'
 
 
@@ -27,8 +26,13 @@ def named(crate, known):
     for path in sorted(folder.glob('src/**/*.rt')):
         found |= set(re.findall(r'(?<![\w:])([a-z_][a-z0-9_]*)::', code(path)))
     for path in [*folder.glob('src/**/*.rt'), *folder.glob('specs/**/*.antt'), *folder.glob('proofs/**/*.antt')]:
-        found |= set(re.findall(r'Rattle·([a-z_][a-z0-9_]*)[.·]', code(path)))
+        found |= set(re.findall(r'(?<![\w.])Rattle\.([a-z_][a-z0-9_]*)\.', code(path)))
     return [name for name in known if name in found and name != crate]
+
+
+def of_kit(crates):
+    """The names on the lines that are no crates of the repository."""
+    return sorted({name for listed in crates.values() for name in listed} - set(crates))
 
 
 def headings(text):
@@ -39,7 +43,7 @@ def headings(text):
         if heading:
             number = int(heading[1])
         elif re.match(r'[^#]*:', line):
-            under[line.split(':')[0].strip()] = number
+            under[line.split(':')[0].split()[0]] = number
     return under
 
 
@@ -55,7 +59,7 @@ def faults():
     floor = house.floors(house.below(crates))
     readme = shown((repo / 'README.md').read_text(encoding='utf-8'))
     under = headings((repo / 'crates.txt').read_text(encoding='utf-8'))
-    known = list(crates) + KIT
+    known = list(crates) + of_kit(crates)
     last = 0
     for crate, listed in crates.items():
         uses = named(crate, known)
@@ -80,9 +84,11 @@ def faults():
 
 def write():
     """crates.txt as the files want it; crates of one floor stay in the order that they have."""
+    head = {head.split()[0]: head for head, _ in house.heads()}
+    kit = of_kit(house.read())
     crates = list(house.read())
     crates += sorted(path.name for path in (repo / 'crates').iterdir() if path.is_dir() and path.name not in crates)
-    lines = {crate: named(crate, crates + KIT) for crate in crates}
+    lines = {crate: named(crate, crates + kit) for crate in crates}
     floor = house.floors(house.below(lines))
     order = sorted(crates, key=lambda crate: floor[crate])
     text = HEAD
@@ -90,8 +96,8 @@ def write():
         text += f'\n# Floor {number}\n'
         for crate in order:
             if floor[crate] == number:
-                listed = sorted(lines[crate], key=lambda name: order.index(name) if name in order else len(order) + KIT.index(name))
-                text += f'{crate}: {" ".join(listed)}'.rstrip() + '\n'
+                listed = sorted(lines[crate], key=lambda name: order.index(name) if name in order else len(order) + kit.index(name))
+                text += f'{head.get(crate, crate)}: {" ".join(listed)}'.rstrip() + '\n'
     (repo / 'crates.txt').write_text(text, encoding='utf-8')
     house.DRAWING.write_text(house.drawing(), encoding='utf-8')
 

@@ -4,6 +4,7 @@
 The crates and what each names come from crates.txt. What a crate is for comes from the first sentence of its source. A crate's floor is the
 length of the longest way down from it. A line leads from a crate to each that it names, unless a longer way leads there too."""
 import html
+import itertools
 import pathlib
 import sys
 from statistics import fmean as mean
@@ -33,12 +34,13 @@ text { font-family: Helvetica, Arial, 'Liberation Sans', sans-serif; font-size: 
 
 def read(path=repo / 'crates.txt'):
     """The lines of crates.txt, in order: each crate with the names on its line."""
-    crates = {}
-    for line in path.read_text(encoding='utf-8').splitlines():
-        name, colon, named = line.split('#')[0].partition(':')
-        if colon:
-            crates[name.strip()] = named.split()
-    return crates
+    return {head.split()[0]: named.split() for head, named in heads(path)}
+
+
+def heads(path=repo / 'crates.txt'):
+    """The lines of crates.txt in two parts: the crate's name, with what is said of it, as `staticlib`; and the names behind the colon."""
+    parts = (line.split('#')[0].partition(':') for line in path.read_text(encoding='utf-8').splitlines())
+    return [(head.strip(), named) for head, colon, named in parts if colon]
 
 
 def below(crates):
@@ -86,9 +88,10 @@ def source(name):
 
 
 def purpose(name):
-    """The first sentence of the comment that a crate's source begins with."""
+    """The first sentence of the comment that a crate's source begins with, after the lines `#![..]` that go for the whole crate."""
     words = []
-    for line in source(name).read_text(encoding='utf-8').splitlines():
+    lines = source(name).read_text(encoding='utf-8').splitlines()
+    for line in itertools.dropwhile(lambda line: line.startswith('#!['), lines):
         if not line.startswith('//') or not line.strip('/ '):
             break
         words.append(line.strip('/ ').rstrip())

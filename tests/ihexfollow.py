@@ -1,6 +1,6 @@
 #!/usr/bin/env python3
 """Runs the built program ihexfollow, and the script ./follow that starts it, on texts that come in pieces, and compares what they print to
-the byte. `rt check ihexfollow` builds the program; the script runs with a stand-in for the checker.
+the byte. `rt ci` builds the program, and so does `tools/prove ihexfollow`; the script runs with a stand-in for the checker.
 
 The expected listings are written out by hand, or made by the model of the reader in model.py. A piece is sent when the program has
 taken the one before it. The last line is 'N passed, M failed'; the exit status is 1 if any failed.
@@ -377,7 +377,7 @@ refuses('./follow', b'records\n')
 helps('./follow', [b'usage: SENDER | ./follow, or ./follow < DEVICE', b'A read of nothing is the end of the input.', b'`stty min 0 time N`', b'`stty min 1 time 0 -icanon`',
                    b'0 every line is a record, and there is an end record', b'1 a line was refused, or there is no end record',
                    b'2 the input cannot be read, the output cannot be written, or the usage is wrong'])
-proves('ihexfollow', ['checksum', 'digits', 'record', 'reader', 'chunks', 'listing', 'ihexfollow'])
+proves('ihexfollow', ['checksum', 'digits', 'record', 'copying', 'reader', 'chunks', 'listing', 'ihexfollow'])
 
 
 def reading(child, notes):

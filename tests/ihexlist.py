@@ -1,6 +1,6 @@
 #!/usr/bin/env python3
-"""Runs the built program ihexlist, and the script ./list that starts it, and compares what they print to the byte. `rt check ihexlist`
-builds the program; the script runs with a stand-in for the checker.
+"""Runs the built program ihexlist, and the script ./list that starts it, and compares what they print to the byte. `rt ci`
+builds the program, and so does `tools/prove ihexlist`; the script runs with a stand-in for the checker.
 
 The expected listings are written out by hand, or made by the model of the reader in model.py, which knows no code of the program.
 The last line is 'N passed, M failed'; the exit status is 1 if any failed.
@@ -242,6 +242,6 @@ started('two files', ['./list', 'samples/tank.hex', 'samples/tank.hex'], 2, b'',
 refuses('./list', b'')
 helps('./list', [b'usage: ./list [FILE]', b'more than 65,536 bytes is not listed', b'0 every line is a record, and there is an end record',
                  b'1 a line was refused, or there is no end record', b'2 the input cannot be read or is too long, the output cannot be written, or the usage is wrong'])
-proves('ihexlist', ['checksum', 'digits', 'record', 'reader', 'listing', 'ihexlist'])
+proves('ihexlist', ['checksum', 'digits', 'record', 'copying', 'reader', 'listing', 'ihexlist'])
 
 end()

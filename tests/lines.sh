@@ -10,6 +10,7 @@ count() {
 total_src=0 total_specs=0 total_proofs=0
 printf '| Crate | Source | Definitions | Proof |\n|---|---|---|---|\n'
 while IFS=: read -r name _; do
+  name=${name%% *}
   case $name in '#'* | '') continue ;; esac
   src=$(count "$name" src rt) specs=$(count "$name" specs antt) proofs=$(count "$name" proofs antt)
   total_src=$((total_src + src)) total_specs=$((total_specs + specs)) total_proofs=$((total_proofs + proofs))

@@ -21,9 +21,9 @@ def parts(text):
 
 
 def of_rattle(source):
-    """Name to (parameters, result). A slice is a pointer and a length."""
+    """Each exported name to (parameters, result). A slice is a pointer and a length."""
     found = {}
-    for name, inside, result in re.findall(r'^pub extern "C" fn (\w+)(?:<[^>]*>)?\(([^)]*)\)(?: -> (\w+))?', source, re.M):
+    for name, inside, result in re.findall(r'^#\[unsafe\(no_mangle\)\]\npub extern "C" fn (\w+)(?:<[^>]*>)?\(([^)]*)\)(?: -> (\w+))?', source, re.M):
         found[name] = []
         for part in parts(inside):
             label, kind = (x.strip() for x in part.split(':'))
@@ -66,13 +66,14 @@ def differences(lists):
 
 def finds_what_is_wrong():
     """One function in three languages, and a header with each mistake that a hand can make."""
-    rattle = of_rattle('pub extern "C" fn ihex_f(s: &[u8], out: &mut [u8], kind: u8, n: &mut usize) -> u32\n    ensures')
+    export = '#[unsafe(no_mangle)]\npub extern "C" fn ihex_f(\n    s: &[u8],\n    out: &mut [u8],\n    kind: u8,\n    n: &mut usize,\n) -> u32\n    ensures'
+    rattle = of_rattle(export)
     header = 'uint32_t ihex_f(const uint8_t *s, size_t s_len,\n  uint8_t *out, size_t out_len, uint8_t type, size_t *n);'
     rust = of_rust('extern "C" {\n        pub fn ihex_f(s: *const u8, s_len: usize, out: *mut u8, out_len: usize, kind: u8, n: *mut usize) -> u32;\n    }')
     slips = [('const uint8_t *s', 'uint8_t *s'), ('size_t *n', 'uint64_t *n'), ('uint32_t ihex_f', 'uint8_t ihex_f'),
              ('s_len', 'length'), ('uint8_t type, size_t *n', 'size_t *n, uint8_t type'), ('ihex_f', 'ihex_g'), (', size_t *n', '')]
     same = not list(differences([('a', rattle), ('b', of_c(header)), ('c', rust)]))
-    return same and all(list(differences([('a', rattle), ('b', of_c(header.replace(*slip, 1)))])) for slip in slips)
+    return same and not of_rattle(export.partition('\n')[2]) and all(list(differences([('a', rattle), ('b', of_c(header.replace(*slip, 1)))])) for slip in slips)
 
 
 def main():

@@ -1,4 +1,4 @@
-//! Finds libihex.a: in the folder that IHEX_LIB_DIR names, else where `rt staticlib ihex` puts it.
+//! Finds libihex.a: in the folder that IHEX_LIB_DIR names, else where `tools/archive` puts it.
 use std::env;
 use std::path::{Path, PathBuf};
 use std::process::exit;
@@ -17,7 +17,7 @@ fn main() {
     }
     if !archive.is_file() {
         eprintln!("ihex: there is no {}", archive.display());
-        eprintln!("ihex: make it with 'rt staticlib ihex', or name its folder in IHEX_LIB_DIR");
+        eprintln!("ihex: make it with 'tools/archive', or name its folder in IHEX_LIB_DIR");
         exit(1);
     }
     println!("cargo:rustc-link-search=native={}", folder.display());

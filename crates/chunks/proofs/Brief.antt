@@ -5,7 +5,7 @@ use Rattle.std.proofs.Common.{◌≡◌, ℕ, zero, suc, ◌+◌, ◌-◌, ◌<�
 use mathlib.Core.List.{foldl}
 use lib.ListN.{length-replicate}
 use lib.Seq.{split_at, get_or_at}
-use Rattle.digits.specs.Common.{if◌then◌else◌}
+use Rattle.std.specs.Prelude.{if◌then◌else◌}
 use Rattle.record.specs.Refusals.{missing_start_code, contains_invalid_characters, record_too_long}
 use Rattle.digits.specs.Digits.{is_digit, all_digits, leading}
 use Rattle.record.specs.Line.{Said, wrong, invalid, judge, judge_digits}

@@ -2,7 +2,7 @@
 -- Assumes nothing.
 use Rattle.std.proofs.Common.{◌≡◌, ℕ, suc, ◌+◌, ◌-◌, ◌<◌, ◌≤◌, Bool, true, false, List, [], ◌∷◌, ◌++◌, length, get_or, take, drop, set, sym, refl, ap, ◌∙◌, ap₂, add-one, arith, length-drop, drop_of_length-le, length-take-le, take_all, get_or-take, take-take, take-suc-set, eq-eqb, ne_eqb}
 use lib.Seq.{take-set-le, take-nil}
-use Rattle.digits.specs.Common.{if◌then◌else◌}
+use Rattle.std.specs.Prelude.{if◌then◌else◌}
 use Rattle.digits.specs.Digits.{is_digit}
 use Rattle.digits.specs.Reading.{named}
 use Rattle.reader.proofs.Searching.{tail_is}

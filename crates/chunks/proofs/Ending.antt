@@ -4,7 +4,7 @@ use Rattle.std.proofs.Common.{◌≡◌, ℕ, zero, suc, ◌+◌, ◌-◌, ◌<�
 use mathlib.Core.Option.{Option, some}
 use mathlib.Core.List.{Memᴰ}
 use borrow.Author.Tests.{eqb-false}
-use Rattle.digits.specs.Common.{if◌then◌else◌}
+use Rattle.std.specs.Prelude.{if◌then◌else◌}
 use Rattle.digits.proofs.Tests.{or_false, split}
 use Rattle.reader.specs.Lines.{LF, CR, first_line, rest, Ended, with_CRLF, with_LF, with_text, Cut}
 use Rattle.reader.proofs.Cutting.{cut, cut_unique}

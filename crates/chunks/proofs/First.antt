@@ -4,7 +4,7 @@
 use Rattle.std.proofs.Common.{◌≡◌, ℕ, suc, ◌-◌, ◌≤◌, Bool, true, false, List, [], ◌∷◌, ◌++◌, length, take, drop, sym, refl, ap, ◌∙◌, subst, arith, length-drop, length-take}
 use mathlib.Core.Option.{Option, none}
 use mathlib.Core.List.{foldl}
-use Rattle.digits.specs.Common.{if◌then◌else◌}
+use Rattle.std.specs.Prelude.{if◌then◌else◌}
 use Rattle.record.specs.Line.{Said, judge}
 use Rattle.digits.proofs.Tests.{split}
 use Rattle.reader.specs.Told.{Told, done}

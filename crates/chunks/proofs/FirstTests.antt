@@ -3,7 +3,7 @@
 use Rattle.std.proofs.Common.{◌≡◌, ℕ, zero, suc, ◌<◌, ◌≤◌, Bool, true, false, ◌||◌, ltb, ◌≢◌, List, [], ◌∷◌, length, take, drop, sym, refl, ap, ◌∙◌, arith, drop_of_length-le, length-take-le, ltb-false, ltb-true, le-ltb, lt-ltb}
 use mathlib.Core.Option.{none, some}
 use lib.Seq.{take-length}
-use Rattle.digits.specs.Common.{if◌then◌else◌}
+use Rattle.std.specs.Prelude.{if◌then◌else◌}
 use Rattle.record.specs.Refusals.{carry_too_small}
 use Rattle.digits.proofs.Tests.{if_true, if_false, or_true, or_false}
 use Rattle.reader.specs.Told.{refuses, done}

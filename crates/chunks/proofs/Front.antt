@@ -3,7 +3,7 @@
 use Rattle.std.proofs.Common.{◌≡◌, ℕ, suc, ◌<◌, ◌≤◌, Bool, true, false, eqb, ltb, List, [], ◌∷◌, ◌++◌, length, get_or, take, sym, refl, ap, ◌∙◌, arith, length-append, length-take-le, take-take, ltb-false}
 use mathlib.Core.Option.{none, some}
 use lib.Seq.{take-length, take-append_seam}
-use Rattle.digits.specs.Common.{if◌then◌else◌}
+use Rattle.std.specs.Prelude.{if◌then◌else◌}
 use Rattle.digits.specs.Digits.{is_digit}
 use Rattle.digits.specs.Reading.{named}
 use Rattle.digits.proofs.Tests.{branch, both_ways}

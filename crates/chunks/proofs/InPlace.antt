@@ -3,7 +3,7 @@
 use Rattle.std.proofs.Common.{◌≡◌, ℕ, zero, suc, ◌+◌, ◌-◌, ◌<◌, ◌≤◌, Bool, true, false, ◌||◌, eqb, ◌≢◌, List, [], ◌∷◌, length, get_or, take, drop, sym, refl, ap, ◌∙◌, arith, length-drop, get_or-drop, eq-eqb, eqb-true}
 use mathlib.Core.Option.{Option, some}
 use borrow.Author.Tests.{eqb-false}
-use Rattle.digits.specs.Common.{if◌then◌else◌}
+use Rattle.std.specs.Prelude.{if◌then◌else◌}
 use Rattle.digits.proofs.Tests.{or_true}
 use Rattle.reader.specs.Lines.{LF, CR, first_line, rest}
 use Rattle.reader.proofs.Searching.{tail_is, first_line_prefix, first_line_length, behind_inside, behind_moves, rest_behind, CutOff}

@@ -1,7 +1,7 @@
 -- What a judge says of the bytes that are kept, said in their line, is what it says of the line that they stand for, and so with what is told of them.
 -- Assumes nothing.
 use Rattle.std.proofs.Common.{◌≡◌, ℕ, suc, ◌+◌, ◌<◌, ◌≤◌, Bool, true, false, ◌&&◌, eqb, List, [], ◌∷◌, ◌++◌, length, take, drop, replicate, sym, refl, ap, ◌∙◌, append-nil, arith, length-append, drop_of_length-le, take_all, ne_eqb, eqb-true}
-use Rattle.digits.specs.Common.{if◌then◌else◌}
+use Rattle.std.specs.Prelude.{if◌then◌else◌}
 use Rattle.record.specs.Refusals.{Refusal, refusal, number_of, missing_start_code, contains_invalid_characters, pool_full}
 use Rattle.digits.specs.Digits.{all_digits, leading}
 use Rattle.record.specs.Line.{Said, says, wrong, judge}

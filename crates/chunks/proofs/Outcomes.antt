@@ -2,7 +2,7 @@
 -- Assumes nothing.
 use Rattle.std.proofs.Common.{◌≡◌, ℕ, suc, ◌<◌, ◌≤◌, Bool, true, false, ◌||◌, eqb, ltb, List, [], ◌∷◌, length, take, drop, replicate, sym, refl, ap, ◌∙◌, arith, length-append, length-drop, length-take-le, ltb-false, ltb-true}
 use mathlib.Core.Option.{Option}
-use Rattle.digits.specs.Common.{if◌then◌else◌}
+use Rattle.std.specs.Prelude.{if◌then◌else◌}
 use Rattle.record.specs.Refusals.{missing_start_code, contains_invalid_characters, record_too_long}
 use Rattle.digits.specs.Digits.{all_digits, leading}
 use Rattle.record.specs.Line.{wrong, judge}

@@ -4,7 +4,7 @@ use Rattle.std.proofs.Common.{◌≡◌, ℕ, suc, ◌+◌, ◌-◌, ◌<◌, �
 use mathlib.Core.Option.{Option}
 use mathlib.Core.List.{foldl, Memᴰ}
 use lib.Seq.{paste, take-paste, split_at, take-length}
-use Rattle.digits.specs.Common.{if◌then◌else◌}
+use Rattle.std.specs.Prelude.{if◌then◌else◌}
 use Rattle.digits.proofs.Tests.{or_true}
 use Rattle.digits.proofs.Parts.{none_left}
 use Rattle.reader.specs.Lines.{LF, CR, rest, Ended, with_CRLF, with_LF, with_text, Cut}

@@ -2,7 +2,7 @@
 -- Assumes nothing.
 use Rattle.std.proofs.Common.{◌≡◌, ℕ, suc, ◌≤◌, Bool, true, false, eqb, ltb, List, [], ◌∷◌, ◌++◌, length, get_or, take, refl, arith, ltb-false, eqb-true}
 use mathlib.Core.List.{foldl}
-use Rattle.digits.specs.Common.{if◌then◌else◌}
+use Rattle.std.specs.Prelude.{if◌then◌else◌}
 use Rattle.digits.specs.Digits.{is_digit}
 use Rattle.digits.specs.Reading.{named}
 use Rattle.reader.specs.Lines.{LF, CR, ends_line, first_line}

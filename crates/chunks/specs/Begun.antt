@@ -3,7 +3,7 @@
 use Rattle.std.specs.Prelude.{ℕ, suc, ◌+◌, ◌%◌, ◌^◌, Bool, true, false, List, [], ◌∷◌, ◌++◌, length, take, drop, replicate, ◌==◌, nat_lt, slice_index}
 use Rattle.std.proofs.Math.Option.{Option, none, some}
 use mathlib.Core.List.{foldl}
-use Rattle.digits.specs.Common.{if◌then◌else◌}
+use Rattle.std.specs.Prelude.{if◌then◌else◌}
 use Rattle.digits.specs.Digits.{is_digit}
 use Rattle.digits.specs.Reading.{named}
 use Rattle.reader.specs.Lines.{LF, CR}

@@ -4,7 +4,8 @@ use Rattle.std.specs.Prelude.{◌≡◌, ℕ, ◌+◌, ◌-◌, ◌^◌, ◌<◌
 use Prim.Native.String.{String}
 use Rattle.std.proofs.Math.Option.{none, some}
 use Rattle.std.specs.Borrow.{Bor}
-use Rattle.digits.specs.Common.{if◌then◌else◌, Every, text, pasted}
+use Rattle.digits.specs.Common.{Every, text, pasted}
+use Rattle.std.specs.Prelude.{if◌then◌else◌}
 use Rattle.record.specs.Refusals.{pool_full, carry_too_small}
 use Rattle.digits.specs.Digits.{is_digit, all_digits}
 use Rattle.record.specs.Line.{judge}

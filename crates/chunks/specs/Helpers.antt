@@ -2,7 +2,7 @@
 -- Assumes nothing.
 use Rattle.std.specs.Prelude.{◌≡◌, ℕ, ◌+◌, ◌-◌, ◌<◌, ◌≤◌, Bool, ◌||◌, ◌≢◌, List, length, take, drop, ◌==◌, nat_lt, slice_index}
 use Rattle.std.proofs.Math.Option.{Option, some}
-use Rattle.digits.specs.Common.{if◌then◌else◌}
+use Rattle.std.specs.Prelude.{if◌then◌else◌}
 use Rattle.record.specs.Refusals.{Refusal, refusal, contains_invalid_characters}
 use Rattle.digits.specs.Reading.{named}
 use Rattle.record.specs.Line.{judge}

@@ -5,7 +5,7 @@ use mathlib.Core.Path.{◌≡◌, refl, sym, ap, ◌∙◌}
 use mathlib.Core.Option.{some}
 use lib.Dec.{eqb}
 use borrow.Author.Tests.{lt-leb}
-use Rattle.digits.specs.Common.{if◌then◌else◌}
+use Rattle.std.specs.Prelude.{if◌then◌else◌}
 use Rattle.light.specs.declared.Count.{Count}
 use Rattle.light.specs.declared.Count.TheVariants.{Unknown, Known}
 use Rattle.light.specs.Colors.{Color, broken, no_count, first_seen, green, stale, restarted}

@@ -6,7 +6,7 @@ use mathlib.Core.Bool.{Bool, true, false}
 use native.Mathlib.Omega.{arith}
 use lib.Dec.{eqb}
 use borrow.Author.Tests.{ne_eqb}
-use Rattle.digits.specs.Common.{if◌then◌else◌}
+use Rattle.std.specs.Prelude.{if◌then◌else◌}
 use Rattle.steps.specs.declared.Start.{Start}
 use Rattle.steps.specs.declared.Start.TheVariants.{Unstated, Segment, Linear}
 use Rattle.loader.specs.declared.Base.{Base}

@@ -1,7 +1,7 @@
 -- A listener in numbers, as C has it: its flags, and the numbers of the dump that it is in.
 -- Assumes nothing.
 use Rattle.std.specs.Prelude.{ℕ, ◌+◌, ◌*◌, ◌/◌, ◌%◌, ◌≤◌, ◌≡◌, Bool, true, false, eqb}
-use Rattle.digits.specs.Common.{if◌then◌else◌}
+use Rattle.std.specs.Prelude.{if◌then◌else◌}
 use Rattle.record.specs.Refusals.{bad_window}
 use Rattle.steps.specs.declared.LoaderError.TheVariants.{MissingEndOfFileRecord}
 use Rattle.steps.specs.declared.Loading.{Loading}

@@ -1,7 +1,7 @@
 -- What was staged for a page, committed to it: the bytes at marked places, and the row of marks.
 -- Assumes nothing.
 use Rattle.std.specs.Prelude.{ℕ, ◌≡◌, Bool, ◌&&◌, List, eqb, length, get_or}
-use Rattle.digits.specs.Common.{if◌then◌else◌}
+use Rattle.std.specs.Prelude.{if◌then◌else◌}
 use Rattle.marks.specs.Marks.{row_length, mark_at, listed}
 
 -- the byte of place i after a commit: the staged one where the place is marked, and else the page's own

@@ -1,7 +1,7 @@
 -- How many digits lead a row, and the search for the first byte that is not a digit.
 -- Assumes nothing.
 use Rattle.std.proofs.Common.{◌≡◌, ℕ, zero, suc, ◌+◌, ◌<◌, ◌≤◌, Bool, true, false, ◌&&◌, List, [], ◌∷◌, ◌++◌, length, get_or, drop, sym, refl, ap, ◌∙◌, append-nil, add-one, arith, drop_of_length-le, drop-cons, le-ltb, lt-ltb}
-use Rattle.digits.specs.Common.{if◌then◌else◌}
+use Rattle.std.specs.Prelude.{if◌then◌else◌}
 use Rattle.digits.specs.Digits.{digit, is_digit, all_digits, leading}
 use Rattle.digits.proofs.Tests.{branch, both, and_false}
 

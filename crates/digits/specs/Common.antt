@@ -1,14 +1,9 @@
--- What every file of specs/ uses: choices that read as such, a property of each element, and texts in quotes.
+-- What every file of specs/ uses: a property of each element, and texts in quotes.
 -- Assumes nothing.
 use Rattle.std.specs.Prelude.{ℕ, ◌+◌, ◌<◌, Bool, true, false, List, [], ◌∷◌, ◌++◌, length, take, drop}
 use Prim.Native.Char.{code}
 use Prim.Native.String.{String}
 use Rattle.std.proofs.Math.Option.{Option, none, some}
-
-infix 10 if◌then◌else◌
-abbrev pub if◌then◌else◌ {ℓ} : {X : Type ℓ} → Bool → X → X → X
-if true then x else y = x
-if false then x else y = y
 
 -- the first of two that there is
 abbrev pub or_else : {A : Type 0} → Option A → Option A → Option A

@@ -1,7 +1,7 @@
 -- Hexadecimal digits, the bytes that pairs of them spell, and the numbers that bytes say.
 -- Assumes nothing.
 use Rattle.std.specs.Prelude.{◌≡◌, ℕ, suc, ◌+◌, ◌-◌, ◌*◌, Bool, true, ◌&&◌, List, [], ◌∷◌, nat_le, nat_lt}
-use Rattle.digits.specs.Common.{if◌then◌else◌}
+use Rattle.std.specs.Prelude.{if◌then◌else◌}
 
 unfoldable pub between : (low high c : ℕ) → Bool
 between low high c = nat_le low c && nat_le c high

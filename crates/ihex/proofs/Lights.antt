@@ -10,7 +10,7 @@ use native.Mathlib.Omega.{arith}
 use lib.Dec.{leb}
 use lib.ListN.{length}
 use borrow.Author.Tests.{eq-eqb, leb-false, lt-leb}
-use Rattle.digits.specs.Common.{if◌then◌else◌}
+use Rattle.std.specs.Prelude.{if◌then◌else◌}
 use Rattle.record.specs.Refusals.{Refusal, bad_window}
 use Rattle.steps.specs.Steps.{Step, Tally, Verdict, accepted, refused}
 use Rattle.steps.specs.Source.{Source, steps_of}

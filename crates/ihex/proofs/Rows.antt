@@ -13,7 +13,8 @@ use lib.Dec.{eqb, ltb}
 use lib.ListN.{length, take, drop_of_length-le}
 use lib.Seq.{take-nil, take-length}
 use borrow.Author.Tests.{lt-leb, eqb-true, ne_eqb}
-use Rattle.digits.specs.Common.{if◌then◌else◌, Every}
+use Rattle.digits.specs.Common.{Every}
+use Rattle.std.specs.Prelude.{if◌then◌else◌}
 use Rattle.record.specs.Refusals.{pool_full, carry_too_small}
 use Rattle.record.specs.Line.{judge}
 use Rattle.digits.proofs.Tests.{split}

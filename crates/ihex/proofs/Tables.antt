@@ -9,7 +9,7 @@ use native.Mathlib.Omega.{arith}
 use lib.Dec.{eqb}
 use lib.ListN.{length, get_or}
 use borrow.Author.Tests.{eqb-true, eqb-false}
-use Rattle.digits.specs.Common.{if◌then◌else◌}
+use Rattle.std.specs.Prelude.{if◌then◌else◌}
 use Rattle.marks.specs.Marks.{mark_at}
 use Rattle.record.specs.Refusals.{Refusal, refusal, bad_table}
 use Rattle.steps.specs.Steps.{Step, Tally, Verdict, accepted, refused}

@@ -2,7 +2,7 @@
 -- Assumes nothing.
 use Rattle.std.specs.Prelude.{ℕ, ◌+◌, ◌≤◌, ◌≡◌, not, ◌||◌, List, [], leb, length, take, drop}
 use Rattle.std.proofs.Math.Option.{Option, some}
-use Rattle.digits.specs.Common.{if◌then◌else◌}
+use Rattle.std.specs.Prelude.{if◌then◌else◌}
 use Rattle.record.specs.Line.{judge}
 use Rattle.reader.specs.declared.State.{State}
 use Rattle.reader.specs.Told.{Told}

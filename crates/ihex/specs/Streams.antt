@@ -1,7 +1,7 @@
 -- Calls of `ihex_feed` and `ihex_commit` on a stream, dump after dump, and what is claimed of them, proved in `proofs/Streams.antt`.
 -- Assumes nothing.
 use Rattle.std.specs.Prelude.{ℕ, suc, ◌^◌, ◌<◌, ◌≡◌, ◌⊎◌, Bool, false, List, [], ◌∷◌, ◌++◌, map, length, drop}
-use Rattle.digits.specs.Common.{if◌then◌else◌}
+use Rattle.std.specs.Prelude.{if◌then◌else◌}
 use Rattle.reader.specs.Lines.{lines}
 use Rattle.window.specs.Window.{unfit, within}
 use Rattle.intake.specs.declared.Kind.{Kind}

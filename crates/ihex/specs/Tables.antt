@@ -3,7 +3,7 @@
 -- Assumes nothing.
 use Rattle.std.specs.Prelude.{ℕ, ◌+◌, ◌%◌, ◌≤◌, ◌<◌, ◌≡◌, ◌≢◌, ◌↔◌, ◌⊎◌, Bool, true, List, [], ◌∷◌, eqb, length, get_or}
 use Rattle.std.proofs.Math.Option.{some}
-use Rattle.digits.specs.Common.{if◌then◌else◌}
+use Rattle.std.specs.Prelude.{if◌then◌else◌}
 use Rattle.marks.specs.Marks.{mark_at, Marked}
 use Rattle.reader.specs.Lines.{through}
 use Rattle.steps.specs.Steps.{Verdict, by, stated}

@@ -1,7 +1,7 @@
 -- The exit status that the program says of a text.
 -- Assumes nothing.
 use Rattle.std.specs.Prelude.{ℕ, Bool, List}
-use Rattle.digits.specs.Common.{if◌then◌else◌}
+use Rattle.std.specs.Prelude.{if◌then◌else◌}
 use Rattle.listing.specs.Status.{text_status}
 
 -- that of the listing, or 2 where the output could not be written

@@ -2,7 +2,7 @@
 -- Assumes nothing.
 use Rattle.std.proofs.Common.{◌≡◌, ℕ, ◌%◌, ◌^◌, Bool, true, false, eqb, ◌⊎◌, List, [], ◌∷◌, length, sym, refl, ap, ◌∙◌, subst, inl, inr, arith}
 use Rattle.marks.specs.Claims.{Bytes}
-use Rattle.digits.specs.Common.{if◌then◌else◌}
+use Rattle.std.specs.Prelude.{if◌then◌else◌}
 use Rattle.record.specs.Refusals.{missing_end_of_file_record}
 use Rattle.reader.specs.Lines.{LF}
 use Rattle.chunks.specs.Begun.{Begun, nothing, is_empty, stands_for, with_CR, add, counted}

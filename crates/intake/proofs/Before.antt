@@ -2,7 +2,7 @@
 -- Assumes nothing.
 use Rattle.std.proofs.Common.{◌≡◌, ℕ, zero, suc, ◌^◌, ◌<◌, Bool, true, false, eqb, List, [], ◌∷◌, ◌++◌, sym, refl, ap, ◌∙◌, subst, append_assoc, append-nil, arith}
 use mathlib.Core.Option.{Option, none, some, map}
-use Rattle.digits.specs.Common.{if◌then◌else◌}
+use Rattle.std.specs.Prelude.{if◌then◌else◌}
 use Rattle.reader.specs.Lines.{LF, through}
 use Rattle.chunks.specs.Begun.{Begun, nothing, is_empty, stands_for, with_CR, add, counted}
 use Rattle.chunks.specs.Rows.{joined}

@@ -2,7 +2,7 @@
 -- whether all else are digits, how many lead, and by the type's digit.
 -- Assumes nothing.
 use Rattle.std.proofs.Common.{◌≡◌, ℕ, ◌<◌, ◌≤◌, List, [], ◌∷◌, ◌++◌, length, get_or, refl, ap, arith, length-append, le-ltb, lt-ltb}
-use Rattle.digits.specs.Common.{if◌then◌else◌}
+use Rattle.std.specs.Prelude.{if◌then◌else◌}
 use Rattle.digits.specs.Digits.{digit}
 use Rattle.record.specs.Refusals.{record_too_long, unsupported_record_type}
 use Rattle.record.specs.Line.{Said, wrong}

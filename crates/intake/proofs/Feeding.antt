@@ -1,7 +1,7 @@
 -- A chunk that is fed: what its bytes come to from a state on is what is to come where the walk stands, and what the walk comes to is the reply.
 -- Assumes nothing.
 use Rattle.std.proofs.Common.{◌≡◌, ℕ, ◌<◌, ◌≤◌, Bool, true, false, ltb, List, [], length, take, refl, ap, ◌∙◌, subst, ap₂, arith}
-use Rattle.digits.specs.Common.{if◌then◌else◌}
+use Rattle.std.specs.Prelude.{if◌then◌else◌}
 use Rattle.chunks.specs.Next.{too_small}
 use Rattle.chunks.proofs.FirstTests.{small_carry, much_used, big_enough}
 use Rattle.steps.specs.declared.LoaderError.TheVariants.{BadWindow}

@@ -5,7 +5,7 @@ use mathlib.Core.Option.{none}
 use types.Run.{OneOf, miss}
 use denote.Enum.Declared.{tag_of}
 use Rattle.marks.specs.Claims.{Bytes}
-use Rattle.digits.specs.Common.{if◌then◌else◌}
+use Rattle.std.specs.Prelude.{if◌then◌else◌}
 use Rattle.digits.proofs.Tests.{if_true, if_false}
 use Rattle.chunks.specs.Begun.{Kept, is_empty, stands_for, with_CR, counted}
 use Rattle.chunks.specs.Next.{kept_in, too_small}

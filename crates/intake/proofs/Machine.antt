@@ -2,7 +2,7 @@
 -- Assumes nothing.
 use Rattle.std.proofs.Common.{◌≡◌, ℕ, suc, ◌+◌, ◌%◌, ◌^◌, Bool, true, false, eqb, List, [], ◌∷◌, ◌++◌, map, sym, refl, ap, ◌∙◌, arith}
 use mathlib.Core.Option.{Option, some}
-use Rattle.digits.specs.Common.{if◌then◌else◌}
+use Rattle.std.specs.Prelude.{if◌then◌else◌}
 use Rattle.reader.specs.Lines.{LF}
 use Rattle.chunks.specs.Begun.{Begun, nothing, is_empty, stands_for, add, counted}
 use Rattle.chunks.specs.Rows.{Nth, nth}

@@ -2,7 +2,8 @@
 -- Assumes nothing.
 use Rattle.std.proofs.Common.{◌≡◌, ℕ, suc, ◌+◌, ◌-◌, ◌^◌, Bool, true, false, eqb, List, [], ◌∷◌, ◌++◌, map, length, sym, refl, ap, ◌∙◌, subst, arith}
 use mathlib.Core.Option.{Option, some}
-use Rattle.digits.specs.Common.{if◌then◌else◌, Every}
+use Rattle.digits.specs.Common.{Every}
+use Rattle.std.specs.Prelude.{if◌then◌else◌}
 use Rattle.marks.specs.Claims.{Bytes}
 use Rattle.record.specs.Line as intel-line
 use Rattle.record.specs.Meaning.{meaning}

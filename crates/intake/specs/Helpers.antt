@@ -1,7 +1,7 @@
 -- What the intake's functions promise each other.
 -- Assumes nothing.
 use Rattle.std.specs.Prelude.{◌≡◌, ℕ, ◌+◌, ◌%◌, ◌^◌, ◌<◌, ◌≤◌, Bool, false, List, [], ◌++◌, length, drop, nat_lt}
-use Rattle.digits.specs.Common.{if◌then◌else◌}
+use Rattle.std.specs.Prelude.{if◌then◌else◌}
 use Rattle.reader.specs.Text.{default_options}
 use Rattle.chunks.specs.Begun.{Kept, brief, stands_for}
 use Rattle.chunks.specs.Helpers.{refusal_in_line}

@@ -1,7 +1,7 @@
 -- The contract of `feed`: what a load that is fed returns and leaves, for every state, chunk, carry and staging.
 -- Assumes nothing.
 use Rattle.std.specs.Prelude.{◌≡◌, ℕ, ◌%◌, ◌^◌, ◌≤◌, Bool, true, false, ◌||◌, List, [], length, take, drop, nat_lt}
-use Rattle.digits.specs.Common.{if◌then◌else◌}
+use Rattle.std.specs.Prelude.{if◌then◌else◌}
 use Rattle.chunks.specs.Begun.{Begun}
 use Rattle.steps.specs.declared.LoaderError.TheVariants.{BadWindow}
 use Rattle.steps.specs.declared.Loading.{Loading}

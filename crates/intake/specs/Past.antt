@@ -3,7 +3,8 @@
 -- Assumes nothing.
 use Rattle.std.specs.Prelude.{◌≡◌, ℕ, Bool, true, false, List, [], ◌∷◌}
 use Prim.Native.String.{String}
-use Rattle.digits.specs.Common.{if◌then◌else◌, Every, text}
+use Rattle.digits.specs.Common.{Every, text}
+use Rattle.std.specs.Prelude.{if◌then◌else◌}
 use Rattle.steps.specs.Steps.{Action, places, starts, counts, finishes, fails}
 use Rattle.steps.specs.Source.{Source}
 use Rattle.intel.specs.Placing.{intel}

@@ -1,7 +1,7 @@
 #![tactic(auto)]
 // A load that is fed: a text that comes in chunks is taken line by line into a staging page, and decided as soon as a line decides it.
 ghost use Rattle.std.specs.Prelude.{◌≡◌, false, length, nat_lt};
-ghost use Rattle.digits.specs.Common.{if◌then◌else◌};
+ghost use Rattle.std.specs.Prelude.{if◌then◌else◌};
 ghost use Rattle.window.specs.Window.{unfit};
 ghost use Rattle.steps.specs.Told.{told_loading};
 ghost use Rattle.intel.specs.Placing.{intel};

@@ -3,7 +3,8 @@
 use Rattle.std.proofs.Common.{◌≡◌, ℕ, ◌<◌, ◌≤◌, Bool, true, false, eqb, leb, ◌≢◌, List, [], ◌∷◌, ◌++◌, sym, refl, ◌∙◌, subst, append_assoc, arith, eq-eqb, eqb-true, leb-false, leb-true}
 use mathlib.Core.Option.{Option, none, some}
 use borrow.Author.Tests.{eqb-false}
-use Rattle.digits.specs.Common.{if◌then◌else◌, or_else, Every}
+use Rattle.digits.specs.Common.{or_else, Every}
+use Rattle.std.specs.Prelude.{if◌then◌else◌}
 use Rattle.steps.proofs.Firsts.{every_at}
 use Rattle.light.specs.Colors.{Color, green, stale, restarted, Outcome, refused_one, uncounted, counted, forward, compared, color, known_after, colors, LastCount, never, this_one, Shows, is_broken, has_none, is_first, is_same, moved_forward, moved_else, Sixteen, ShownSo, ShownOnlySo, KnownIsLast, NeverGreenAgain, GreenExactly, Examples}
 

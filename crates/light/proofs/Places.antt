@@ -3,7 +3,7 @@
 use Rattle.std.proofs.Common.{◌≡◌, ℕ, ◌+◌, Bool, true, false, eqb, ltb, List, length, get_or, refl, ap, ◌∙◌, arith, ltb-false, ltb-true, eqb-true}
 use mathlib.Core.Option
 use mathlib.Core.Option.{Option, none, some}
-use Rattle.digits.specs.Common.{if◌then◌else◌}
+use Rattle.std.specs.Prelude.{if◌then◌else◌}
 use Rattle.record.specs.Refusals.{bad_window}
 use Rattle.marks.specs.Marks.{mark_at}
 use Rattle.steps.specs.Steps.{Tally, Verdict, accepted, refused, verdict, stated}

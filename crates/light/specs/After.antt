@@ -3,7 +3,7 @@
 -- Assumes nothing.
 use Rattle.std.specs.Prelude.{◌≡◌, ℕ, Bool, true, false, ◌&&◌, List, [], ◌∷◌, length, ◌==◌}
 use Rattle.std.proofs.Math.Option.{Option, none, some}
-use Rattle.digits.specs.Common.{if◌then◌else◌}
+use Rattle.std.specs.Prelude.{if◌then◌else◌}
 use Rattle.record.specs.Refusals.{bad_window, missing_end_of_file_record}
 use Rattle.marks.specs.Marks.{row_length, first_unused}
 use Rattle.steps.specs.declared.Loading.{Loading}

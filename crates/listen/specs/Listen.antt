@@ -3,7 +3,7 @@
 -- everything through the next end record is skipped. A pause is a known beginning.
 -- Assumes nothing.
 use Rattle.std.specs.Prelude.{ℕ, suc, Bool, false, List, [], ◌∷◌, ◌++◌}
-use Rattle.digits.specs.Common.{if◌then◌else◌}
+use Rattle.std.specs.Prelude.{if◌then◌else◌}
 use Rattle.record.specs.Refusals.{missing_end_of_file_record}
 use Rattle.steps.specs.Steps.{Placement, Verdict, accepted, refused}
 use Rattle.steps.specs.Source.{Source}

@@ -2,7 +2,7 @@
 -- the load makes of it (`Feeds` and `Finishes` of `intake`); here stands which load, of which bytes, and where listening stands then.
 -- Assumes nothing.
 use Rattle.std.specs.Prelude.{ℕ, suc, ◌+◌, ◌≡◌, Bool, true, false, not, ◌&&◌, ◌||◌, List, [], ◌∷◌, eqb, ltb, length, drop, replicate}
-use Rattle.digits.specs.Common.{if◌then◌else◌}
+use Rattle.std.specs.Prelude.{if◌then◌else◌}
 use Rattle.reader.specs.Lines.{LF, CR}
 use Rattle.steps.specs.declared.LoaderError.TheVariants.{BadWindow}
 use Rattle.steps.specs.declared.Loading.{Loading}

@@ -9,7 +9,7 @@ use native.Mathlib.Nat.{pow-succ'}
 use lib.Dec.{ltb}
 use lib.ListN.{length, length-append}
 use borrow.Author.Tests.{lt-ltb, le-ltb, ltb-false}
-use Rattle.digits.specs.Common.{if◌then◌else◌}
+use Rattle.std.specs.Prelude.{if◌then◌else◌}
 use Rattle.digits.specs.Spelling.{capital_digit}
 use Rattle.digits.proofs.Tests.{split}
 use Rattle.listing.specs.Listing.{digits, decimal}

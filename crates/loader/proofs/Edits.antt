@@ -4,7 +4,8 @@
 use Rattle.std.proofs.Common.{◌≡◌, ℕ, ◌≤◌, Bool, true, false, ◌&&◌, eqb, ◌⊎◌, List, [], ◌∷◌, ◌++◌, length, drop, sym, refl, ap, ◌∙◌, ap₂, inl, inr, arith, ne_eqb, eqb-true}
 use native.Mathlib.Decide.{ℕ_discrete}
 use mathlib.Core.Option.{some}
-use Rattle.digits.specs.Common.{if◌then◌else◌, Every}
+use Rattle.digits.specs.Common.{Every}
+use Rattle.std.specs.Prelude.{if◌then◌else◌}
 use Rattle.record.specs.Line.{judge}
 use Rattle.record.specs.Noise.{SaysARecord, Slip, no_slip, one_changed, one_lost, one_added, two_swapped}
 use Rattle.digits.proofs.Tests.{both_ways}

@@ -14,7 +14,7 @@ use borrow.Author.Tests.{leb-true, leb-false}
 use Rattle.marks.specs.Marks.{row_length, first_unused}
 use Rattle.marks.specs.Claims.{IsFirstUnused}
 use Rattle.marks.proofs.UnusedBits.{unused_found, none_unused, one_first_unused}
-use Rattle.digits.specs.Common.{if◌then◌else◌}
+use Rattle.std.specs.Prelude.{if◌then◌else◌}
 use Rattle.record.specs.Refusals.{Refusal, refusal, output_full, bad_window, bad_mark}
 use Rattle.record.specs.Written.{written}
 use Rattle.digits.proofs.Tests.{branch}

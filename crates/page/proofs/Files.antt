@@ -12,7 +12,8 @@ use borrow.Author.Tests.{le-leb}
 use Rattle.marks.specs.Marks.{flags}
 use Rattle.marks.proofs.Rows.{flags_length}
 use Rattle.marks.proofs.Claims.{flag_marked}
-use Rattle.digits.specs.Common.{if◌then◌else◌, Every, Byte}
+use Rattle.digits.specs.Common.{Every, Byte}
+use Rattle.std.specs.Prelude.{if◌then◌else◌}
 use Rattle.record.specs.declared.Record.{Record}
 use Rattle.record.specs.declared.Record.TheVariants.{EndOfFile, ExtendedLinearAddress}
 use Rattle.record.specs.Record.{meant}

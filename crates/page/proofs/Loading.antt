@@ -17,7 +17,8 @@ use Rattle.marks.specs.Marks.{row_length, mark_at, flags, packed}
 use Rattle.marks.specs.Claims.{Bytes, Flag, AllFlags}
 use Rattle.marks.proofs.Rows.{flags_length, flags_say}
 use Rattle.marks.proofs.Claims.{one_inside, flags_are_flags, packed_unpacked}
-use Rattle.digits.specs.Common.{if◌then◌else◌, Every}
+use Rattle.digits.specs.Common.{Every}
+use Rattle.std.specs.Prelude.{if◌then◌else◌}
 use Rattle.record.specs.declared.Record.{Record}
 use Rattle.record.specs.declared.Record.TheVariants.{ExtendedLinearAddress}
 use Rattle.record.specs.Record.{meant}

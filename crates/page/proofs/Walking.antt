@@ -11,7 +11,7 @@ use lib.Dec.{eqb, ltb}
 use lib.ListN.{length, get_or, drop, drop_of_length-le}
 use lib.Seq.{drop-cons}
 use borrow.Author.Tests.{eq-eqb, ne_eqb, lt-ltb}
-use Rattle.digits.specs.Common.{if◌then◌else◌}
+use Rattle.std.specs.Prelude.{if◌then◌else◌}
 use Rattle.record.specs.declared.Record.TheVariants.{Data, EndOfFile, ExtendedLinearAddress}
 use Rattle.digits.proofs.Tests.{if_true, if_false, split, both_ways, or_true}
 use Rattle.page.specs.declared.FileWalk.{FileWalk}

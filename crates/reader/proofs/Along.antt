@@ -1,7 +1,7 @@
 -- A call moves along what the text's lines say: it answers the first of it that is left, and leaves the rest.
 -- Assumes nothing.
 use Rattle.std.proofs.Common.{◌≡◌, ℕ, suc, ◌+◌, ◌-◌, ◌^◌, ◌<◌, Bool, true, false, ◌&&◌, ◌||◌, eqb, List, [], ◌∷◌, ◌++◌, length, take, drop, sym, refl, ap, ◌∙◌, ap₂, append_assoc, add-zero, add-suc, mod-eq_of_lt, arith, length-append, take-append-drop, drop_at}
-use Rattle.digits.specs.Common.{if◌then◌else◌}
+use Rattle.std.specs.Prelude.{if◌then◌else◌}
 use Rattle.record.specs.Line.{Said, judge}
 use Rattle.digits.proofs.Tests.{if_true, both}
 use Rattle.reader.specs.declared.State.{State}

@@ -1,7 +1,7 @@
 -- The claims of `specs/Claims.antt`, proved. The table computes; an answer is found again from what is told, so no two are told alike.
 -- Assumes nothing.
 use Rattle.std.proofs.Common.{◌≡◌, ℕ, eqb, List, get_or, sym, refl, ap, ◌∙◌}
-use Rattle.digits.specs.Common.{if◌then◌else◌}
+use Rattle.std.specs.Prelude.{if◌then◌else◌}
 use Rattle.record.specs.Refusals.{Refusal, refusal}
 use Rattle.digits.specs.Digits.{number_after}
 use Rattle.record.specs.Line.{judge}

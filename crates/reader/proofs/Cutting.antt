@@ -6,7 +6,7 @@ use mathlib.Core.List.Memᴰ
 use mathlib.Core.List.{Memᴰ, tail-eq_of_cons-eq, head-eq_of_cons-eq, nil≢cons}
 use borrow.Author.Tests.{eqb-false}
 use Rattle.digits.proofs.Tests.{both_ways, both, and_false}
-use Rattle.digits.specs.Common.{if◌then◌else◌}
+use Rattle.std.specs.Prelude.{if◌then◌else◌}
 use Rattle.reader.specs.Lines.{LF, CR, at_LF, ends_line, first_line, rest, Ended, with_CRLF, with_LF, with_text, Cut, lines, later, through}
 
 -- ---- first line and rest

@@ -3,7 +3,7 @@
 use Rattle.std.proofs.Common.{◌≡◌, ℕ, zero, suc, ◌+◌, ◌-◌, ◌<◌, ◌≤◌, eqb, ◌≢◌, ◌⊎◌, List, [], ◌∷◌, ◌++◌, length, get_or, take, drop, sym, refl, ap, ◌∙◌, inl, inr, append-nil, arith, length-append, length-drop, length-take-le, take_all, drop-cons, get_or-take, eq-eqb, ne_eqb}
 use mathlib.Core.List.Memᴰ
 use mathlib.Core.List.{Memᴰ}
-use Rattle.digits.specs.Common.{if◌then◌else◌}
+use Rattle.std.specs.Prelude.{if◌then◌else◌}
 use Rattle.digits.proofs.Tests.{both_ways}
 use lib.Seq.{split_at, get_or-append_seam}
 use Rattle.reader.specs.Lines.{LF, CR, rest, with_CRLF, with_LF, with_text, Cut}

@@ -2,7 +2,7 @@
 -- of their number, the code behind it, so an answer on their number holds unless a character is no digit.
 -- Assumes nothing.
 use Rattle.std.proofs.Common.{◌≡◌, ℕ, ◌-◌, ◌%◌, ◌<◌, ◌≤◌, true, false, ◌≢◌, List, [], ◌∷◌, length, get_or, drop, refl, ◌∙◌, arith, length-drop, le-ltb, lt-ltb, eq-eqb, ne_eqb}
-use Rattle.digits.specs.Common.{if◌then◌else◌}
+use Rattle.std.specs.Prelude.{if◌then◌else◌}
 use Rattle.record.specs.Refusals.{missing_start_code, record_too_short, record_too_long, record_not_even_length}
 use Rattle.digits.specs.Digits.{all_digits, bytes}
 use Rattle.record.specs.Line.{Said, wrong, invalid, judge_bytes, judge_digits, judge}

@@ -2,7 +2,7 @@
 -- Assumes nothing.
 use Rattle.std.proofs.Common.{◌≡◌, ℕ, Bool, true, false, List, [], ◌∷◌, ◌++◌, length, sym, refl, ap, ◌∙◌, arith}
 use mathlib.Core.List.{Memᴰ}
-use Rattle.digits.specs.Common.{if◌then◌else◌}
+use Rattle.std.specs.Prelude.{if◌then◌else◌}
 use Rattle.record.specs.Refusals.{Refusal, number_of, contains_invalid_characters, pool_full}
 use Rattle.record.specs.Line.{Said, says, wrong, judge}
 use Rattle.digits.specs.Reading.{named}

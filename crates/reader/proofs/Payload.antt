@@ -1,7 +1,7 @@
 -- The payload: the bytes of the buffer from its fifth on. Two or four of them, taken out of the buffer one by one, are the
 -- number that their type means.
 -- Assumes nothing.
-use Rattle.std.proofs.Common.{◌≡◌, ℕ, ◌+◌, ◌-◌, ◌*◌, ◌≤◌, List, [], ◌∷◌, length, get_or, take, drop, ap, ◌∙◌, ap₂, arith}
+use Rattle.std.proofs.Common.{◌≡◌, ℕ, ◌+◌, ◌*◌, ◌≤◌, List, [], ◌∷◌, length, get_or, take, drop, ap, ◌∙◌, ap₂, arith}
 use Rattle.record.specs.declared.Record.TheVariants.{EndOfFile, ExtendedSegmentAddress, StartSegmentAddress, ExtendedLinearAddress, StartLinearAddress}
 use Rattle.digits.specs.Digits.{number_after}
 use Rattle.record.specs.Line.{size}

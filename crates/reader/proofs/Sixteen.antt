@@ -2,7 +2,7 @@
 -- Assumes nothing.
 use Rattle.std.proofs.Common.{◌≡◌, ℕ, ◌+◌, eqb, ◌≢◌, List, get_or, ◌∙◌, arith, eq-eqb}
 use lib.Bits.{bit_or, or_add_and, and_le_l, and_le_r}
-use Rattle.digits.specs.Common.{if◌then◌else◌}
+use Rattle.std.specs.Prelude.{if◌then◌else◌}
 use Rattle.digits.proofs.Tests.{split}
 use Rattle.reader.specs.Lines.{LF}
 use Rattle.reader.specs.Helpers.{NoFeed}

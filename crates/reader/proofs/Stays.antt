@@ -1,7 +1,8 @@
 -- The claims on calls from any state, and on what no answer depends on: each is read off the outcome's own cases.
 -- Assumes nothing.
 use Rattle.std.proofs.Common.{◌≡◌, ℕ, suc, ◌+◌, ◌-◌, ◌<◌, ◌≤◌, Bool, true, false, ◌||◌, leb, ◌≢◌, List, [], ◌∷◌, ◌++◌, length, drop, sym, refl, ap, ◌∙◌, ap₂, add-zero, add-suc, suc-add, arith, drop_of_length-le}
-use Rattle.digits.specs.Common.{if◌then◌else◌, Every}
+use Rattle.digits.specs.Common.{Every}
+use Rattle.std.specs.Prelude.{if◌then◌else◌}
 use Rattle.record.specs.Refusals.{pool_full}
 use Rattle.record.specs.Line.{Said, says, wrong, judge}
 use Rattle.record.specs.Meaning.{Meaning, data_at, end_of_file, extended_segment, start_segment, extended_linear, start_linear, meaning}
@@ -15,7 +16,7 @@ use Rattle.reader.specs.declared.Reply.{Reply}
 use Rattle.reader.specs.declared.Reply.TheVariants as reply
 use Rattle.reader.specs.declared.Answer.{Answer}
 use Rattle.reader.specs.declared.Answer.TheVariants.{Read, Refused}
-use Rattle.reader.specs.Told.{Told, gives, refuses, done, told}
+use Rattle.reader.specs.Told.{Told, gives, refuses, done}
 use Rattle.reader.specs.Answer.{given, answered, poured}
 use Rattle.reader.specs.Lines.{lines, later, Found, a_line, no_line, next_line}
 use Rattle.reader.specs.Row.{Numbered, on, line_number, sayings, stops, through_stop, stopped, row}

@@ -1,15 +1,14 @@
 -- The claims on texts: a call answers the first that is left and leaves the rest, so calls are given what the lines say, by one induction
 -- over the calls; lines are joined and numbered by induction over the text, cut at its first line.
 -- Assumes nothing.
-use Rattle.std.proofs.Common.{◌≡◌, ℕ, zero, suc, ◌+◌, ◌-◌, ◌^◌, ◌<◌, ◌≤◌, Bool, true, false, eqb, ◌≢◌, ◌⊎◌, List, [], ◌∷◌, ◌++◌, length, sym, refl, ap, ap₂, ◌∙◌, subst, inl, inr, add-zero, add-suc, suc-add, arith}
+use Rattle.std.proofs.Common.{◌≡◌, ℕ, zero, suc, ◌+◌, ◌^◌, ◌<◌, ◌≤◌, Bool, true, false, eqb, ◌≢◌, ◌⊎◌, List, [], ◌∷◌, ◌++◌, length, sym, refl, ap, ap₂, ◌∙◌, subst, inl, inr, add-zero, add-suc, suc-add, arith}
 use mathlib.Core.List.{nil≢cons, Memᴰ}
-use Rattle.digits.specs.Common.{if◌then◌else◌}
+use Rattle.std.specs.Prelude.{if◌then◌else◌}
 use Rattle.record.specs.Line.{Said, judge}
 use Rattle.digits.proofs.Tests.{both_ways}
 use Rattle.reader.specs.declared.ReaderOptions.{ReaderOptions}
 use Rattle.reader.specs.declared.State.{State}
-use Rattle.reader.specs.declared.Reply.TheVariants as reply
-use Rattle.reader.specs.Told.{Told, done, told}
+use Rattle.reader.specs.Told.{Told, done}
 use Rattle.reader.specs.Answer.{answered}
 use Rattle.reader.specs.Lines.{LF, Cut, Joins, nothing, more, rest, lines, later}
 use Rattle.reader.specs.Row.{Numbered, on, sayings, stops, through_stop, row}

@@ -1,7 +1,7 @@
 -- How a call of the text reader moves along what the lines of a text say.
 -- Assumes nothing.
 use Rattle.std.specs.Prelude.{◌≡◌, ℕ, suc, ◌+◌, ◌^◌, ◌<◌, true, false, List, [], length, drop}
-use Rattle.digits.specs.Common.{if◌then◌else◌}
+use Rattle.std.specs.Prelude.{if◌then◌else◌}
 use Rattle.record.specs.Line.{Said}
 use Rattle.reader.specs.declared.State.{State}
 use Rattle.reader.specs.Lines.{lines}

@@ -1,7 +1,8 @@
 -- The record reader's answer, and the pool behind it, from what the line says.
 -- Assumes nothing.
 use Rattle.std.specs.Prelude.{◌≡◌, ℕ, ◌+◌, ◌*◌, Bool, List, [], ◌∷◌, length, nat_le, slice_index}
-use Rattle.digits.specs.Common.{if◌then◌else◌, pasted}
+use Rattle.digits.specs.Common.{pasted}
+use Rattle.std.specs.Prelude.{if◌then◌else◌}
 use Rattle.record.specs.Refusals.{pool_full}
 use Rattle.record.specs.Line.{Said, says, wrong, judge}
 use Rattle.record.specs.Meaning.{Meaning, data_at, end_of_file, extended_segment, start_segment, extended_linear, start_linear, meaning}

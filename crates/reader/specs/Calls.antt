@@ -1,7 +1,8 @@
 -- A row of calls of the text reader, and what they are given.
 -- Assumes nothing.
 use Rattle.std.specs.Prelude.{◌≡◌, ℕ, false, List, [], ◌∷◌, length}
-use Rattle.digits.specs.Common.{if◌then◌else◌, Every}
+use Rattle.digits.specs.Common.{Every}
+use Rattle.std.specs.Prelude.{if◌then◌else◌}
 use Rattle.reader.specs.declared.ReaderOptions.{ReaderOptions}
 use Rattle.reader.specs.declared.State.{State}
 use Rattle.reader.specs.declared.Replied.{Replied}

@@ -16,7 +16,7 @@ use Rattle.reader.specs.declared.State.{State}
 use Rattle.reader.specs.declared.Replied.{Replied}
 use Rattle.reader.specs.Told.{Told, told}
 use Rattle.reader.specs.Text.{told_reply, is_full, ends_row, behind}
-use Rattle.digits.specs.Common.{if◌then◌else◌}
+use Rattle.std.specs.Prelude.{if◌then◌else◌}
 use Rattle.reader.specs.Answer.{given}
 
 -- refusal 2 of a line, whose first byte is the colon

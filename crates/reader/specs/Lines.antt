@@ -4,7 +4,7 @@
 use Rattle.std.specs.Prelude.{◌≡◌, ℕ, zero, suc, Bool, false, ◌&&◌, ◌||◌, ◌≢◌, List, [], ◌∷◌, ◌++◌, ◌==◌, nat_eq}
 use Rattle.std.proofs.Math.Option.{Option, none, some, map}
 use mathlib.Core.List.{Memᴰ}
-use Rattle.digits.specs.Common.{if◌then◌else◌}
+use Rattle.std.specs.Prelude.{if◌then◌else◌}
 
 abbrev pub LF : ℕ
 LF = 10

@@ -2,7 +2,7 @@
 -- Assumes nothing.
 use Rattle.std.specs.Prelude.{◌≡◌, ℕ, ◌+◌, ◌-◌, ◌%◌, ◌^◌, Bool, true, false, ◌&&◌, List, length, drop, ◌==◌}
 use Rattle.std.specs.Borrow.{Bor}
-use Rattle.digits.specs.Common.{if◌then◌else◌}
+use Rattle.std.specs.Prelude.{if◌then◌else◌}
 use Rattle.record.specs.declared.Record.{Record}
 use Rattle.record.specs.Record.{type_of, numbers_of}
 use Rattle.record.specs.Refusals.{number_of, pool_full}

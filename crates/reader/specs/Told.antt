@@ -1,7 +1,7 @@
 -- What an answer tells: a record's type and numbers, a refusal, or "done".
 -- Assumes nothing.
 use Rattle.std.specs.Prelude.{◌≡◌, ℕ, Bool, true, false, List, [], ◌∷◌, ◌==◌}
-use Rattle.digits.specs.Common.{if◌then◌else◌}
+use Rattle.std.specs.Prelude.{if◌then◌else◌}
 use Rattle.record.specs.Record.{type_of, numbers_of}
 use Rattle.record.specs.Refusals.{Refusal, refusal, number_of, missing_start_code, contains_invalid_characters, record_too_short, record_too_long, record_not_even_length, checksum_mismatch, payload_length_mismatch, unsupported_record_type, invalid_length_for_type, pool_full}
 use Rattle.reader.specs.declared.ReaderError.{ReaderError}

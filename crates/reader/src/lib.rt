@@ -1,7 +1,8 @@
 #![tactic(auto)]
 // Intel HEX read: one line to a record, and a text to a row of answers.
 ghost use Rattle.std.specs.Prelude.{◌≡◌, ◌+◌, ◌-◌, ◌*◌, ◌%◌, ◌<◌, ◌≤◌, true, false, length, take, drop, nat_eq};
-ghost use Rattle.digits.specs.Common.{if◌then◌else◌, pasted};
+ghost use Rattle.digits.specs.Common.{pasted};
+ghost use Rattle.std.specs.Prelude.{if◌then◌else◌};
 ghost use Rattle.digits.specs.Digits.{all_digits};
 ghost use Rattle.record.specs.Line.{size, judge_bytes, says};
 ghost use Rattle.reader.specs.declared.Values.TheVariants.{Nothing};

@@ -12,7 +12,7 @@ use lib.Seq.{take_at, get_or_at}
 use borrow.Author.Tests.{lt-ltb, le-ltb, eq-eqb, ne_eqb, eqb-true}
 use Rattle.checksum.specs.Checksum.{sum, negated_sum}
 use Rattle.checksum.proofs.Laws.{sum_snoc}
-use Rattle.digits.specs.Common.{if◌then◌else◌}
+use Rattle.std.specs.Prelude.{if◌then◌else◌}
 use Rattle.record.specs.Refusals.{checksum_mismatch, payload_length_mismatch, unsupported_record_type, invalid_length_for_type}
 use Rattle.record.specs.Line.{says, wrong, size, fits, judge_fields, judge_bytes, judge_digits, judge}
 use Rattle.record.specs.Format.{Size, type_00, type_01, type_02, type_03, type_04, type_05, layout}

@@ -10,7 +10,8 @@ use lib.Dec.{eqb}
 use lib.ListN.{length, take, drop, length-append}
 use Rattle.checksum.specs.Checksum.{negated_sum}
 use Rattle.checksum.proofs.Laws.{negated_small}
-use Rattle.digits.specs.Common.{if◌then◌else◌, Every, Byte}
+use Rattle.digits.specs.Common.{Every, Byte}
+use Rattle.std.specs.Prelude.{if◌then◌else◌}
 use Rattle.digits.specs.Digits.{number_after, big_endian}
 use Rattle.record.specs.Format.{Size, type_00, type_01, type_02, type_03, type_04, type_05, Format}
 use Rattle.record.specs.Meaning.{Meaning, data_at, end_of_file, extended_segment, start_segment, extended_linear, start_linear, meaning}

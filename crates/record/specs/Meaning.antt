@@ -1,7 +1,7 @@
 -- What a record means, as record.rs has it: the six records, each with its numbers, and data with its bytes.
 -- Assumes nothing.
 use Rattle.std.specs.Prelude.{ℕ, List, eqb, take, drop}
-use Rattle.digits.specs.Common.{if◌then◌else◌}
+use Rattle.std.specs.Prelude.{if◌then◌else◌}
 use Rattle.digits.specs.Digits.{big_endian}
 
 pub data Meaning : Type 0 where

@@ -11,7 +11,8 @@ use mathlib.Core.List.{List, [], ◌∷◌, ◌++◌, map, nil≢cons, tail-eq_o
 use lib.ListN.{length}
 use borrow.Author.Tests.{le-leb}
 use lib.Seq.{take-length}
-use Rattle.digits.specs.Common.{if◌then◌else◌, Every}
+use Rattle.digits.specs.Common.{Every}
+use Rattle.std.specs.Prelude.{if◌then◌else◌}
 use Rattle.record.specs.declared.Record.{Record}
 use Rattle.record.specs.declared.Record.TheVariants.{Data, EndOfFile, ExtendedSegmentAddress, StartSegmentAddress, ExtendedLinearAddress, StartLinearAddress}
 use Rattle.record.specs.Record.{meant, Inside}

@@ -2,7 +2,7 @@
 -- Assumes nothing.
 use Rattle.std.proofs.Common.{◌≡◌, ℕ, ◌+◌, ◌-◌, ◌*◌, ◌%◌, ◌≤◌, true, false, eqb, ◌≢◌, List, [], ◌∷◌, ◌++◌, length, get_or, take, drop, sym, refl, ap, ◌∙◌, arith, length-append, take-append-drop, length-take-le, take_at, drop_at, le-ltb, eq-eqb, ne_eqb}
 use lib.Seq.{get_or_at}
-use Rattle.digits.specs.Common.{if◌then◌else◌}
+use Rattle.std.specs.Prelude.{if◌then◌else◌}
 use Rattle.record.specs.Refusals.{missing_start_code, checksum_mismatch, payload_length_mismatch, unsupported_record_type, invalid_length_for_type}
 use Rattle.digits.specs.Digits.{all_digits, big_endian}
 use Rattle.record.specs.Line.{says, wrong, invalid}

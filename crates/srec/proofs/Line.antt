@@ -2,7 +2,7 @@
 -- it asks for their number and the type, the code after it, so an answer on these holds unless a character is not a digit.
 -- Assumes nothing.
 use Rattle.std.proofs.Common.{◌≡◌, ℕ, ◌-◌, ◌%◌, ◌<◌, ◌≤◌, true, false, ◌≢◌, List, [], ◌∷◌, length, get_or, drop, refl, ◌∙◌, arith, length-drop, le-ltb, lt-ltb, eq-eqb, ne_eqb}
-use Rattle.digits.specs.Common.{if◌then◌else◌}
+use Rattle.std.specs.Prelude.{if◌then◌else◌}
 use Rattle.digits.specs.Digits.{digit, is_digit, all_digits, bytes}
 use Rattle.digits.proofs.Tests.{and_false}
 use Rattle.record.specs.Refusals.{missing_start_code, record_too_short, record_too_long, record_not_even_length, unsupported_record_type}

@@ -2,7 +2,8 @@
 -- Assumes nothing.
 use Rattle.std.proofs.Common.{◌≡◌, ℕ, ◌+◌, ◌<◌, ◌≤◌, Bool, true, false, List, [], ◌∷◌, length, take, drop, sym, refl, ap, ◌∙◌, subst, arith, le-ltb, lt-ltb, ne_eqb, eqb-true, le-leb}
 use mathlib.Core.Option.{none}
-use Rattle.digits.specs.Common.{if◌then◌else◌, Every, Byte}
+use Rattle.digits.specs.Common.{Every, Byte}
+use Rattle.std.specs.Prelude.{if◌then◌else◌}
 use Rattle.digits.specs.Reading.{named}
 use Rattle.digits.proofs.Tests.{split}
 use Rattle.digits.proofs.Parts.{part_length, none_left, every_take, every_drop}

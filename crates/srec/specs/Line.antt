@@ -2,7 +2,7 @@
 -- Assumes nothing.
 use Rattle.std.specs.Prelude.{ℕ, ◌+◌, ◌-◌, ◌*◌, ◌%◌, List, [], ◌∷◌, length, take, drop, ◌==◌, nat_lt, slice_index, slice_index_or}
 use Rattle.checksum.specs.Checksum.{sum}
-use Rattle.digits.specs.Common.{if◌then◌else◌}
+use Rattle.std.specs.Prelude.{if◌then◌else◌}
 use Rattle.record.specs.Refusals.{missing_start_code, record_too_short, record_too_long, record_not_even_length, checksum_mismatch, payload_length_mismatch, unsupported_record_type, invalid_length_for_type}
 use Rattle.digits.specs.Digits.{digit, all_digits, leading, bytes, number_after, big_endian}
 use Rattle.record.specs.Line.{Said, says, wrong, invalid}

@@ -1,7 +1,7 @@
 -- The types of S-records by their digits: which are named, how many bytes their address has, and which of them hold data.
 -- Assumes nothing.
 use Rattle.std.specs.Prelude.{ℕ, Bool, false, ◌||◌, ◌==◌, nat_le, nat_lt}
-use Rattle.digits.specs.Common.{if◌then◌else◌}
+use Rattle.std.specs.Prelude.{if◌then◌else◌}
 
 -- S0, S1, S2, S3, S5, S7, S8, S9
 unfoldable pub is_named : (kind : ℕ) → Bool

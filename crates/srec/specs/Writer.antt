@@ -2,7 +2,7 @@
 -- Assumes nothing.
 use Rattle.std.specs.Prelude.{ℕ, ◌+◌, leb, List, length, nat_le, nat_lt}
 use Rattle.std.proofs.Math.Option.{Option, none, some}
-use Rattle.digits.specs.Common.{if◌then◌else◌}
+use Rattle.std.specs.Prelude.{if◌then◌else◌}
 use Rattle.record.specs.Refusals.{Refusal, invalid_length_for_type, payload_outside_pool, data_exceeds_maximum_length, output_full, address_too_wide}
 use Rattle.writer.specs.Told.{ToldWritten, wrote, refuses}
 use Rattle.writer.specs.Text.{Text, unless, Leaves}

@@ -1,7 +1,8 @@
 -- The line that the writer writes for a record: an S, its type's digit, then capitals, two to a byte, the checksum last.
 -- Assumes nothing.
 use Rattle.std.specs.Prelude.{◌≡◌, ℕ, ◌+◌, ◌-◌, ◌<◌, ◌≤◌, true, List, [], ◌∷◌, ◌++◌, length, drop, ◌==◌}
-use Rattle.digits.specs.Common.{if◌then◌else◌, Every, Byte}
+use Rattle.digits.specs.Common.{Every, Byte}
+use Rattle.std.specs.Prelude.{if◌then◌else◌}
 use Rattle.digits.specs.Spelling.{spelt}
 use Rattle.record.specs.Written.{four_bytes, InCapitalsAfter}
 use Rattle.srec.specs.Types.{is_named, width, fits}

@@ -1,7 +1,8 @@
 #![tactic(auto)]
 // Motorola S-records: one line to a record, and one record to a line.
 ghost use Rattle.std.specs.Prelude.{◌≡◌, ◌+◌, ◌-◌, ◌*◌, ◌/◌, ◌%◌, ◌<◌, ◌≤◌, true, length, take, drop, nat_lt};
-ghost use Rattle.digits.specs.Common.{if◌then◌else◌, pasted};
+ghost use Rattle.digits.specs.Common.{pasted};
+ghost use Rattle.std.specs.Prelude.{if◌then◌else◌};
 ghost use Rattle.digits.specs.Digits.{all_digits};
 ghost use Rattle.record.specs.Line.{says};
 ghost use Rattle.reader.specs.Helpers.{invalid_at};

@@ -4,7 +4,7 @@ use Rattle.std.proofs.Common.{◌≡◌, ℕ, suc, ◌+◌, Bool, true, false, e
 use mathlib.Core.Option.{Option, none, some}
 use mathlib.Core.List.{nil≢cons}
 use borrow.Author.Tests.{eqb-false}
-use Rattle.digits.specs.Common.{if◌then◌else◌}
+use Rattle.std.specs.Prelude.{if◌then◌else◌}
 use Rattle.record.specs.Refusals.{count_mismatch}
 use Rattle.record.specs.Line.{Said, says, wrong}
 use Rattle.srec.specs.Line.{judge}

@@ -1,7 +1,7 @@
 -- S-records as a source of steps: what each line does, and where the bytes of a data record lie. Document 02, wish 9.
 -- Assumes nothing.
 use Rattle.std.specs.Prelude.{ℕ, ◌+◌, ◌%◌, ◌^◌, List, [], ◌∷◌, map, ◌==◌, nat_le}
-use Rattle.digits.specs.Common.{if◌then◌else◌}
+use Rattle.std.specs.Prelude.{if◌then◌else◌}
 use Rattle.record.specs.Line.{Said, says, wrong}
 use Rattle.srec.specs.Line.{judge}
 use Rattle.steps.specs.Steps.{Placement, linear_address, Action, places, starts, counts, finishes, fails, Step, step}

@@ -12,7 +12,7 @@ use mathlib.Core.List.{List, [], ◌∷◌, ◌++◌, append_assoc, Memᴰ}
 use lib.Dec.{eqb}
 use lib.ListN.{length, length-append, take, drop}
 use lib.Seq.{take_at, drop_at}
-use Rattle.digits.specs.Common.{if◌then◌else◌}
+use Rattle.std.specs.Prelude.{if◌then◌else◌}
 use Rattle.reader.specs.Lines.{LF, lines, later, through}
 use Rattle.reader.proofs.Cutting.{Closed, nothing, closed, lines_closed, Head, through_head}
 use Rattle.steps.specs.Steps.{Action, places, starts, counts, finishes, fails}

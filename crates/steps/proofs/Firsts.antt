@@ -8,7 +8,8 @@ use mathlib.Core.Bool.{Bool, true, false, true≢false}
 use mathlib.Core.Option.{Option, none, some}
 use mathlib.Core.List.{List, [], ◌∷◌, ◌++◌, append_assoc, append-nil, nil≢cons, head-eq_of_cons-eq, tail-eq_of_cons-eq}
 use lib.ListN.{length}
-use Rattle.digits.specs.Common.{if◌then◌else◌, Every}
+use Rattle.digits.specs.Common.{Every}
+use Rattle.std.specs.Prelude.{if◌then◌else◌}
 use Rattle.steps.specs.Steps.{Placement, Step, Tally, Verdict, accepted, Decision, by, outside, stated}
 use Rattle.steps.specs.Account.{Account, AllPass, all_states, Decided}
 

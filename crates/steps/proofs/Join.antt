@@ -11,7 +11,8 @@ use mathlib.Core.Option.{Option, none, some}
 use mathlib.Core.List.{List, [], ◌∷◌, ◌++◌, map, append_assoc, head-eq_of_cons-eq, tail-eq_of_cons-eq, Memᴰ}
 use lib.Dec.{eqb}
 use lib.ListN.{length}
-use Rattle.digits.specs.Common.{if◌then◌else◌, or_else, Every}
+use Rattle.digits.specs.Common.{or_else, Every}
+use Rattle.std.specs.Prelude.{if◌then◌else◌}
 use Rattle.record.specs.Refusals.{outside_window, count_mismatch, start_conflict}
 use Rattle.record.proofs.Choices.{or_else_assoc}
 use Rattle.steps.specs.Steps.{Placement, Start, Action, places, starts, counts, finishes, fails, Step, step, Tally, one_more, started, Verdict, accepted, refused, by, outside, differ, Turn, on, stop, at_data, turn, onward, decision, verdict, stated}

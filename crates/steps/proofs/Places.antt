@@ -14,7 +14,8 @@ use mathlib.Core.List.{List, [], ◌∷◌, ◌++◌, Memᴰ}
 use lib.ListN.{length, get_or}
 use lib.Dec.{eqb}
 use borrow.Author.Tests.{eqb-true, eqb-false, eq-eqb}
-use Rattle.digits.specs.Common.{if◌then◌else◌, or_else}
+use Rattle.digits.specs.Common.{or_else}
+use Rattle.std.specs.Prelude.{if◌then◌else◌}
 use Rattle.record.proofs.Choices.{or_else_none, or_else_assoc, getD_or_else}
 use Rattle.steps.specs.Steps.{Placement}
 use Rattle.steps.specs.Sites.{last_at, mark, byte_shown, mark_shown, painted, marked, LastStated, OwedAt, Owed}

@@ -15,7 +15,8 @@ use lib.Dec.{eqb}
 use lib.ListN.{length, get_or, take, length-append, get_or-append}
 use lib.Seq.{take-append_seam, take-append-le, get_or-append_seam}
 use borrow.Author.Tests.{eqb-true, eqb-false}
-use Rattle.digits.specs.Common.{if◌then◌else◌, or_else}
+use Rattle.digits.specs.Common.{or_else}
+use Rattle.std.specs.Prelude.{if◌then◌else◌}
 use Rattle.steps.specs.Steps.{Placement}
 use Rattle.steps.specs.Sites.{last_at, mark}
 use Rattle.steps.specs.Runs.{spread}

@@ -11,7 +11,8 @@ use mathlib.Core.List.{List, [], ◌∷◌, ◌++◌, map}
 use lib.Dec.{eqb}
 use lib.ListN.{length, get_or, replicate}
 use borrow.Author.Tests.{eq-eqb, ne_eqb}
-use Rattle.digits.specs.Common.{if◌then◌else◌, or_else}
+use Rattle.digits.specs.Common.{or_else}
+use Rattle.std.specs.Prelude.{if◌then◌else◌}
 use Rattle.steps.specs.Steps.{Placement, outside}
 use Rattle.steps.specs.Sites.{last_at, mark, byte_shown, mark_shown, painted, marked}
 use Rattle.steps.specs.Runs.{run, as_mark, clear_at, cleared, MarksByOnes}

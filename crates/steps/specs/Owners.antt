@@ -3,7 +3,7 @@
 -- Assumes nothing.
 use Rattle.std.specs.Prelude.{◌≡◌, ◌≢◌, ◌⊎◌, ℕ, List, [], ◌∷◌, eqb, length, get_or}
 use Rattle.std.proofs.Math.Option.{Option, none}
-use Rattle.digits.specs.Common.{if◌then◌else◌}
+use Rattle.std.specs.Prelude.{if◌then◌else◌}
 use Rattle.steps.specs.Steps.{Step, Verdict}
 use Rattle.steps.specs.Sites.{Shown, Room, load_steps}
 

@@ -3,7 +3,8 @@
 -- Assumes nothing.
 use Rattle.std.specs.Prelude.{ℕ, suc, Bool, false, not, ◌&&◌, List, [], ◌∷◌, ◌++◌, eqb}
 use Rattle.std.proofs.Math.Option.{Option, none, some}
-use Rattle.digits.specs.Common.{if◌then◌else◌, or_else}
+use Rattle.digits.specs.Common.{or_else}
+use Rattle.std.specs.Prelude.{if◌then◌else◌}
 use Rattle.record.specs.Refusals.{Refusal, missing_end_of_file_record, outside_window, count_mismatch, start_conflict}
 
 -- ---- steps

@@ -10,7 +10,7 @@ use lib.Dec.{eqb}
 use borrow.Author.Tests.{eq-eqb}
 use Rattle.digits.proofs.Tests.{or_true}
 use lib.ListN.{length}
-use Rattle.digits.specs.Common.{if◌then◌else◌}
+use Rattle.std.specs.Prelude.{if◌then◌else◌}
 use Rattle.record.specs.Refusals.{Refusal, number_of, bad_window, bad_table}
 use Rattle.reader.specs.Lines.{lines}
 use Rattle.steps.specs.Steps.{nothing_yet, Verdict, accepted, refused, Decision, by, decision, verdict}

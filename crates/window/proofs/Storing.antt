@@ -12,7 +12,7 @@ use lib.ListN.{length, get_or, take, drop, replicate, length-replicate, get_or-r
 use lib.Seq.{ext_get_or, drop-drop, take-length, length-take-le, get_or-append-add, get_or-take, get_or-drop}
 use lib.Dec.{ltb}
 use borrow.Author.Tests.{lt-ltb, le-ltb, ltb-true}
-use Rattle.digits.specs.Common.{if◌then◌else◌}
+use Rattle.std.specs.Prelude.{if◌then◌else◌}
 use Rattle.digits.proofs.Tests.{both}
 use Rattle.marks.proofs.Below.{split}
 use Rattle.marks.specs.Marks.{mark_at, bits, marked_run}

@@ -12,7 +12,7 @@ use lib.Dec.{eqb}
 use lib.ListN.{length, get_or, drop, drop_of_length-le}
 use lib.Seq.{ext_get_or, drop-cons}
 use borrow.Author.Tests.{lt-ltb, le-ltb, eq-eqb, ne_eqb}
-use Rattle.digits.specs.Common.{if◌then◌else◌}
+use Rattle.std.specs.Prelude.{if◌then◌else◌}
 use Rattle.digits.proofs.Tests.{both, or_false}
 use Rattle.marks.specs.Marks.{mark_at, bits, cleared_run}
 use Rattle.marks.specs.Claims.{RunCleared}

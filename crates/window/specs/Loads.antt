@@ -4,7 +4,7 @@
 -- Assumes nothing.
 use Rattle.std.specs.Prelude.{◌≡◌, ◌↔◌, ℕ, ◌+◌, ◌^◌, ◌<◌, Bool, not, ◌||◌, List, eqb, ltb, length, get_or}
 use Rattle.std.proofs.Math.Option.{none, some}
-use Rattle.digits.specs.Common.{if◌then◌else◌}
+use Rattle.std.specs.Prelude.{if◌then◌else◌}
 use Rattle.record.specs.Refusals.{Refusal, bad_window}
 use Rattle.reader.specs.Lines.{through}
 use Rattle.marks.specs.Marks.{row_length, mark_at, Marked, flags, UnusedClear}

@@ -2,7 +2,7 @@
 -- Assumes nothing.
 use Rattle.std.specs.Prelude.{ℕ, ◌+◌, ◌^◌, Bool, not, ◌&&◌, ◌||◌, eqb, leb, ltb}
 use Rattle.std.proofs.Math.Option.{Option, none, some}
-use Rattle.digits.specs.Common.{if◌then◌else◌}
+use Rattle.std.specs.Prelude.{if◌then◌else◌}
 use Rattle.record.specs.Refusals.{bad_window}
 use Rattle.marks.specs.Marks.{row_length}
 use Rattle.steps.specs.Sites.{Room}

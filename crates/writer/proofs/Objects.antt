@@ -2,7 +2,8 @@
 -- Assumes nothing.
 use Rattle.std.proofs.Common.{◌≡◌, ℕ, ◌+◌, ◌≤◌, Bool, true, false, ltb, List, [], ◌∷◌, ◌++◌, length, sym, refl, ap, ◌∙◌, append_assoc, append-nil, arith, ltb-false}
 use mathlib.Core.Option.{Option, none, some}
-use Rattle.digits.specs.Common.{if◌then◌else◌, or_else, Every}
+use Rattle.digits.specs.Common.{or_else, Every}
+use Rattle.std.specs.Prelude.{if◌then◌else◌}
 use Rattle.record.specs.Refusals.{Refusal, missing_end_of_file_record, multiple_end_of_file_records}
 use Rattle.record.specs.declared.Record.{Record}
 use Rattle.digits.proofs.Tests.{branch}

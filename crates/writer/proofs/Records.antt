@@ -3,7 +3,8 @@
 -- Assumes nothing.
 use Rattle.std.proofs.Common.{◌≡◌, ℕ, ◌+◌, ◌-◌, ◌/◌, ◌%◌, ◌≤◌, Bool, true, false, leb, List, [], ◌∷◌, ◌++◌, length, take, drop, refl, ◌∙◌, ap₂, arith, leb-true}
 use mathlib.Core.Option.{none, some}
-use Rattle.digits.specs.Common.{if◌then◌else◌, pasted}
+use Rattle.digits.specs.Common.{pasted}
+use Rattle.std.specs.Prelude.{if◌then◌else◌}
 use Rattle.record.specs.Refusals.{Refusal}
 use Rattle.record.specs.declared.Record.{Record}
 use Rattle.record.specs.declared.Record.TheVariants.{Data}

@@ -1,7 +1,7 @@
 -- No second answer meets a contract: an answer is found again from what it tells.
 -- Assumes nothing.
 use Rattle.std.proofs.Common.{◌≡◌, ℕ, Bool, eqb, List, get_or, sym, refl, ap, ◌∙◌}
-use Rattle.digits.specs.Common.{if◌then◌else◌}
+use Rattle.std.specs.Prelude.{if◌then◌else◌}
 use Rattle.record.specs.Refusals.{Refusal, refusal}
 use Rattle.writer.specs.declared.WriterError.{WriterError}
 use Rattle.writer.specs.declared.WriterError.TheVariants.{DataExceedsMaximumLength, MissingEndOfFileRecord, MultipleEndOfFileRecords, PayloadOutsidePool, OutputFull}

@@ -2,7 +2,8 @@
 -- Assumes nothing.
 use Rattle.std.specs.Prelude.{ℕ, ◌+◌, Bool, false, List, [], ◌∷◌, ◌++◌, length, ◌==◌, nat_lt}
 use Rattle.std.proofs.Math.Option.{Option, none}
-use Rattle.digits.specs.Common.{if◌then◌else◌, or_else}
+use Rattle.digits.specs.Common.{or_else}
+use Rattle.std.specs.Prelude.{if◌then◌else◌}
 use Rattle.record.specs.Refusals.{Refusal, missing_end_of_file_record, multiple_end_of_file_records}
 use Rattle.record.specs.declared.Record.{Record}
 use Rattle.record.specs.Record.{type_of}

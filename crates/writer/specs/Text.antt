@@ -2,7 +2,8 @@
 -- Assumes nothing.
 use Rattle.std.specs.Prelude.{◌≡◌, ℕ, ◌+◌, List, length, nat_le}
 use Rattle.std.proofs.Math.Option.{Option, none, some}
-use Rattle.digits.specs.Common.{if◌then◌else◌, pasted}
+use Rattle.digits.specs.Common.{pasted}
+use Rattle.std.specs.Prelude.{if◌then◌else◌}
 use Rattle.record.specs.Refusals.{Refusal, output_full}
 use Rattle.writer.specs.declared.Written.{Written}
 use Rattle.writer.specs.Told.{ToldWritten, wrote, refuses, told_written}

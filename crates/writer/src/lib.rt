@@ -1,7 +1,8 @@
 #![tactic(auto)]
 // Intel HEX written: one record to a line, a list to an object's text, and the survey and the step that it is made of.
 ghost use Rattle.std.specs.Prelude.{◌≡◌, ◌+◌, ◌*◌, ◌/◌, ◌%◌, ◌<◌, ◌≤◌, [], ◌∷◌, length};
-ghost use Rattle.digits.specs.Common.{if◌then◌else◌, pasted};
+ghost use Rattle.digits.specs.Common.{pasted};
+ghost use Rattle.std.specs.Prelude.{if◌then◌else◌};
 ghost use Rattle.record.specs.Written.{written};
 ghost use Rattle.digits.specs.Spelling.{spelt};
 ghost use Rattle.writer.specs.Told.{told_written};

@@ -170,7 +170,7 @@ impl Counts {
         match &command {
             Some(words) => self.compare(replay::of_program(&|cases| run(words, cases), plan)),
             None => println!(
-                "-- passed over: the lent forms, and lights by replay: IHEX_REPLAY names no program; `rt check replay` builds it"
+                "-- passed over: the lent forms, and lights by replay: IHEX_REPLAY names no program; `tools/prove replay` builds it"
             ),
         }
         command.is_some()

@@ -2,7 +2,7 @@
 -- Assumes nothing.
 use mathlib.Core.Path.{ap, ◌∙◌}
 use mathlib.Core.Bool.{Bool}
-use Rattle.digits.specs.Common.{if◌then◌else◌}
+use Rattle.std.specs.Prelude.{if◌then◌else◌}
 use Rattle.codes.specs.Codes.{OK, BADTABLE}
 use borrow.Author.Rules.{rules}
 use Rattle.ihex.proofs.ihex_check_table.Statement.{statement}

@@ -5,4 +5,14 @@ use Rattle.ihexfollow.proofs.ask.Statement.{statement}
 use Rattle.ihexfollow.proofs.ask.Tie as tie
 
 pub ask_spec : {M : Type 1} → statement M
-ask_spec = tie.close (tie.spec (λ c κs. search rules) (λ c. search rules) (λ c κs. search rules) (λ c. search rules))
+ask_spec =
+    tie.close
+    (tie.spec
+    (λ c κs. search rules)
+    (λ c. search rules)
+    (λ c. search rules)
+    (λ c. search rules)
+    (λ c κs. search rules)
+    (λ c. search rules)
+    (λ c. search rules)
+    (λ c. search rules))

@@ -26,7 +26,7 @@ size-of-payload s = part_length (bytes_of s) 4 (s.args.m - 5) (omega (arith, s.r
 
 -- where the sum is 0 the checksum agrees, and the fields decide
 agreed : (c : tie.Else-sum-ne0)
-    →    whole c.before.before.before ≡ judge_fields (get_or (bytes_of c.before.before.before) 0 0) (word (bytes_of c.before.before.before) 1) (get_or (bytes_of c.before.before.before) 3 0) (payload-of c.before.before.before)
+    → whole c.before.before.before ≡ judge_fields (get_or (bytes_of c.before.before.before) 0 0) (word (bytes_of c.before.before.before) 1) (get_or (bytes_of c.before.before.before) 3 0) (payload-of c.before.before.before)
 agreed c =
     agrees (bytes_of c.before.before.before) c.args.m c.args.sum c.requires c.if-sum-ne0.false (c.shared_slice_known-1.given (c.args.m - 1)).fits
 

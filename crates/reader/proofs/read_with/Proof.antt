@@ -1,7 +1,6 @@
 -- `reader::read_with` meets its contract: refusals 1 to 5 by the tests, and what the decoded bytes say for the rest.
 -- Assumes nothing.
 use Rattle.std.proofs.Common.{◌≡◌, ℕ, suc, ◌+◌, ◌-◌, ◌/◌, ◌%◌, true, List, length, take, drop, sym, ap, ◌∙◌, arith, length-drop, rules}
-use borrow.Author.Tests.{not-true, not-false}
 use Rattle.checksum.specs.Checksum.{sum}
 use Rattle.digits.specs.Digits.{leading, all_digits, bytes}
 use Rattle.reader.specs.declared.ReaderError.TheVariants.{MissingStartCode, RecordTooShort, RecordTooLong, RecordNotEvenLength, ContainsInvalidCharacters}
@@ -25,7 +24,7 @@ said s = judge (line_of s)
 
 -- what was decoded: the characters after the colon, all of them
 decoded : (c : tie.After-decode-scan)
-    →    Decoded (drop 1 (line_of c.before.before.before.before.before.before.before.before.before.before.before.before)) c.args.buf.now c.decode-scan.result.whole c.decode-scan.result.sum c.decode-scan.new.buf
+    → Decoded (drop 1 (line_of c.before.before.before.before.before.before.before.before.before.before.before.before)) c.args.buf.now c.decode-scan.result.whole c.decode-scan.result.sum c.decode-scan.new.buf
 decoded c =
     let l = line_of c.before.before.before.before.before.before.before.before.before.before.before.before in
     let room : ℕ = length c.args.buf.now in

@@ -1,6 +1,6 @@
 -- `writer::create_object_file_representation` meets its contract: the list is surveyed, and then written record by record from where the survey says.
 -- Assumes nothing.
-use Rattle.std.proofs.Common.{◌+◌, ◌^◌, ◌<◌, ◌≤◌, length, take, get_or, arith, rules}
+use Rattle.std.proofs.Common.{◌^◌, ◌<◌, length, get_or, arith, rules}
 use Rattle.record.specs.declared.Record.TheVariants.{Data}
 use Rattle.writer.specs.Claims.{Steps, no_step, then_step}
 use Rattle.writer.proofs.Stepping.{object_written}

@@ -1,6 +1,6 @@
 -- `writer::survey_list` meets its contract: one record more at each turn, and at the end all.
 -- Assumes nothing.
-use Rattle.std.proofs.Common.{◌+◌, ◌<◌, ◌≤◌, arith}
+use Rattle.std.proofs.Common.{arith}
 use Rattle.record.specs.declared.Record.TheVariants.{Data}
 use Rattle.writer.specs.Claims.{Surveys, at_first, then_add}
 use Rattle.writer.proofs.Taking.{taken_more, taken_all}

@@ -10,7 +10,7 @@ use Rattle.reader.proofs.State.next.Tie as tie
 
 -- where the line lies that was found
 spotted : (c : tie.In-At)
-    →    Ahead c.args.text.now c.args.self.position c.in-At.from c.in-At.len c.in-At.next c.in-At.empties
+    → Ahead c.args.text.now c.args.self.position c.in-At.from c.in-At.len c.in-At.next c.in-At.empties
 spotted c =
     subst (λ (x : Spot). Spotted c.args.text.now c.args.self.position x) c.in-At.is c.find_line.ensures
 

@@ -1,7 +1,7 @@
 -- `writer::Survey::answer` meets its contract: the tests of the definition, in its order.
 -- Assumes nothing.
 use Rattle.std.proofs.Common.{arith, rules, le-ltb, lt-ltb, le-leb}
-use borrow.Author.Tests.{not-true, not-false, lt-leb}
+use borrow.Author.Tests.{lt-leb}
 use Rattle.writer.proofs.Survey.answer.Statement.{statement}
 use Rattle.writer.proofs.Survey.answer.Tie as tie
 
