@@ -1,7 +1,7 @@
 -- A line is judged as the line that what is kept of it stands for, by every judge that asks of a longer line only for its first 521 bytes, whether all
 -- after the first are digits, and how many of them lead; a zero in the place of a digit changes none of it, nor does any byte after one that is not a digit.
 -- Assumes nothing.
-use Rattle.std.proofs.Common.{◌≡◌, ℕ, zero, suc, ◌+◌, ◌-◌, ◌<◌, ◌≤◌, Bool, true, false, ◌&&◌, eqb, ltb, List, [], ◌∷◌, ◌++◌, length, get_or, take, drop, replicate, sym, refl, ap, ◌∙◌, ap₂, append_assoc, append-nil, arith, length-append, take-append-drop, drop_of_length-le, length-take-le, take_at, drop_at, ltb-false, ltb-true, le-ltb, lt-ltb}
+use Rattle.std.proofs.Common.{◌≡◌, ℕ, zero, suc, ◌+◌, ◌<◌, ◌≤◌, Bool, true, false, ◌&&◌, eqb, ltb, List, [], ◌∷◌, ◌++◌, length, get_or, take, drop, replicate, sym, refl, ap, ◌∙◌, ap₂, append_assoc, append-nil, arith, length-append, take-append-drop, drop_of_length-le, length-take-le, take_at, drop_at, ltb-false, ltb-true, le-ltb, lt-ltb}
 use mathlib.Core.List.{foldl}
 use lib.ListN.{length-replicate}
 use lib.Seq.{split_at, get_or_at}

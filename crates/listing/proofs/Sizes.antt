@@ -6,12 +6,11 @@ use mathlib.Core.Logic.{◌≢◌, ◌⊎◌, inl, inr, ⊎_elim}
 use mathlib.Core.List.{List, [], ◌∷◌, ◌++◌}
 use native.Mathlib.Omega.{arith}
 use lib.ListN.{length, length-append}
-use Rattle.digits.specs.Common.{text}
 use Rattle.record.specs.Line.{Said, judge}
 use Rattle.digits.proofs.Tests.{branch}
 use Rattle.record.proofs.Standing.{stands}
 use Rattle.reader.specs.declared.ReaderOptions.{ReaderOptions}
-use Rattle.reader.specs.Lines.{rest, lines, Ended, with_CRLF, with_LF, with_text, Cut, Joins, nothing, more}
+use Rattle.reader.specs.Lines.{lines, Ended, with_CRLF, with_LF, with_text, Cut, Joins, nothing, more}
 use Rattle.reader.specs.Row.{Numbered, on, sayings, stops, through_stop, row}
 use Rattle.reader.proofs.Texts.{lines_join, sayings_few}
 use Rattle.listing.specs.Listing.{entry, ended, entries, listing_options, answers}

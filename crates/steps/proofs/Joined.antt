@@ -24,7 +24,7 @@ use Rattle.steps.proofs.Places.{marked_at, painted_append, painted_none, last_ap
 use Rattle.steps.proofs.Sites.{load_answer, accepted_load, accepted_by}
 use Rattle.steps.proofs.Firsts.{every_at}
 use Rattle.steps.proofs.Cut.{ends_there, not_there, as_closed, before_end_made_so, before_end_only_so, lines_ahead_counts}
-use Rattle.steps.proofs.Join.{no_end_lines, Handed, handed, no_acceptance, Meets, one_line_meets, Fate, alike, conflict, after_tally, stated_anywhere, steps_append, state_append, none_append}
+use Rattle.steps.proofs.Join.{no_end_lines, Handed, handed, no_acceptance, one_line_meets, Fate, alike, conflict, after_tally, stated_anywhere, steps_append, state_append, none_append}
 
 -- ---- an accepted text has an end
 

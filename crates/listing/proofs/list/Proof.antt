@@ -5,7 +5,7 @@ use mathlib.Core.Path.{sym, ◌∙◌}
 use mathlib.Core.List.{◌++◌}
 use native.Mathlib.Omega.{arith}
 use lib.ListN.{length, length-append}
-use borrow.Author.Tests.{leb-true, leb-false, not-true, not-false}
+use borrow.Author.Tests.{leb-true, leb-false}
 use Rattle.digits.specs.Common.{text}
 use Rattle.listing.specs.Listing.{ended, heading, count_line, entries, answers}
 use Rattle.listing.proofs.Putting.{put_then}

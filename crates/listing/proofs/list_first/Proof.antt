@@ -3,7 +3,7 @@
 use mathlib.Core.Path.{sym, ◌∙◌}
 use native.Mathlib.Omega.{arith}
 use lib.ListN.{length}
-use borrow.Author.Tests.{leb-true, not-true, not-false}
+use borrow.Author.Tests.{leb-true}
 use Rattle.listing.specs.Listing.{heading}
 use Rattle.listing.specs.Listed.{line_room}
 use Rattle.listing.proofs.Whole.{writes_none, writes_put}

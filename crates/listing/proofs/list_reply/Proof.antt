@@ -2,7 +2,6 @@
 -- Assumes nothing.
 use mathlib.Core.Path.{sym, ◌∙◌}
 use lib.ListN.{length}
-use borrow.Author.Tests.{not-true, not-false}
 use Rattle.listing.specs.Listing.{shown}
 use Rattle.listing.specs.Listed.{reply_room}
 use Rattle.listing.proofs.Lines.{reply_fits}

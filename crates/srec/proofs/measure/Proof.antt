@@ -1,7 +1,6 @@
 -- `srec::measure` meets its contract: a law of `proofs/Measuring.antt` for each answer.
 -- Assumes nothing.
 use Rattle.std.proofs.Common.{ℕ, ltb, sym, ap, ◌∙◌, arith, rules}
-use borrow.Author.Tests.{not-true, not-false}
 use Rattle.writer.specs.Told.{wrote}
 use Rattle.srec.specs.Types.{width, fits}
 use Rattle.srec.specs.Written.{beyond}

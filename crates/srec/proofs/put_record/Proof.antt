@@ -1,6 +1,6 @@
 -- `srec::put_record` meets its contract: the record's data is a part of the pool.
 -- Assumes nothing.
-use Rattle.std.proofs.Common.{◌≡◌, ℕ, ◌-◌, List, length, ◌∙◌, ap₂, arith, rules}
+use Rattle.std.proofs.Common.{◌≡◌, ℕ, List, length, ◌∙◌, ap₂, arith, rules}
 use Rattle.digits.specs.Common.{pasted}
 use Rattle.digits.proofs.Parts.{part_is, part_length}
 use Rattle.srec.specs.Written.{written}

@@ -1,7 +1,6 @@
 -- `srec::read_typed` meets its contract: refusals 2 to 5 by the tests, and what the decoded bytes say for the rest.
 -- Assumes nothing.
 use Rattle.std.proofs.Common.{◌≡◌, ℕ, suc, ◌+◌, ◌-◌, ◌/◌, ◌%◌, true, List, length, take, drop, sym, ap, ◌∙◌, arith, length-drop, rules}
-use borrow.Author.Tests.{not-true, not-false}
 use Rattle.checksum.specs.Checksum.{sum}
 use Rattle.digits.specs.Digits.{leading, all_digits, bytes}
 use Rattle.digits.specs.Reading.{pairs, Decoded, named}

@@ -1,7 +1,6 @@
 -- `srec::read_with` meets its contract: refusals 1, 3 and 8 by the tests of the S and of the type.
 -- Assumes nothing.
 use Rattle.std.proofs.Common.{ℕ, List, drop, sym, ◌∙◌, arith, rules}
-use borrow.Author.Tests.{not-true, not-false}
 use Rattle.digits.specs.Digits.{all_digits}
 use Rattle.record.specs.Line.{Said}
 use Rattle.reader.specs.declared.ReaderError.TheVariants.{MissingStartCode, RecordTooShort, UnsupportedRecordType}
