@@ -12,7 +12,7 @@ use lib.ListN.{length, replicate}
 use borrow.Author.Tests.{eq-eqb, ne_eqb, eqb-true, eqb-false}
 use Rattle.std.specs.Prelude.{if◌then◌else◌}
 use Rattle.record.specs.Refusals.{bad_window}
-use Rattle.marks.specs.Marks.{row_length, flags, packed}
+use Rattle.marks.specs.Marks.{row_length, flags}
 use Rattle.marks.proofs.Rows.{flags_length}
 use Rattle.marks.proofs.Claims.{row_unpacks}
 use Rattle.steps.specs.Steps.{Placement, Tally, Verdict, accepted, refused, verdict, stated}

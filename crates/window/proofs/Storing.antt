@@ -9,7 +9,7 @@ use mathlib.Core.Option
 use mathlib.Core.Option.{Option, none, some}
 use mathlib.Core.List.{List, ◌++◌, append-nil}
 use lib.ListN.{length, get_or, take, drop, replicate, length-replicate, get_or-replicate, get_or-eq_default, get_or-append, length-append, length-drop, drop_of_length-le}
-use lib.Seq.{ext_get_or, drop-drop, take-length, length-take-le, get_or-append-add, get_or-take, get_or-drop}
+use lib.Seq.{ext_get_or, drop-drop, length-take-le, get_or-append-add, get_or-take, get_or-drop}
 use lib.Dec.{ltb}
 use borrow.Author.Tests.{lt-ltb, le-ltb, ltb-true}
 use Rattle.std.specs.Prelude.{if◌then◌else◌}

@@ -2,7 +2,6 @@
 -- Assumes nothing.
 use mathlib.Core.Path.{sym, ◌∙◌}
 use borrow.Author.Rules.{rules}
-use borrow.Author.Tests.{not-true, not-false}
 use Rattle.window.proofs.TableTests.{of_nobody, beyond_last, by_pool}
 use Rattle.window.proofs.is_good.Statement.{statement}
 use Rattle.window.proofs.is_good.Tie as tie

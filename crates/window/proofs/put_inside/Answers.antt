@@ -15,9 +15,9 @@ returns-then-from-start c =
     let a = c.args in
     put_none a.first a.address a.bytes.now a.page.now a.marks.now
     (elim c.then-from-start.branch [
-      then-from-start-via-then-from-start w ↦ inl w.if-from-start.true
+      | then-from-start-via-then-from-start w ↦ inl w.if-from-start.true
       | then-from-start-via-else-from-start+then-is_beyond w ↦
-            inr (omega (arith, w.if-from-start.false, ltb-true (length a.page.now) (a.address - a.first + length a.bytes.now) (sym w.is_beyond.ensures ∙ w.if-is_beyond.true)))
+          inr (omega (arith, w.if-from-start.false, ltb-true (length a.page.now) (a.address - a.first + length a.bytes.now) (sym w.is_beyond.ensures ∙ w.if-is_beyond.true)))
     ])
 
 pub copy_to-requires : goal.copy_to-requires

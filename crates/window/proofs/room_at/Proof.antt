@@ -5,7 +5,7 @@ use Prim.Native.Nat.{◌-◌, ◌≤◌, ◌<◌}
 use native.Mathlib.Omega.{arith}
 use borrow.Author.Rules.{rules}
 use lib.ListN.{length}
-use Rattle.window.specs.Table.{rows_in, takes}
+use Rattle.window.specs.Table.{rows_in}
 use Rattle.window.proofs.Words.{rows_length}
 use Rattle.window.proofs.Finding.{Decided, passed_on, held_so, room_found, room_none}
 use Rattle.window.proofs.room_at.Statement.{statement}
