@@ -17,7 +17,7 @@ import sys
 NAME = r'[^\s(){}.;,@"«»`|]+'
 MARKS = r"(?:(?:pattern|unfoldable|abbrev|pub|record|data|inductive|opaque) +)*"
 TOP = re.compile(rf"(?m)^{MARKS}({NAME})(?: [({{][^\n]*?)? :(?= |$)")
-FIELD = re.compile(rf"(?m)^ +(?:pub +)?({NAME}) :(?= |$)")
+FIELD = re.compile(rf"(?m)^ +{MARKS}({NAME})(?: [({{][^\n]*?)? :(?= |$)")
 WORD = re.compile(NAME)
 USE = re.compile(r"\buse (Rattle\.(\w+)\.[^\s;{]+|[a-z]\w*\.[^\s;{]+|Prim\.[^\s;{]+)\.?(?:\{([^}]*)\})?(?: as (\S+))?")
 # What two names that would fall together are called instead.
@@ -55,7 +55,8 @@ def antt_files():
 
 
 def by_hand(path):
-    return path.endswith("/Proof.antt")
+    """Whether a file proves one function: the names of its goals are Rattle's."""
+    return re.search(r"/proofs/.+/(Proof|Answers|Invariants)\.antt$", path) is not None
 
 
 def declared():
@@ -66,7 +67,7 @@ def declared():
             m = TOP.match(line) or (not by_hand(path) and FIELD.match(line))
             if not m or re.match(r"\s*(let|use|where|unfolding|--)\b", line):
                 continue
-            if by_hand(path) and re.search(r": tie\.", line):
+            if by_hand(path) and re.search(r": (tie|goal)\.", line):
                 continue
             names.add(m.group(1))
     return names
@@ -85,7 +86,7 @@ def imported(text, crates):
 
 def goals(text):
     """The names of goals that a proof by hand gives itself."""
-    return set(re.findall(rf"(?m)^(?:abbrev )?({NAME}) : tie\.", text))
+    return set(re.findall(rf"(?m)^(?:abbrev |pub )*({NAME}) : (?:tie|goal)\.", text))
 
 
 def turn_words(text, table, keep):
@@ -95,7 +96,7 @@ def turn_words(text, table, keep):
         if m.group(0).startswith('"'):
             return m.group(0)
         word = m.group(0)
-        if word in keep or text[: m.start()].endswith("tie."):
+        if word in keep or text[: m.start()].endswith(("tie.", "goal.")):
             return word
         return table.get(word, word)
 

@@ -34,7 +34,7 @@ use Rattle.chunks.proofs.Brief.{judge_brief}
 use Rattle.chunks.proofs.Reading.{next_reads, finish_reads}
 use Rattle.chunks.proofs.Pieces.{pieces, pieces_lines}
 use Rattle.chunks.proofs.Rows.{from_place, unseen, rows_met}
-use Rattle.chunks.proofs.Kept.{kept_rows, showing_replies, said_numbered, lines_stand, shows_right, Shown-right}
+use Rattle.chunks.proofs.Kept.{kept_rows, showing_replies, said_numbered, lines_stand, shows_right, ShownRight}
 use Rattle.chunks.proofs.Stops.{alike_rows, behind_stop}
 
 pub examples : Examples
@@ -91,12 +91,12 @@ same_row options carry chunks calls seen givens few big fed c =
     ap givens_of (any_cuts options carry chunks calls seen big fed) ∙ row_replies options (joined chunks) calls few ∙ sym (rows options (joined chunks) few calls givens c)
 
 pub row_shows : (options : ReaderOptions) (text : List ℕ) (calls : List Call) → length text < 2 ^ 64
-    → Every (Shown-right options text) (showing options 0 (numbered 1 (lines text)) calls)
+    → Every (ShownRight options text) (showing options 0 (numbered 1 (lines text)) calls)
 row_shows options text calls few = shows_right options text calls 0 (numbered 1 (lines text)) (lines_stand options text (omega (arith, (lines_few text).0)))
 
 pub shows_the_line : ShowsTheLine
 shows_the_line options carry chunks calls seen few big fed =
-    subst (Every (Shown-right options (joined chunks))) (sym (any_cuts options carry chunks calls seen big fed)) (row_shows options (joined chunks) calls few)
+    subst (Every (ShownRight options (joined chunks))) (sym (any_cuts options carry chunks calls seen big fed)) (row_shows options (joined chunks) calls few)
 
 pub shown_there : ShownThere
 shown_there Nowhere chunk carry line x = x.holds

@@ -68,12 +68,12 @@ module _ (s : Chunks) (chunk : List ℕ) where
   begins_later (after_LF {i} h l) b = (i, h, l, refl)
 
   -- its LF stands in what is left
-  pub record LF-left (e : ℕ) : Type 0 where
+  pub record LFLeft (e : ℕ) : Type 0 where
     pub left : s.position ≤ e
     pub inside : e < length chunk
     pub feed : get_or chunk e 0 ≡ LF
 
-  pub line_LF : {carry : List ℕ} {e : ℕ} {line : List ℕ} {lies : Place} → LineEnding s chunk carry e line lies → LF-left e
+  pub line_LF : {carry : List ℕ} {e : ℕ} {line : List ℕ} {lies : Place} → LineEnding s chunk carry e line lies → LFLeft e
   line_LF (new_line {from} b x h) =
       let f = (ending chunk from false x).feed_at in
       record { left = omega (arith, from_after (begins_from b), f.after); inside = f.inside; feed = f.feed }
@@ -121,17 +121,17 @@ module _ (s : Chunks) (chunk carry : List ℕ) where
   text = drop s.position chunk
 
   -- a line that begins at a place, or directly after an LF from there on
-  record As-own (p e : ℕ) (line : List ℕ) (lies : Place) : Type 0 where
+  record AsOwn (p e : ℕ) (line : List ℕ) (lies : Place) : Type 0 where
     from : ℕ
     own : Own chunk p e from line
     lies_is : lies ≡ InChunk from (length line)
 
   -- all lines that end there are such, and the other way round
-  record All-own (p : ℕ) : Type 0 where
-    to_own : (e : ℕ) (line : List ℕ) (lies : Place) → LineEnding s chunk carry e line lies → As-own p e line lies
+  record AllOwn (p : ℕ) : Type 0 where
+    to_own : (e : ℕ) (line : List ℕ) (lies : Place) → LineEnding s chunk carry e line lies → AsOwn p e line lies
     of_own : (e from : ℕ) (line : List ℕ) → Own chunk p e from line → LineEnding s chunk carry e line (InChunk from (length line))
 
-  by_own : (p n : ℕ) → All-own p → Looked s chunk carry (seek_at chunk p n)
+  by_own : (p n : ℕ) → AllOwn p → Looked s chunk carry (seek_at chunk p n)
   unfolding stands_for place
   by_own p n a = go (search_from chunk p n)
     where
@@ -151,10 +151,10 @@ module _ (s : Chunks) (chunk carry : List ℕ) where
           there from n h = let is : length chunk - length (drop from chunk) ≡ from = omega (arith, length-drop from chunk) in rw is
 
   -- with nothing begun
-  all_fresh : s.used ≡ 0 → s.cr ≡ false → All-own s.position
+  all_fresh : s.used ≡ 0 → s.cr ≡ false → AllOwn s.position
   all_fresh u c = record { to_own = λ e line lies l. to l; of_own = λ e from line o. new_line (of o.begins) o.ends o.some_byte }
     where
-      to : {e : ℕ} {line : List ℕ} {lies : Place} → LineEnding s chunk carry e line lies → As-own s.position e line lies
+      to : {e : ℕ} {line : List ℕ} {lies : Place} → LineEnding s chunk carry e line lies → AsOwn s.position e line lies
       to (new_line {from} b x h) = record { from = from; own = record { begins = begins_from s chunk b; ends = x; some_byte = h }; lies_is = refl }
       to (older_line b x) = absurd (not_begun s chunk b u c)
 
@@ -211,7 +211,7 @@ module _ (s : Chunks) (chunk carry : List ℕ) where
 
     -- an empty line: only its CR was begun
     module _ (u : s.used ≡ 0) (c : s.cr ≡ true) (z : more ≡ []) where
-      all_after : All-own (suc f.e)
+      all_after : AllOwn (suc f.e)
       all_after = record { to_own = λ e line lies l. to l; of_own = λ e from line o. new_line (of o.begins) o.ends o.some_byte }
         where
           begins : {from : ℕ} → BeginsAt s chunk from → From chunk (suc f.e) from
@@ -222,7 +222,7 @@ module _ (s : Chunks) (chunk carry : List ℕ) where
           empty (by_used g) x = omega arith
           empty (by_CR d g) x = g ((ending chunk s.position s.cr x).line_is ∙ z)
 
-          to : {e : ℕ} {line : List ℕ} {lies : Place} → LineEnding s chunk carry e line lies → As-own (suc f.e) e line lies
+          to : {e : ℕ} {line : List ℕ} {lies : Place} → LineEnding s chunk carry e line lies → AsOwn (suc f.e) e line lies
           to (new_line {from} b x g) = record { from = from; own = record { begins = begins b; ends = x; some_byte = g }; lies_is = refl }
           to (older_line b x) = absurd (empty b x)
 

@@ -61,23 +61,23 @@ moved_over m good true false false place place' g s e = ap (λ (p : ℕ). wrong 
 moved_over m good false t t' place place' g s e = refl
 
 module _ (front : List ℕ) (h : length front ≡ 520) (y m : ℕ) where
-  abbrev bytes-row : List ℕ
-  bytes-row = front ++ (y ∷ [])
+  abbrev bytes_row : List ℕ
+  bytes_row = front ++ (y ∷ [])
 
   abbrev line_row : List ℕ
   line_row = front ++ (replicate m 48 ++ (y ∷ []))
 
-  same_all : all_digits bytes-row ≡ all_digits line_row
+  same_all : all_digits bytes_row ≡ all_digits line_row
   same_all = digits_append front (y ∷ []) ∙ ap (λ (t : Bool). all_digits front && t) (sym (all_behind m (y ∷ []))) ∙ sym (digits_append front (replicate m 48 ++ (y ∷ [])))
 
-  moved_row : all_digits bytes-row ≡ false → place_in_line m (named (suc (leading bytes-row))) ≡ named (suc (leading line_row))
+  moved_row : all_digits bytes_row ≡ false → place_in_line m (named (suc (leading bytes_row))) ≡ named (suc (leading line_row))
   moved_row bad = go (all_digits front) refl
     where
-      go : (t : Bool) → all_digits front ≡ t → place_in_line m (named (suc (leading bytes-row))) ≡ named (suc (leading line_row))
+      go : (t : Bool) → all_digits front ≡ t → place_in_line m (named (suc (leading bytes_row))) ≡ named (suc (leading line_row))
       go true e =
           let b : all_digits (y ∷ []) ≡ false = sym (ap (λ (t : Bool). t && all_digits (y ∷ [])) e) ∙ sym (digits_append front (y ∷ [])) ∙ bad in
           let l = (leads (y ∷ []) b).inside in
-          let last : named (suc (leading bytes-row)) ≡ 521 = omega (arith, leading_on front (y ∷ []) e) in
+          let last : named (suc (leading bytes_row)) ≡ 521 = omega (arith, leading_on front (y ∷ []) e) in
           let there : named (521 + m) ≡ named (suc (leading line_row)) = omega (arith, leading_on front (replicate m 48 ++ (y ∷ [])) e, leading_behind m (y ∷ [])) in
           rw last there
       go false e =
@@ -106,7 +106,7 @@ module _ (J : List ℕ → Said) (by : NamesPlaces J) where
   full_said : (x : ℕ) (front : List ℕ) (h : length front ≡ 520) (y m : ℕ) → said_in_line m (J ((x ∷ front) ++ (y ∷ []))) ≡ J (stands_for (full x front h y m))
   full_said x front h y m =
       ap (said_in_line m) (by.judges.over x front (y ∷ []) h (omega arith))
-      ∙ moved_over m (by.judges.long front) (eqb x by.judges.start) (all_digits (bytes-row front h y m)) (all_digits (line_row front h y m)) _ _ (by.stays m front) (same_all front h y m) (moved_row front h y m)
+      ∙ moved_over m (by.judges.long front) (eqb x by.judges.start) (all_digits (bytes_row front h y m)) (all_digits (line_row front h y m)) _ _ (by.stays m front) (same_all front h y m) (moved_row front h y m)
       ∙ sym (ap J (full_stands x front h y m) ∙ by.judges.over x front (replicate m 48 ++ (y ∷ [])) h (omega (arith, length-append (replicate m 48) (y ∷ []))))
 
   pub said_kept : (k : Kept) → length k.bytes ≤ 522 → said_in_line k.skipped (J k.bytes) ≡ J (stands_for k)

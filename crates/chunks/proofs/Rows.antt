@@ -109,22 +109,22 @@ module _ (options : ReaderOptions) where
 
   -- ---- the row, one call more
 
-  abbrev pub answer-to : List ℕ → Call → Told
-  answer-to line call = answered (judge line) (length call.pool) call.at
+  abbrev pub answer_to : List ℕ → Call → Told
+  answer_to line call = answered (judge line) (length call.pool) call.at
 
   pub show_none : (last : ℕ) (call : Call) (calls : List Call) → Row last [] (call ∷ calls) ≡ record { given = given_done last call; shown = [] } ∷ Row last [] calls
   unfolding showing
   show_none last call calls = refl
 
-  pub show_full : (last n : ℕ) (line : List ℕ) (left : List Nth) (call : Call) (calls : List Call) → is_full (answer-to line call) ≡ true
-      → Row last (nth n line ∷ left) (call ∷ calls) ≡ record { given = record { told = answer-to line call; pool = call.pool; line = last }; shown = [] } ∷ Row last (nth n line ∷ left) calls
+  pub show_full : (last n : ℕ) (line : List ℕ) (left : List Nth) (call : Call) (calls : List Call) → is_full (answer_to line call) ≡ true
+      → Row last (nth n line ∷ left) (call ∷ calls) ≡ record { given = record { told = answer_to line call; pool = call.pool; line = last }; shown = [] } ∷ Row last (nth n line ∷ left) calls
   unfolding showing
-  show_full last n line left call calls e = if_true (is_full (answer-to line call)) _ _ e
+  show_full last n line left call calls e = if_true (is_full (answer_to line call)) _ _ e
 
-  pub show_line : (last n : ℕ) (line : List ℕ) (left : List Nth) (call : Call) (calls : List Call) → is_full (answer-to line call) ≡ false
-      → Row last (nth n line ∷ left) (call ∷ calls) ≡ seen_for (nth n line) call ∷ Row n (if ends_row options (answer-to line call) then [] else left) calls
+  pub show_line : (last n : ℕ) (line : List ℕ) (left : List Nth) (call : Call) (calls : List Call) → is_full (answer_to line call) ≡ false
+      → Row last (nth n line ∷ left) (call ∷ calls) ≡ seen_for (nth n line) call ∷ Row n (if ends_row options (answer_to line call) then [] else left) calls
   unfolding showing
-  show_line last n line left call calls e = if_false (is_full (answer-to line call)) _ _ e
+  show_line last n line left call calls e = if_false (is_full (answer_to line call)) _ _ e
 
   -- ---- what a call comes to, by its outcome
 
@@ -152,10 +152,10 @@ module _ (options : ReaderOptions) where
         (g : Good options s carry) (l : length carry' ≡ length carry)
         (have : unseen s carry here ≡ nth (number_behind s n) (stands_for kept) ∷ left)
         (again : take (length used) carry' ≡ used → unseen s carry' here ≡ unseen s carry here)
-        (behind : unseen (past_line s position (number_behind s n) (last || ends_row s.options (answer-to (stands_for kept) call))) carry' here
-        ≡ (if ends_row s.options (answer-to (stands_for kept) call) then [] else left)) where
+        (behind : unseen (past_line s position (number_behind s n) (last || ends_row s.options (answer_to (stands_for kept) call))) carry' here
+        ≡ (if ends_row s.options (answer_to (stands_for kept) call) then [] else left)) where
       abbrev t : Told
-      t = answer-to (stands_for kept) call
+      t = answer_to (stands_for kept) call
 
       asked : Row s.line (unseen s carry here) (call ∷ calls) ≡ Row s.line (nth (number_behind s n) (stands_for kept) ∷ left) (call ∷ calls)
       asked = ap (λ (x : List Nth). Row s.line x (call ∷ calls)) have
@@ -201,14 +201,14 @@ module _ (options : ReaderOptions) where
     abbrev text₀ : List ℕ
     text₀ = drop s.position chunk
 
-    abbrev Next-goes-on : Outcome → Type 0
-    Next-goes-on o = take (length o.carried) carry' ≡ o.carried → GoesOn s carry (chunk ∷ chunks) chunks call calls carry' o
+    abbrev NextGoesOn : Outcome → Type 0
+    NextGoesOn o = take (length o.carried) carry' ≡ o.carried → GoesOn s carry (chunk ∷ chunks) chunks call calls carry' o
 
     unseen_found : s.finished ≡ false → (f : Sought) → look s.empties b₀ text₀ ≡ f → unseen s carry (chunk ∷ chunks) ≡ found s.line f (joined chunks)
     unfolding from_place joined
     unseen_found d f e = unseen_on s carry (chunk ∷ chunks) d ∙ pieces_look s.line s.empties b₀ text₀ (joined chunks) ∙ ap (λ (x : Sought). found s.line x (joined chunks)) e
 
-    next_ended : s.finished ≡ true → Next-goes-on (unchanged (tells done) s carry call.pool)
+    next_ended : s.finished ≡ true → NextGoesOn (unchanged (tells done) s carry call.pool)
     unfolding unchanged
     next_ended d m =
         record {
@@ -230,7 +230,7 @@ module _ (options : ReaderOptions) where
         none_dropped [] = refl
         none_dropped (c ∷ cs) = refl
 
-    next_found : s.finished ≡ false → (f : Sought) → look s.empties b₀ text₀ ≡ f → Fine f text₀ → Next-goes-on (of_sought s (take s.used carry) chunk call.pool call.at f)
+    next_found : s.finished ≡ false → (f : Sought) → look s.empties b₀ text₀ ≡ f → Fine f text₀ → NextGoesOn (of_sought s (take s.used carry) chunk call.pool call.at f)
     unfolding Follows Fine of_sought found unseen from_place joined
     next_found d (unended n b) e h m =
         record {
@@ -241,7 +241,7 @@ module _ (options : ReaderOptions) where
         line_goes_on s carry (chunk ∷ chunks) chunks call calls carry' (take s.used carry) chunk start n kept (length chunk - length rest) false left m g l
         (unseen_found d (ended start n kept rest) e)
         (λ k. same_unseen s carry carry' (chunk ∷ chunks) (kept_begun s carry carry' (omega (arith, g.big, g.small)) k))
-        (behind (ends_row s.options (answer-to (stands_for kept) call)))
+        (behind (ends_row s.options (answer_to (stands_for kept) call)))
       where
         left : List Nth
         left = pieces (s.line + counted n) nothing (rest ++ joined chunks)
@@ -252,14 +252,14 @@ module _ (options : ReaderOptions) where
             ap (λ (x : List ℕ). pieces (number_behind s n + 0) nothing (x ++ joined chunks)) (suffix_at rest chunk (suffix_drop s.position rest chunk (c ∷ p, tail)))
             ∙ pieces_mod (rest ++ joined chunks) (number_behind s n + 0) (s.line + counted n) nothing (ap (λ (k : ℕ). k % M) (add-zero (number_behind s n)) ∙ twice (s.line + counted n))
 
-    pub next_goes_on : Next-goes-on (next_outcome s chunk carry call.pool call.at)
+    pub next_goes_on : NextGoesOn (next_outcome s chunk carry call.pool call.at)
     unfolding look
     next_goes_on = by_done s.finished refl
       where
         enough : too_small s carry ≡ false
         enough = big_enough s carry g.big g.small
 
-        by_done : (t : Bool) → s.finished ≡ t → Next-goes-on (next_outcome s chunk carry call.pool call.at)
+        by_done : (t : Bool) → s.finished ≡ t → NextGoesOn (next_outcome s chunk carry call.pool call.at)
         by_done true d = rw (next_over s chunk carry call.pool call.at enough d) (next_ended d)
         by_done false d =
             rw (next_on s chunk carry call.pool call.at enough d)
@@ -268,15 +268,15 @@ module _ (options : ReaderOptions) where
   -- ---- a call of `finish`
 
   module _ (s : Chunks) (carry : List ℕ) (call : Call) (calls : List Call) (carry' : List ℕ) (g : Good options s carry) (l : length carry' ≡ length carry) where
-    abbrev Finish-goes-on : Outcome → Type 0
-    Finish-goes-on o = take (length o.carried) carry' ≡ o.carried → GoesOn s carry [] [] call calls carry' o
+    abbrev FinishGoesOn : Outcome → Type 0
+    FinishGoesOn o = take (length o.carried) carry' ≡ o.carried → GoesOn s carry [] [] call calls carry' o
 
     last_piece : s.finished ≡ false → (e : Bool) → is_empty (with_CR (begun s carry)).bytes ≡ e
         → unseen s carry [] ≡ (if e then [] else nth (number_behind s s.empties) (stands_for (with_CR (begun s carry))) ∷ [])
     unfolding from_place joined
     last_piece d e q = unseen_on s carry [] d ∙ pieces_end s.line s.empties (begun s carry) e q
 
-    finish_ended : s.finished ≡ true → Finish-goes-on (unchanged (tells done) s carry call.pool)
+    finish_ended : s.finished ≡ true → FinishGoesOn (unchanged (tells done) s carry call.pool)
     unfolding unchanged
     finish_ended d m =
         record {
@@ -284,7 +284,7 @@ module _ (options : ReaderOptions) where
           good = record { big = omega (arith, g.big); small = g.small; options_is = g.options_is };
         }
 
-    finish_none : s.finished ≡ false → is_empty (with_CR (begun s carry)).bytes ≡ true → Finish-goes-on (nothing_left s call.pool)
+    finish_none : s.finished ≡ false → is_empty (with_CR (begun s carry)).bytes ≡ true → FinishGoesOn (nothing_left s call.pool)
     finish_none d e m =
         record {
           row = over_row s carry [] [] call calls carry' (over s) (last_piece d true e) refl refl;
@@ -292,29 +292,29 @@ module _ (options : ReaderOptions) where
         }
 
     finish_found : s.finished ≡ false → is_empty (with_CR (begun s carry)).bytes ≡ false
-        → Finish-goes-on (answered_line s (take s.used carry) [] call.pool call.at none s.empties (with_CR (begun s carry)) 0 true)
+        → FinishGoesOn (answered_line s (take s.used carry) [] call.pool call.at none s.empties (with_CR (begun s carry)) 0 true)
     unfolding unseen
     finish_found d e m =
         line_goes_on s carry [] [] call calls carry' (take s.used carry) [] none s.empties (with_CR (begun s carry)) 0 true [] m g l
         (last_piece d false e)
         (λ k. same_unseen s carry carry' [] (kept_begun s carry carry' (omega (arith, g.big, g.small)) k))
-        (behind (ends_row s.options (answer-to (stands_for (with_CR (begun s carry))) call)))
+        (behind (ends_row s.options (answer_to (stands_for (with_CR (begun s carry))) call)))
       where
         behind : (b : Bool) → unseen (past_line s 0 (number_behind s s.empties) true) carry' [] ≡ (if b then [] else [])
         behind true = refl
         behind false = refl
 
-    pub finish_goes_on : Finish-goes-on (finish_outcome s carry call.pool call.at)
+    pub finish_goes_on : FinishGoesOn (finish_outcome s carry call.pool call.at)
     finish_goes_on = by_done s.finished refl
       where
         enough : too_small s carry ≡ false
         enough = big_enough s carry g.big g.small
 
-        by_empty : s.finished ≡ false → (b : Bool) → is_empty (with_CR (begun s carry)).bytes ≡ b → Finish-goes-on (finish_outcome s carry call.pool call.at)
+        by_empty : s.finished ≡ false → (b : Bool) → is_empty (with_CR (begun s carry)).bytes ≡ b → FinishGoesOn (finish_outcome s carry call.pool call.at)
         by_empty d true e = rw (finish_on s carry call.pool call.at enough d true e) (finish_none d e)
         by_empty d false e = rw (finish_on s carry call.pool call.at enough d false e) (finish_found d e)
 
-        by_done : (t : Bool) → s.finished ≡ t → Finish-goes-on (finish_outcome s carry call.pool call.at)
+        by_done : (t : Bool) → s.finished ≡ t → FinishGoesOn (finish_outcome s carry call.pool call.at)
         by_done true d = rw (finish_over s carry call.pool call.at enough d) (finish_ended d)
         by_done false d = by_empty d (is_empty (with_CR (begun s carry)).bytes) refl
 

@@ -17,7 +17,7 @@ use Rattle.chunks.specs.Next.{is_record}
 use Rattle.chunks.specs.Rows.{Seen, Nth, nth, numbered, seen_for, showing}
 use Rattle.chunks.specs.Claims.{Alike, none_left, one_more, without_pools}
 use Rattle.chunks.proofs.Pieces.{M}
-use Rattle.chunks.proofs.Rows.{answer-to, show_full, show_line}
+use Rattle.chunks.proofs.Rows.{answer_to, show_full, show_line}
 use Rattle.chunks.proofs.Kept.{said_of}
 
 module _ (options : ReaderOptions) where
@@ -33,22 +33,22 @@ module _ (options : ReaderOptions) where
   alike_rows none_left last ls = refl
   alike_rows (one_more e f a) last [] = ap (λ (r : List Seen). bare Told.done last [] ∷ r) (alike_rows a last [])
   alike_rows (one_more {c₁} {c₂} {cs₁} {cs₂} e f a) last (nth n l ∷ ls) =
-      rw (sym same) (go (is_full (answer-to options l c₁)) (alike_rows a))
+      rw (sym same) (go (is_full (answer_to options l c₁)) (alike_rows a))
     where
-      same : answer-to options l c₁ ≡ answer-to options l c₂
+      same : answer_to options l c₁ ≡ answer_to options l c₂
       same = ap₂ (answered (judge l)) e f
 
       row : (f : Bool) (c : Call) (cs : List Call) → List Seen
       row f c cs =
           if f
-          then record { given = record { told = answer-to options l c₁; pool = c.pool; line = last }; shown = [] } ∷ showing options last (nth n l ∷ ls) cs
-          else record { given = record { told = answer-to options l c₁; pool = Rattle.reader.specs.Answer.poured (judge l) c.pool c.at; line = n }; shown = if is_record (answer-to options l c₁) then l else [] } ∷ showing options n (if ends_row options (answer-to options l c₁) then [] else ls) cs
+          then record { given = record { told = answer_to options l c₁; pool = c.pool; line = last }; shown = [] } ∷ showing options last (nth n l ∷ ls) cs
+          else record { given = record { told = answer_to options l c₁; pool = Rattle.reader.specs.Answer.poured (judge l) c.pool c.at; line = n }; shown = if is_record (answer_to options l c₁) then l else [] } ∷ showing options n (if ends_row options (answer_to options l c₁) then [] else ls) cs
 
       go : (f : Bool) → ((last : ℕ) (ls : List Nth) → without_pools (showing options last ls cs₁) ≡ without_pools (showing options last ls cs₂))
           → without_pools (row f c₁ cs₁) ≡ without_pools (row f c₂ cs₂)
-      go true ih = ap (λ (r : List Seen). bare (answer-to options l c₁) last [] ∷ r) (ih last (nth n l ∷ ls))
+      go true ih = ap (λ (r : List Seen). bare (answer_to options l c₁) last [] ∷ r) (ih last (nth n l ∷ ls))
       go false ih =
-          ap (λ (r : List Seen). bare (answer-to options l c₁) n (if is_record (answer-to options l c₁) then l else []) ∷ r) (ih n (if ends_row options (answer-to options l c₁) then [] else ls))
+          ap (λ (r : List Seen). bare (answer_to options l c₁) n (if is_record (answer_to options l c₁) then l else []) ∷ r) (ih n (if ends_row options (answer_to options l c₁) then [] else ls))
 
   -- ---- behind the stop
 
@@ -60,21 +60,21 @@ module _ (options : ReaderOptions) where
   unfolding showing said_of stopped
   same_rows [] last xs ys₁ ys₂ h = refl
   same_rows (call ∷ calls) last [] ys₁ ys₂ h = let z : ◌≡◌ {A = ℕ} 0 1 = cc in absurd (omega arith)
-  same_rows (call ∷ calls) last (nth n l ∷ xs) ys₁ ys₂ h = go (is_full (answer-to options l call)) refl (λ last xs h. same_rows calls last xs ys₁ ys₂ h)
+  same_rows (call ∷ calls) last (nth n l ∷ xs) ys₁ ys₂ h = go (is_full (answer_to options l call)) refl (λ last xs h. same_rows calls last xs ys₁ ys₂ h)
     where
-      go : (f : Bool) → is_full (answer-to options l call) ≡ f → ((last : ℕ) (xs : List Nth) → Stopped xs → showing options last (xs ++ ys₁) calls ≡ showing options last (xs ++ ys₂) calls)
+      go : (f : Bool) → is_full (answer_to options l call) ≡ f → ((last : ℕ) (xs : List Nth) → Stopped xs → showing options last (xs ++ ys₁) calls ≡ showing options last (xs ++ ys₂) calls)
           → showing options last (nth n l ∷ (xs ++ ys₁)) (call ∷ calls) ≡ showing options last (nth n l ∷ (xs ++ ys₂)) (call ∷ calls)
       go true f ih =
           show_full options last n l (xs ++ ys₁) call calls f
-          ∙ ap (λ (r : List Seen). record { given = record { told = answer-to options l call; pool = call.pool; line = last }; shown = [] } ∷ r) (ih last (nth n l ∷ xs) h)
+          ∙ ap (λ (r : List Seen). record { given = record { told = answer_to options l call; pool = call.pool; line = last }; shown = [] } ∷ r) (ih last (nth n l ∷ xs) h)
           ∙ sym (show_full options last n l (xs ++ ys₂) call calls f)
       go false f ih =
           show_line options last n l (xs ++ ys₁) call calls f
           ∙ ap (λ (r : List Seen). seen_for (nth n l) call ∷ r) (stop_or_not (stops options (judge l)) (ends_stops options (judge l) (length call.pool) call.at f) h)
           ∙ sym (show_line options last n l (xs ++ ys₂) call calls f)
         where
-          stop_or_not : (b : Bool) → ends_row options (answer-to options l call) ≡ b → b || stopped options (said_of xs) ≡ true
-              → showing options n (if ends_row options (answer-to options l call) then [] else (xs ++ ys₁)) calls ≡ showing options n (if ends_row options (answer-to options l call) then [] else (xs ++ ys₂)) calls
+          stop_or_not : (b : Bool) → ends_row options (answer_to options l call) ≡ b → b || stopped options (said_of xs) ≡ true
+              → showing options n (if ends_row options (answer_to options l call) then [] else (xs ++ ys₁)) calls ≡ showing options n (if ends_row options (answer_to options l call) then [] else (xs ++ ys₂)) calls
           stop_or_not true e h = rw e
           stop_or_not false e h = rw e (ih n xs h)
 

@@ -11,9 +11,9 @@ use Rattle.steps.specs.declared.Start.{Start}
 use Rattle.steps.specs.declared.Start.TheVariants.{Unstated, Segment, Linear}
 use Rattle.loader.specs.declared.Base.{Base}
 use Rattle.loader.specs.declared.Base.TheVariants as base
-use Rattle.intake.specs.declared.Kind.{Kind}
-use Rattle.intake.specs.declared.Kind.TheVariants.{Hex, SRecords}
-use Rattle.intake.specs.declared.Intake.{Intake}
+use Rattle.intake_tail.specs.declared.Kind.{Kind}
+use Rattle.intake_tail.specs.declared.Kind.TheVariants.{Hex, SRecords}
+use Rattle.intake_tail.specs.declared.Intake.{Intake}
 use Rattle.listen.specs.declared.Listener.{Listener}
 use Rattle.listen.specs.declared.Listener.TheVariants.{Front, Within, Ready}
 use Rattle.codes.specs.declared.Stand.{Stand}

@@ -19,8 +19,8 @@ place_is (InChunk from len) x = rw (x.lies_is, x.from_is, x.len_is)
 place_is (InCarry len) x = rw (x.lies_is, x.len_is)
 
 module _ (position line empties used skipped : ℕ) where
-  abbrev state-with : (first eof finished cr : Bool) → Chunks
-  state-with first eof finished cr =
+  abbrev state_with : (first eof finished cr : Bool) → Chunks
+  state_with first eof finished cr =
       record {
         position = position;
         line = line;
@@ -33,7 +33,7 @@ module _ (position line empties used skipped : ℕ) where
       }
 
   flags_return : (first eof finished cr : Bool)
-      → chunks_of position line empties used skipped (chunk_flags_of (state-with first eof finished cr)) ≡ state-with first eof finished cr
+      → chunks_of position line empties used skipped (chunk_flags_of (state_with first eof finished cr)) ≡ state_with first eof finished cr
   flags_return true true true true = refl
   flags_return true true true false = refl
   flags_return true true false true = refl

@@ -21,7 +21,7 @@ ghost use Rattle.codes.specs.States.{Flag, StateFrom, FlagsFrom, ChunksFrom, Chu
 
 use chunks::{ChunkReply, Chunks, Place};
 use entries::{Attempt, SAttempt};
-use intake::{Intake, Kind};
+use intake_tail::{Intake, Kind};
 use light::{Color, Count, Light, Made};
 use listen::{Committed, Listener, Said};
 use loader::Base;

@@ -229,14 +229,14 @@ ihex_nothing_stated text first page marks r p m x ok s =
 
 -- what is left, in numbers
 module _ (text : List ℕ) (first : ℕ) (page marks : List ℕ) (r : LoadNumbers) (p m : List ℕ) (x : IhexLoad text first page marks r p m) where
-  abbrev Nothing-done : Type 0
-  Nothing-done = (r ≡ six OK 0 0 0 0 0) × (p ≡ page) × (m ≡ replicate (length marks) 0)
+  abbrev NothingDone : Type 0
+  NothingDone = (r ≡ six OK 0 0 0 0 0) × (p ≡ page) × (m ≡ replicate (length marks) 0)
 
-  in_numbers : load text first page marks ≡ record { answer = accepted (record { records = 0; start = none }); page = page; marks = replicate (length marks) 0 } → Nothing-done
+  in_numbers : load text first page marks ≡ record { answer = accepted (record { records = 0; start = none }); page = page; marks = replicate (length marks) 0 } → NothingDone
   in_numbers e = rw (x.numbers, x.page_is, x.marks_is, e) (refl, refl, refl)
 
   -- a window that is not refused is fit
-  unless_refused : {v : Verdict} → Why text first page marks v → v ≡ (load text first page marks).answer → r.code ≢ BADWINDOW → (text ≡ end_record) ⊎ (text ≡ end_record ++ (LF ∷ [])) → Nothing-done
+  unless_refused : {v : Verdict} → Why text first page marks v → v ≡ (load text first page marks).answer → r.code ≢ BADWINDOW → (text ≡ end_record) ⊎ (text ≡ end_record ++ (LF ∷ [])) → NothingDone
   unless_refused (bad_one w) e h is = absurd (h (ap (λ (n : LoadNumbers). n.code) (x.numbers ∙ ap load_numbers (sym e))))
   unless_refused (no_end w all) e h (inl q) = in_numbers (ap (λ (t : List ℕ). load t first page marks) q ∙ (end_alone first page marks w).0)
   unless_refused (no_end w all) e h (inr q) = in_numbers (ap (λ (t : List ℕ). load t first page marks) q ∙ (end_alone first page marks w).1)

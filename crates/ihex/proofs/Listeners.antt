@@ -25,13 +25,13 @@ use Rattle.steps.specs.Source.{Source}
 use Rattle.steps.specs.Told.{loader_refusal, tallied, told_loading}
 use Rattle.window.specs.Window.{unfit}
 use Rattle.window.specs.Load.{load_window}
-use Rattle.intake.specs.declared.Kind.{Kind}
-use Rattle.intake.specs.declared.Kind.TheVariants.{Hex, SRecords}
-use Rattle.intake.specs.declared.Intake.{Intake}
-use Rattle.intake.specs.Ways.{way_of}
-use Rattle.intake.specs.Intake.{new_tail}
-use Rattle.intake.specs.Rows.{UsedThrough, PassedThrough}
-use Rattle.intake.proofs.Following.{stops_fit}
+use Rattle.intake_tail.specs.declared.Kind.{Kind}
+use Rattle.intake_tail.specs.declared.Kind.TheVariants.{Hex, SRecords}
+use Rattle.intake_tail.specs.declared.Intake.{Intake}
+use Rattle.intake_tail.specs.Ways.{way_of}
+use Rattle.intake_tail.specs.Intake.{new_tail}
+use Rattle.intake_tail.specs.Rows.{UsedThrough, PassedThrough}
+use Rattle.intake_tail.proofs.Following.{stops_fit}
 use Rattle.light.specs.declared.Light.{Light}
 use Rattle.light.specs.declared.Dumped.{Dumped}
 use Rattle.light.specs.Colors.{Outcome, refused_one, color}

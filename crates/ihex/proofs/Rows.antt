@@ -28,7 +28,7 @@ use Rattle.chunks.specs.declared.Place.TheVariants.{Nowhere, InChunk}
 use Rattle.chunks.specs.Next.{Word, tells, used_up, is_record, new_chunks, at_place, Outcome, unchanged, next_outcome, finish_outcome}
 use Rattle.chunks.specs.Rows.{joined, Seen, seen_with, Heard, FedBy, Hears, numbered, showing}
 use Rattle.chunks.specs.Claims.{TooSmall, Eighteen, GivesThen, OnlyDone, givens_of, nth_line, without_pools}
-use Rattle.chunks.proofs.Kept.{Shown-right, every_told}
+use Rattle.chunks.proofs.Kept.{ShownRight, every_told}
 use Rattle.chunks.proofs.Calls.{next_told, finish_told, finish_place, carry_first, Keeps, full_outcome, full_then_room, finish_ends, done_stays}
 use Rattle.chunks.proofs.Claims.{any_cuts_by, row_replies, row_shows, row_alike}
 use Rattle.codes.specs.Codes.{USEDUP, POOLFULL, CARRYTOOSMALL, value, Numbers, reading, reading_chunk}
@@ -133,7 +133,7 @@ ihex_shows_the_line options carry chunks calls notes short x =
     Right : Noted → Type 0
     Right x = x.shown ≡ (if ltb x.returned.code 6 then nth_line (joined chunks) x.returned.line else [])
 
-    as_shown : (xs : List Seen) → Every (Shown-right options (joined chunks)) xs → Every (λ (x : Seen). ClearTold x.given.told) xs → Every Right (map noted xs)
+    as_shown : (xs : List Seen) → Every (ShownRight options (joined chunks)) xs → Every (λ (x : Seen). ClearTold x.given.told) xs → Every Right (map noted xs)
     as_shown [] p q = tt
     as_shown (x ∷ xs) (p, ps) (q, qs) = (rw q.1 p, as_shown xs ps qs)
 

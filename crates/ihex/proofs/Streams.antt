@@ -12,9 +12,9 @@ use Rattle.std.specs.Prelude.{if◌then◌else◌}
 use Rattle.steps.specs.declared.Loading.{Loading}
 use Rattle.steps.specs.Steps.{Verdict}
 use Rattle.steps.specs.Told.{told_loading}
-use Rattle.intake.specs.declared.Kind.{Kind}
-use Rattle.intake.specs.declared.Kind.TheVariants.{Hex, SRecords}
-use Rattle.intake.specs.declared.Intake.{Intake}
+use Rattle.intake_tail.specs.declared.Kind.{Kind}
+use Rattle.intake_tail.specs.declared.Kind.TheVariants.{Hex, SRecords}
+use Rattle.intake_tail.specs.declared.Intake.{Intake}
 use Rattle.listen.specs.declared.Listener.{Listener}
 use Rattle.listen.specs.declared.Listener.TheVariants.{Front, Within, Ready}
 use Rattle.listen.specs.declared.Committed.{Committed}
@@ -82,8 +82,8 @@ one_more answers answer decided r e n =
 
 module _ (first : ℕ) (s₀ : Stand) (carry₀ stage₀ stated₀ stream : List ℕ) where
   -- the listener's calls that these are
-  abbrev Are-calls : (decided : List LoadNumbers) (left : List ℕ) (s : Stand) (carry stage stated : List ℕ) → Type 0
-  Are-calls decided left s carry stage stated =
+  abbrev AreCalls : (decided : List LoadNumbers) (left : List ℕ) (s : Stand) (carry stage stated : List ℕ) → Type 0
+  AreCalls decided left s carry stage stated =
       (answers : List Loading) × (in_numbers answers ≡ decided) × Calls first (stands_for s₀) carry₀ stage₀ stated₀ stream answers left (stands_for s) carry stage stated
 
   -- a call of the listener's in numbers
@@ -96,7 +96,7 @@ module _ (first : ℕ) (s₀ : Stand) (carry₀ stage₀ stated₀ stream : List
       (subst (λ (y : Listener). Calls first (stands_for s₀) carry₀ stage₀ stated₀ stream answers (drop f.step.used chunk ++ more) y carry' stage' stated') (sym f.tells.returns) c)
 
   are_calls : {decided : List LoadNumbers} {left : List ℕ} {s : Stand} {carry stage stated : List ℕ} → IhexCalls first s₀ carry₀ stage₀ stated₀ stream decided left s carry stage stated
-      → Are-calls decided left s carry stage stated
+      → AreCalls decided left s carry stage stated
   are_calls none_yet = ([], refl, calls.no_call)
   are_calls (going_on {decided} {left} {s} {carry} {stage} {stated} chunk more taken s' r carry' stage' stated' row is f (inl e)) =
       let (answers, same, c) = are_calls row in

@@ -346,13 +346,13 @@ module _ (me : ℕ) (table : List ℕ) (w : length table % 24 ≡ 0) where
   rows = rows_of table
 
   -- a call leaves what the load of its steps leaves, and returns its answer in numbers
-  pub record Step-of (b : Cabinet) (owner : ℕ) (steps : List Step) (r : LoadNumbers) (pool' marks' : List ℕ) : Type 0 where
+  pub record StepOf (b : Cabinet) (owner : ℕ) (steps : List Step) (r : LoadNumbers) (pool' marks' : List ℕ) : Type 0 where
     pub pool_is : pool' ≡ (load_rows owner (rows_of table) steps b.pool b.marks).page
     pub marks_is : marks' ≡ (load_rows owner (rows_of table) steps b.pool b.marks).marks
     pub numbers : r ≡ load_numbers (load_rows owner (rows_of table) steps b.pool b.marks).answer
 
   a_step : {S : Type 0} (src : Source S) (b : Cabinet) (owner : ℕ) (text : List ℕ) (r : LoadNumbers) (pool' marks' : List ℕ)
-      → IhexLoadTableBy src text owner table b.pool b.marks r pool' marks' → Step-of b owner (steps_of src text) r pool' marks'
+      → IhexLoadTableBy src text owner table b.pool b.marks r pool' marks' → StepOf b owner (steps_of src text) r pool' marks'
   unfolding load_table
   a_step src b owner text r pool' marks' x =
       let a = as_windows src text owner table b.pool b.marks r pool' marks' x w in
@@ -363,12 +363,12 @@ module _ (me : ℕ) (table : List ℕ) (w : length table % 24 ≡ 0) where
       }
 
   -- so do calls one after the other
-  pub record As-loads (b : Cabinet) (calls : List Called) (returns : List LoadNumbers) (b' : Cabinet) : Type 0 where
+  pub record AsLoads (b : Cabinet) (calls : List Called) (returns : List LoadNumbers) (b' : Cabinet) : Type 0 where
     pub left : b' ≡ cabinet_after (rows_of table) (all_did calls) b
     pub returned : returns_to me calls returns ≡ in_numbers (answers_for me (rows_of table) (all_did calls) b)
 
   module _ (b b'' : Cabinet) (owner : ℕ) (steps : List Step) (call : Called) (is-caller : caller call ≡ owner) (is-did : did call ≡ load_by owner steps) (calls : List Called) (returns : List LoadNumbers)
-      (r : LoadNumbers) (pool' marks' : List ℕ) (s : Step-of b owner steps r pool' marks') (later : As-loads (record { pool = pool'; marks = marks' }) calls returns b'') where
+      (r : LoadNumbers) (pool' marks' : List ℕ) (s : StepOf b owner steps r pool' marks') (later : AsLoads (record { pool = pool'; marks = marks' }) calls returns b'') where
     next : Cabinet
     next = record { pool = (load_rows owner (rows_of table) steps b.pool b.marks).page; marks = (load_rows owner (rows_of table) steps b.pool b.marks).marks }
 
@@ -376,7 +376,7 @@ module _ (me : ℕ) (table : List ℕ) (w : length table % 24 ≡ 0) where
     unfolding next
     is_next = λ j. record { pool = s.pool_is j; marks = s.marks_is j }
 
-    with_one : As-loads b (call ∷ calls) (r ∷ returns) b''
+    with_one : AsLoads b (call ∷ calls) (r ∷ returns) b''
     unfolding all_did cabinet_after answers_for in_numbers next
     with_one =
         record {
@@ -392,7 +392,7 @@ module _ (me : ℕ) (table : List ℕ) (w : length table % 24 ≡ 0) where
         go true = λ j. s.numbers j ∷ same j
         go false = same
 
-  as_loads : (b b'' : Cabinet) (calls : List Called) (returns : List LoadNumbers) → TableCalls table b calls returns b'' → As-loads b calls returns b''
+  as_loads : (b b'' : Cabinet) (calls : List Called) (returns : List LoadNumbers) → TableCalls table b calls returns b'' → AsLoads b calls returns b''
   unfolding all_did did cabinet_after answers_for in_numbers
   as_loads b b'' calls returns no_more = record { left = refl; returned = refl }
   as_loads b b'' (with_intel owner text ∷ calls) (_ ∷ returns) (one_more r pool' marks' x more) =

@@ -14,7 +14,7 @@ use Rattle.steps.specs.Taken.{Standing, at_first, Went, on, stopped, acted, at_l
 use Rattle.intake.specs.Machine.{Fed, wants_more, decided, after_line, fed, ended_by, stated_by, ended}
 use Rattle.intake.specs.Claims.{Briefly, then_fed, AnyCut, fed_text, DecidesAsLoad, EndsAsLoad, AsSoonAsItCame}
 use Rattle.steps.proofs.Taken.{Acts, acts_are}
-use Rattle.intake.proofs.Machine.{row_steps, left-to, all_stated, Comes, whole}
+use Rattle.intake.proofs.Machine.{row_steps, left_to, all_stated, Comes, whole}
 
 -- ---- cuts
 
@@ -112,8 +112,8 @@ module _ {S : Type 0} (src : Source S) (inside : ℕ → Bool) where
 
 module _ {S : Type 0} (src : Source S) (inside : ℕ → Bool) (text : List ℕ) (kept : Briefly src) (short : suc (length text) < M) where
   -- what the whole text comes to, in its steps
-  in_steps : (f : Fed S) → fed_text src inside text ≡ f → Comes src inside (λ more. left-to src inside (at_first src) (pieces 0 nothing (text ++ more))) (λ more. all_stated src inside (at_first src) (pieces 0 nothing (text ++ more))) f
-  in_steps f e = subst (λ (x : Fed S). Comes src inside (λ more. left-to src inside (at_first src) (pieces 0 nothing (text ++ more))) (λ more. all_stated src inside (at_first src) (pieces 0 nothing (text ++ more))) x) e (whole src inside text 0 (at_first src) nothing)
+  in_steps : (f : Fed S) → fed_text src inside text ≡ f → Comes src inside (λ more. left_to src inside (at_first src) (pieces 0 nothing (text ++ more))) (λ more. all_stated src inside (at_first src) (pieces 0 nothing (text ++ more))) f
+  in_steps f e = subst (λ (x : Fed S). Comes src inside (λ more. left_to src inside (at_first src) (pieces 0 nothing (text ++ more))) (λ more. all_stated src inside (at_first src) (pieces 0 nothing (text ++ more))) x) e (whole src inside text 0 (at_first src) nothing)
 
   same_steps : row_steps src src.beginning (pieces 0 nothing (text ++ [])) ≡ steps_of src text
   same_steps = rw append-nil (row_text src kept text (omega (arith, short)))
@@ -137,8 +137,8 @@ module _ {S : Type 0} (src : Source S) (inside : ℕ → Bool) (text : List ℕ)
   -- what is begun, as a row of at most one line
   last_line : (n : ℕ) (st : Standing S) (b : Begun)
       → let w = ended (at_line src inside) n st b in
-      (verdict (left-to src inside st (pieces n b [])) ≡ ended_by w) × ((t : Tally) → ended_by w ≡ accepted t → all_stated src inside st (pieces n b []) ≡ stated_by w)
-      × ((m : ℕ) (v : Verdict) → left-to src inside st (pieces n b []) ≡ some (by m v) → m ≡ counted n)
+      (verdict (left_to src inside st (pieces n b [])) ≡ ended_by w) × ((t : Tally) → ended_by w ≡ accepted t → all_stated src inside st (pieces n b []) ≡ stated_by w)
+      × ((m : ℕ) (v : Verdict) → left_to src inside st (pieces n b []) ≡ some (by m v) → m ≡ counted n)
   unfolding ended pieces before row_steps at_line decision verdict stated
   last_line n st b = go (is_empty (with_CR b).bytes)
     where

@@ -117,15 +117,15 @@ module _ {S : Type 0} (src : Source S) (inside : ℕ → Bool) where
   ended_so n st b h = rw (takes_so (counted n) st (stands_for (with_CR b)) h)
 
   -- k data records at most were counted
-  abbrev At-most : (k : ℕ) → Fed S → Type 0
-  At-most k (wants_more n st b) = st.tally.records ≤ k
-  At-most k (decided n v ps left) = Unit
+  abbrev AtMost : (k : ℕ) → Fed S → Type 0
+  AtMost k (wants_more n st b) = st.tally.records ≤ k
+  AtMost k (decided n v ps left) = Unit
 
   -- what bytes come to either way, with k data records at most
   abbrev Alike : (k : ℕ) → (t f : Fed S) → Type 0
-  Alike k t f = (k < 2 ^ 64 - 1 → t ≡ f) × At-most k f
+  Alike k t f = (k < 2 ^ 64 - 1 → t ≡ f) × AtMost k f
 
-  more_at_most : (k l : ℕ) (f : Fed S) → k ≤ l → At-most k f → At-most l f
+  more_at_most : (k l : ℕ) (f : Fed S) → k ≤ l → AtMost k f → AtMost l f
   more_at_most k l (wants_more n st b) h a = omega (arith, h, a)
   more_at_most k l (decided n v ps left) h a = tt
 
@@ -171,7 +171,7 @@ module _ {S : Type 0} (src : Source S) (inside : ℕ → Bool) where
 
     pub few_fed : (bytes : List ℕ) (n : ℕ) (st : Standing S) (b : Begun) (n' : ℕ) (st' : Standing S) (b' : Begun)
         → fed (at_line src inside) n st b bytes ≡ wants_more n' st' b' → st'.tally.records ≤ st.tally.records + length bytes
-    few_fed bytes n st b n' st' b' e = subst (λ (f : Fed S). At-most (st.tally.records + length bytes) f) e (alike bytes n st b).1
+    few_fed bytes n st b n' st' b' e = subst (λ (f : Fed S). AtMost (st.tally.records + length bytes) f) e (alike bytes n st b).1
 
 -- ---- chunks
 

@@ -21,15 +21,15 @@ row_steps src s [] = []
 row_steps src s (nth n line ∷ row) = map (step n) (src.act s line) ++ row_steps src (src.next s line) row
 
 module _ {S : Type 0} (src : Source S) (inside : ℕ → Bool) where
-  abbrev pub left-to : Standing S → List Nth → Option Decision
-  left-to st row = decision inside st.tally (row_steps src st.state row)
+  abbrev pub left_to : Standing S → List Nth → Option Decision
+  left_to st row = decision inside st.tally (row_steps src st.state row)
 
   abbrev pub all_stated : Standing S → List Nth → List Placement
   all_stated st row = st.stated ++ stated (row_steps src st.state row)
 
   -- what bytes come to, with more to follow: what is decided and stated in all
   abbrev pub Comes : (D : (more : List ℕ) → Option Decision) (P : (more : List ℕ) → List Placement) → Fed S → Type 0
-  Comes D P (wants_more m st b) = (more : List ℕ) → (D more ≡ left-to st (pieces m b more)) × (P more ≡ all_stated st (pieces m b more))
+  Comes D P (wants_more m st b) = (more : List ℕ) → (D more ≡ left_to st (pieces m b more)) × (P more ≡ all_stated st (pieces m b more))
   Comes D P (decided n v ps left) = (more : List ℕ) → (D more ≡ some (by n v)) × ((k : Tally) → v ≡ accepted k → P more ≡ ps)
 
   instead : (D D' : (more : List ℕ) → Option Decision) (P P' : (more : List ℕ) → List Placement) (f : Fed S)
@@ -45,12 +45,12 @@ module _ {S : Type 0} (src : Source S) (inside : ℕ → Bool) where
   same_number m = omega arith
 
   abbrev Whole : (m : ℕ) → Standing S → Begun → (bytes : List ℕ) → Fed S → Type 0
-  Whole m st b bytes f = Comes (λ more. left-to st (pieces m b (bytes ++ more))) (λ more. all_stated st (pieces m b (bytes ++ more))) f
+  Whole m st b bytes f = Comes (λ more. left_to st (pieces m b (bytes ++ more))) (λ more. all_stated st (pieces m b (bytes ++ more))) f
 
   -- a line that has ended
   after : (m : ℕ) (st : Standing S) (line bytes : List ℕ) (later : Standing S → Fed S)
       → ((st' : Standing S) → Whole (counted m) st' nothing bytes (later st'))
-      → Comes (λ more. left-to st (nth (counted m) line ∷ pieces (counted m) nothing (bytes ++ more)))
+      → Comes (λ more. left_to st (nth (counted m) line ∷ pieces (counted m) nothing (bytes ++ more)))
       (λ more. all_stated st (nth (counted m) line ∷ pieces (counted m) nothing (bytes ++ more)))
       (after_line (counted m) bytes (at_line src inside (counted m) st line) later)
   unfolding at_line row_steps
@@ -71,7 +71,7 @@ module _ {S : Type 0} (src : Source S) (inside : ℕ → Bool) where
       go : (w : Went S) → ((more : List ℕ) → Acts inside n s st.tally st.stated acts (rest more) w)
           → Comes (λ more. decision inside st.tally (map (step n) acts ++ rest more)) (λ more. st.stated ++ stated (map (step n) acts ++ rest more)) (after_line n bytes w later)
       go (on st') are =
-          instead _ (λ more. left-to st' (pieces n nothing (bytes ++ more))) _ (λ more. all_stated st' (pieces n nothing (bytes ++ more))) (later st')
+          instead _ (λ more. left_to st' (pieces n nothing (bytes ++ more))) _ (λ more. all_stated st' (pieces n nothing (bytes ++ more))) (later st')
           (λ more. (are more).1 ∙ ap (λ (x : S). decision inside st'.tally (row_steps src x (pieces n nothing (bytes ++ more)))) (sym (are more).0))
           (λ more. (are more).2 ∙ ap (λ (x : S). st'.stated ++ stated (row_steps src x (pieces n nothing (bytes ++ more)))) (sym (are more).0)) (ih st')
       go (stopped v ps) are = λ more. ((are more).0, (are more).1)
@@ -87,12 +87,12 @@ module _ {S : Type 0} (src : Source S) (inside : ℕ → Bool) where
           else after_line (counted m) bytes (at_line src inside (counted m) st (stands_for b.kept)) (λ st'. fed (at_line src inside) (counted m) st' nothing bytes))
           else fed (at_line src inside) m st (add b c) bytes)
       go true true p q ih =
-          instead _ (λ more. left-to st (pieces (counted m) nothing (bytes ++ more))) _ (λ more. all_stated st (pieces (counted m) nothing (bytes ++ more))) (fed (at_line src inside) (counted m) st nothing bytes)
+          instead _ (λ more. left_to st (pieces (counted m) nothing (bytes ++ more))) _ (λ more. all_stated st (pieces (counted m) nothing (bytes ++ more))) (fed (at_line src inside) (counted m) st nothing bytes)
           (λ more. rw (p, q, same_pieces m (bytes ++ more))) (λ more. rw (p, q, same_pieces m (bytes ++ more))) (ih (counted m) st nothing)
       go true false p q ih =
           instead _ _ _ _ (after_line (counted m) bytes (at_line src inside (counted m) st (stands_for b.kept)) (λ st'. fed (at_line src inside) (counted m) st' nothing bytes))
           (λ more. rw (p, q, same_pieces m (bytes ++ more), same_number m)) (λ more. rw (p, q, same_pieces m (bytes ++ more), same_number m))
           (after m st (stands_for b.kept) bytes (λ st'. fed (at_line src inside) (counted m) st' nothing bytes) (λ st'. ih (counted m) st' nothing))
       go false e p q ih =
-          instead _ (λ more. left-to st (pieces m (add b c) (bytes ++ more))) _ (λ more. all_stated st (pieces m (add b c) (bytes ++ more))) (fed (at_line src inside) m st (add b c) bytes)
+          instead _ (λ more. left_to st (pieces m (add b c) (bytes ++ more))) _ (λ more. all_stated st (pieces m (add b c) (bytes ++ more))) (fed (at_line src inside) m st (add b c) bytes)
           (λ more. rw p) (λ more. rw p) (ih m st (add b c))

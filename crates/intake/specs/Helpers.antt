@@ -1,24 +1,24 @@
 -- What the intake's functions promise each other.
 -- Assumes nothing.
 use Rattle.std.specs.Prelude.{◌≡◌, ℕ, ◌+◌, ◌%◌, ◌^◌, ◌<◌, ◌≤◌, Bool, false, List, [], ◌++◌, length, drop, nat_lt}
+use Rattle.std.proofs.Math.Option.{none}
 use Rattle.std.specs.Prelude.{if◌then◌else◌}
 use Rattle.reader.specs.Text.{default_options}
-use Rattle.chunks.specs.Begun.{Kept, brief, stands_for}
+use Rattle.chunks.specs.Begun.{Kept, nothing, brief, stands_for}
 use Rattle.chunks.specs.Helpers.{refusal_in_line}
 use Rattle.chunks.specs.Next.{begun, too_small}
 use Rattle.chunks.specs.declared.Chunks.{Chunks}
-use Rattle.steps.specs.declared.Loading.{Loading}
-use Rattle.steps.specs.declared.Loading.TheVariants.{Accepted}
 use Rattle.steps.specs.declared.Start.TheVariants.{Unstated}
 use Rattle.steps.specs.declared.Tally.{Tally as CodeTally}
 use Rattle.steps.specs.Steps.{Placement, Verdict, accepted, refused}
 use Rattle.steps.specs.Source.{Source}
 use Rattle.steps.specs.Taken.{Standing, Went, on, stopped, at_line}
-use Rattle.steps.specs.Told.{told_loading}
+use Rattle.steps.specs.Told.{tallied, told_loading}
 use Rattle.window.specs.Window.{within, window}
 use Rattle.window.specs.Promises.{Painted}
-use Rattle.intel.specs.Placing.{intel}
+use Rattle.intel.specs.Placing.{Base, intel}
 use Rattle.loader.specs.declared.Base.{Base as CodeBase}
+use Rattle.loader.specs.Helpers.{based}
 use Rattle.srecload.specs.Placing.{s_records}
 use Rattle.intake.specs.declared.Kind.{Kind}
 use Rattle.intake.specs.declared.Kind.TheVariants.{Hex, SRecords}
@@ -29,8 +29,6 @@ use Rattle.intake.specs.declared.Walk.{Walk}
 use Rattle.intake.specs.declared.Heard.{Heard}
 use Rattle.intake.specs.declared.Heard.TheVariants as heard
 use Rattle.intake.specs.Machine.{takes, Fed, wants_more, decided, fed}
-use Rattle.intake.specs.Past.{ends_text}
-use Rattle.intake.specs.Ways.{StandingBy, Way, way_of}
 
 -- what the bytes that are kept of a line come to, as what their line comes to: a refusal that names the last byte of 522 names its place in the line
 abbrev pub in_line : {S : Type 0} → (skipped : ℕ) → Went S → Went S
@@ -49,6 +47,18 @@ abbrev pub verdict_in_line : (skipped : ℕ) → Verdict → Verdict
 verdict_in_line n (accepted t) = accepted t
 verdict_in_line n (refused r line) = refused (refusal_in_line n r) line
 
+-- ---- where a load stands in the code's numbers
+
+-- how the code's base and tally stand for where a load of a kind stands
+abbrev pub StandingBy : (S : Type 0) → Type 0
+StandingBy S = CodeBase → CodeTally → (stated : List Placement) → Standing S
+
+abbrev pub hex_standing : StandingBy Base
+hex_standing base tally ps = record { state = based base; tally = tallied tally; stated = ps }
+
+abbrev pub s_standing : StandingBy Unit
+s_standing base tally ps = record { state = tt; tally = record { records = tally.records; start = none }; stated = ps }
+
 -- ---- a line
 
 abbrev pub told_turn : {S : Type 0} → StandingBy S → Turn → List Placement → Went S
@@ -61,27 +71,15 @@ pub record TurnedBy {S : Type 0} (src : Source S) (standing : StandingBy S) (byt
   pub comes_to : in_line skipped (takes src (within first (length page₀)) n (standing base tally []) bytes) ≡ told_turn standing r stated
   pub paints : Painted (window first (length page₀)) stated page₀ marks₀ page' marks'
 
--- of base and tally stays what the way says
-abbrev pub Keeps : Way → CodeBase → CodeTally → Turn → Type 0
-Keeps way base tally (turn.On base' tally') = way.stays base tally base' tally'
-Keeps way base tally (turn.Stop l) = Unit
+-- S-records keep the base
+abbrev pub Keeps : CodeBase → Turn → Type 0
+Keeps base (turn.On base' tally) = base' ≡ base
+Keeps base (turn.Stop l) = Unit
 
-abbrev pub Turned : Way → (bytes : List ℕ) (skipped n : ℕ) (base : CodeBase) (tally : CodeTally) (first : ℕ) (page₀ marks₀ : List ℕ) (r : Turn) (page' marks' : List ℕ) → Type 0
-Turned way bytes skipped n base tally first page₀ marks₀ r page' marks' =
-    TurnedBy way.source way.standing bytes skipped n base tally first page₀ marks₀ r page' marks' × Keeps way base tally r
-
--- does a line of this kind end its text?
-abbrev pub is_end : Kind → (line : List ℕ) → Bool
-is_end Hex line = ends_text intel line
-is_end SRecords line = ends_text s_records line
-
--- what a tail is accepted with: no data record, and no start
-abbrev pub nothing_met : Loading
-nothing_met = Accepted (record { records = 0; start = Unstated })
-
--- what a line comes to that is passed over: only the end decides
-abbrev pub passes : (at_end : Bool) → CodeBase → CodeTally → Turn
-passes at_end base tally = if at_end then turn.Stop nothing_met else turn.On base tally
+abbrev pub Turned : Kind → (bytes : List ℕ) (skipped n : ℕ) (base : CodeBase) (tally : CodeTally) (first : ℕ) (page₀ marks₀ : List ℕ) (r : Turn) (page' marks' : List ℕ) → Type 0
+Turned Hex bytes skipped n base tally first page₀ marks₀ r page' marks' = TurnedBy intel hex_standing bytes skipped n base tally first page₀ marks₀ r page' marks'
+Turned SRecords bytes skipped n base tally first page₀ marks₀ r page' marks' =
+    TurnedBy s_records s_standing bytes skipped n base tally first page₀ marks₀ r page' marks' × Keeps base r
 
 -- ---- the next line of a chunk
 
@@ -89,12 +87,6 @@ passes at_end base tally = if at_end then turn.Stop nothing_met else turn.On bas
 abbrev pub hears : (after : Chunks) → Turn → Heard
 hears after (turn.On base tally) = heard.On (record { reader = after; base = base; tally = tally })
 hears after (turn.Stop l) = heard.Stop l after.position
-
--- the line that was found last came to a turn, and this is heard of it
-pub record LineHeard (way : Way) (bytes : List ℕ) (skipped : ℕ) (after : Chunks) (w : Walk) (first : ℕ) (page₀ marks₀ : List ℕ) (h : Heard) (page' marks' : List ℕ) : Type 0 where
-  pub came : Turn
-  pub turned : Turned way bytes skipped after.line w.base w.tally first page₀ marks₀ came page' marks'
-  pub answer : h ≡ hears after came
 
 -- how many lines have ended: those up to the last that was found, and the empty ones after it
 abbrev pub count_of : Chunks → ℕ
@@ -141,14 +133,16 @@ HeardBy src standing first w chunk carry page₀ marks₀ (heard.UsedUp w') carr
 HeardBy src standing first w chunk carry page₀ marks₀ (heard.On w') carry' page' marks' = WentOn src standing first w chunk carry page₀ marks₀ w' carry' page' marks'
 HeardBy src standing first w chunk carry page₀ marks₀ (heard.Stop l used) carry' page' marks' = StoppedAt src standing first w chunk carry page₀ marks₀ (told_loading l) used page' marks'
 
-abbrev pub KeepsOn : Way → Walk → Heard → Type 0
-KeepsOn way w (heard.UsedUp w') = way.stays w.base w.tally w'.base w'.tally
-KeepsOn way w (heard.On w') = way.stays w.base w.tally w'.base w'.tally
-KeepsOn way w (heard.Stop l used) = Unit
+-- S-records keep the base
+abbrev pub KeepsOn : CodeBase → Heard → Type 0
+KeepsOn base (heard.UsedUp w) = w.base ≡ base
+KeepsOn base (heard.On w) = w.base ≡ base
+KeepsOn base (heard.Stop l used) = Unit
 
-abbrev pub HeardSo : Way → (first : ℕ) (w : Walk) (chunk carry page₀ marks₀ : List ℕ) → Heard → (carry' page' marks' : List ℕ) → Type 0
-HeardSo way first w chunk carry page₀ marks₀ h carry' page' marks' =
-    HeardBy way.source way.standing first w chunk carry page₀ marks₀ h carry' page' marks' × KeepsOn way w h
+abbrev pub HeardSo : Kind → (first : ℕ) (w : Walk) (chunk carry page₀ marks₀ : List ℕ) → Heard → (carry' page' marks' : List ℕ) → Type 0
+HeardSo Hex first w chunk carry page₀ marks₀ h carry' page' marks' = HeardBy intel hex_standing first w chunk carry page₀ marks₀ h carry' page' marks'
+HeardSo SRecords first w chunk carry page₀ marks₀ h carry' page' marks' =
+    HeardBy s_records s_standing first w chunk carry page₀ marks₀ h carry' page' marks' × KeepsOn w.base h
 
 -- ---- all lines of a chunk
 
@@ -172,11 +166,17 @@ AllBy src standing first w chunk carry page₀ marks₀ (heard.UsedUp w') carry'
 AllBy src standing first w chunk carry page₀ marks₀ (heard.On w') carry' page' marks' = ⊥
 AllBy src standing first w chunk carry page₀ marks₀ (heard.Stop l used) carry' page' marks' = StoppedAt src standing first w chunk carry page₀ marks₀ (told_loading l) used page' marks'
 
-abbrev pub AllSo : Way → (first : ℕ) (w : Walk) (chunk carry page₀ marks₀ : List ℕ) → Heard → (carry' page' marks' : List ℕ) → Type 0
-AllSo way first w chunk carry page₀ marks₀ h carry' page' marks' =
-    AllBy way.source way.standing first w chunk carry page₀ marks₀ h carry' page' marks' × KeepsOn way w h
+abbrev pub AllSo : Kind → (first : ℕ) (w : Walk) (chunk carry page₀ marks₀ : List ℕ) → Heard → (carry' page' marks' : List ℕ) → Type 0
+AllSo Hex first w chunk carry page₀ marks₀ h carry' page' marks' = AllBy intel hex_standing first w chunk carry page₀ marks₀ h carry' page' marks'
+AllSo SRecords first w chunk carry page₀ marks₀ h carry' page' marks' =
+    AllBy s_records s_standing first w chunk carry page₀ marks₀ h carry' page' marks' × KeepsOn w.base h
 
 -- ---- between two chunks
+
+-- what was met, as a state of this kind holds it: S-records state no start before their end
+abbrev pub met_by : Kind → CodeTally → CodeTally
+met_by Hex tally = tally
+met_by SRecords tally = record { records = tally.records; start = Unstated }
 
 -- where a load stands at the front of a chunk
 abbrev pub walk_of : Intake → Walk
@@ -188,15 +188,14 @@ walk_of s =
     }
 
 -- and after one that is used up
-abbrev pub paused : Kind → (tail : Bool) → Walk → Intake
-paused kind tail w =
+abbrev pub paused : Kind → Walk → Intake
+paused kind w =
     record {
       kind = kind;
-      tail = tail;
       line = count_of w.reader;
       used = w.reader.used;
       skipped = if nat_lt w.reader.used 522 then 0 else w.reader.skipped;
       cr = w.reader.cr;
       base = w.base;
-      tally = (way_of kind tail).held w.tally;
+      tally = met_by kind w.tally;
     }

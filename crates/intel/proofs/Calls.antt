@@ -209,14 +209,14 @@ module _ {opts : ReaderOptions} (s : State) (text pool : List ℕ) (r : Replied)
           absurd (omega arith)
 
   -- a line was refused: what is left after it
-  pub record After-refused (e : ReaderError) : Type 0 where
+  pub record AfterRefused (e : ReaderError) : Type 0 where
     pub more : List Numbered
     pub first : unread s text ≡ on r.state.line (wrong (refusal_of e)) ∷ more
     pub left : unread r.state text ≡ (if opts.stop_after_first_error then [] else more)
     pub options : r.state.options ≡ opts
     pub countable : Countable r.state text
 
-  pub after_refused : (e : ReaderError) → r.reply ≡ Refused e → After-refused e
+  pub after_refused : (e : ReaderError) → r.reply ≡ Refused e → AfterRefused e
   unfolding answered stops
   after_refused e q =
       let (more, u) = came_refused e q in

@@ -14,7 +14,7 @@ use Rattle.steps.specs.Steps.{Tally, Verdict, accepted}
 use Rattle.steps.specs.Account.{AllPass}
 use Rattle.steps.specs.Puts as puts
 use Rattle.steps.proofs.Firsts.{AllInside}
-use Rattle.steps.proofs.Puts.{Laid, laid_states, Holding, Puts-after}
+use Rattle.steps.proofs.Puts.{Laid, laid_states, Holding, PutsAfter}
 use Rattle.intel.specs.Placing.{Base, byte_address, stated_by}
 use Rattle.intel.specs.Lines.{record_on, in_force, states, Passes, is_empty, goes_on, Stops, the_end, no_record, first_outside, start_differs, account}
 use Rattle.intel.specs.Sums.{At, Puts, LastPut}
@@ -54,7 +54,7 @@ holding =
 
 -- what lines hold is what they put
 module _ (ls : List (List ℕ)) (n dri a b : ℕ) where
-  pub from_puts : Puts ls n dri a b → Puts-after holding [] ls a n dri b
+  pub from_puts : Puts ls n dri a b → PutsAfter holding [] ls a n dri b
   from_puts p =
       record {
         laid = record { at = byte_address (in_force (take n ls)) p.drlo; bytes = p.bytes };
@@ -64,7 +64,7 @@ module _ (ls : List (List ℕ)) (n dri a b : ℕ) where
         lies = sym (at_only (take n ls) p.drlo dri a p.at);
       }
 
-  pub to_puts : Puts-after holding [] ls a n dri b → Puts ls n dri a b
+  pub to_puts : PutsAfter holding [] ls a n dri b → Puts ls n dri a b
   to_puts p = go (record_on (get_or ls n [])) refl p.there
     where
       go : (o : Option Meaning) → record_on (get_or ls n []) ≡ o → held (in_force (take n ls)) o ≡ some p.laid → Puts ls n dri a b
@@ -87,20 +87,20 @@ lie inside ahead l (goes_on m ne e d i g) = rw (← held_states ahead (record_on
 
 -- what lines put at an address, in Intel's names
 module _ (ls : List (List ℕ)) (a : ℕ) where
-  abbrev pub Put-there : (n dri b : ℕ) → Type 0
-  Put-there n dri b = Puts ls n dri a b
+  abbrev pub PutThere : (n dri b : ℕ) → Type 0
+  PutThere n dri b = Puts ls n dri a b
 
   -- a place of a line has one byte
-  pub one_byte : (n dri b b' : ℕ) → Put-there n dri b → Put-there n dri b' → b ≡ b'
+  pub one_byte : (n dri b b' : ℕ) → PutThere n dri b → PutThere n dri b' → b ≡ b'
   one_byte n dri b b' p q =
       let same : some (data_at p.drlo p.bytes) ≡ some (data_at q.drlo q.bytes) = sym p.there ∙ q.there in
       let bytes : p.bytes ≡ q.bytes = cc in
       sym p.holds ∙ ap (λ (bs : List ℕ). get_or bs dri 0) bytes ∙ q.holds
 
-  pub as_last : {b : ℕ} → puts.LastPut Put-there b → LastPut ls a b
+  pub as_last : {b : ℕ} → puts.LastPut PutThere b → LastPut ls a b
   as_last x = record { line = x.line; dri = x.i; puts = x.puts; none_later = x.none_later }
 
-  pub of_last : {b : ℕ} → LastPut ls a b → puts.LastPut Put-there b
+  pub of_last : {b : ℕ} → LastPut ls a b → puts.LastPut PutThere b
   of_last x = record { line = x.line; i = x.dri; puts = x.puts; none_later = x.none_later }
 
 -- ---- the end

@@ -72,8 +72,8 @@ module _ (inside : ℕ → Bool) where
     Behind base t = Walked (account inside) (ahead ++ (l ∷ [])) (rest base) (suc n) ls (decision inside t (rest base))
 
     -- the steps of a record on line n, and those of the lines after it
-    abbrev from-record : Base → Meaning → List Step
-    from-record base m = does_on n base m ++ rest (base_behind base m)
+    abbrev from_record : Base → Meaning → List Step
+    from_record base m = does_on n base m ++ rest (base_behind base m)
 
     -- a record that states no start agrees with any
     no_start : (a : Meaning) → record_on l ≡ some a → starts (some a) ≡ none → start_on l ≡ none
@@ -88,7 +88,7 @@ module _ (inside : ℕ → Bool) where
     at_data : (offset : ℕ) (bytes : List ℕ) → record_on l ≡ some (data_at offset bytes)
         → Behind (in_force ahead) (one_more tally)
         → (o : Option ℕ) → Seen inside (placed (in_force ahead) offset 0 bytes) o
-        → Walked (account inside) ahead (from-record (in_force ahead) (data_at offset bytes)) n (l ∷ ls) (onward n (met n o tally) (λ t'. decision inside t' (rest (in_force ahead))))
+        → Walked (account inside) ahead (from_record (in_force ahead) (data_at offset bytes)) n (l ∷ ls) (onward n (met n o tally) (λ t'. decision inside t' (rest (in_force ahead))))
     unfolding does base_behind stated states stated_by starts
     at_data offset bytes e ih none s =
         past (account inside) ahead l _ (rest (in_force ahead)) n ls (goes_on (data_at offset bytes) some_byte e (λ q. let z : ◌≡◌ {A = ℕ} 0 1 = cc in omega arith) s (agrees (no_start _ e refl)))
@@ -129,7 +129,7 @@ module _ (inside : ℕ → Bool) where
             sym one ∙ agreed first s (rw so_far at d)
 
     at_record : (a : Meaning) → record_on l ≡ some a → Later a
-        → Walked (account inside) ahead (from-record (in_force ahead) a) n (l ∷ ls) (decision inside tally (from-record (in_force ahead) a))
+        → Walked (account inside) ahead (from_record (in_force ahead) a) n (l ∷ ls) (decision inside tally (from_record (in_force ahead) a))
     unfolding decision turn does base_behind stated states stated_by counts starts
     at_record (data_at offset bytes) e ih =
         at_data offset bytes e

@@ -34,8 +34,8 @@ module _ (f : Base → Base) where
   by_sayings base n ((c ∷ l) ∷ ls) = ap (λ (s : List Step). map (step n) (act (f base) (judge (c ∷ l))) ++ s) (by_sayings (base_after base (judge (c ∷ l))) (suc n) ls)
 
   -- the steps of a record on line n, and those of a row after it
-  abbrev then-row : (n : ℕ) → Base → Meaning → List Numbered → List Step
-  then-row n base m row = does_on n (f base) m ++ along f (base_behind base m) row
+  abbrev then_row : (n : ℕ) → Base → Meaning → List Numbered → List Step
+  then_row n base m row = does_on n (f base) m ++ along f (base_behind base m) row
 
   -- two rows of steps come to the same
   abbrev Alike : (s₁ s₂ : List Step) → Type 0
@@ -52,7 +52,7 @@ module _ (f : Base → Base) where
       go inside t false = h.0 inside (started s t)
 
   cut_record : (n : ℕ) (base : Base) (m : Meaning) (row row' : List Numbered) → (is_end m ≡ false → (b : Base) → Alike (along f b row) (along f b row'))
-      → Alike (then-row n base m row) (then-row n base m row')
+      → Alike (then_row n base m row) (then_row n base m row')
   unfolding does base_behind decision turn stated is_end
   cut_record n base (data_at offset bytes) row row' h = (λ inside t. go inside t (outside inside what), ap (λ (ps : List Placement). what ++ ps) (h refl base).1)
     where
@@ -77,7 +77,7 @@ module _ (f : Base → Base) where
   cut_row (on n (says kind address payload) ∷ rest) base = go (meaning kind address payload) (cut_row rest)
     where
       go : (m : Meaning) → ((b : Base) → Alike (along f b (through_stop default_options rest)) (along f b rest))
-          → Alike (then-row n base m (if is_end m && true then [] else through_stop default_options rest)) (then-row n base m rest)
+          → Alike (then_row n base m (if is_end m && true then [] else through_stop default_options rest)) (then_row n base m rest)
       go m h = cut_record n base m (if is_end m && true then [] else through_stop default_options rest) rest (λ e b. rw e (h b))
 
   pub cut_text : (text : List ℕ) → Alike (along f from_start (row default_options text)) (source.steps_of (intel_by f) text)

@@ -13,17 +13,17 @@ use Rattle.steps.specs.declared.Loading.{Loading}
 use Rattle.steps.specs.declared.Loading.TheVariants.{Accepted, Refused}
 use Rattle.window.specs.Window.{unfit}
 use Rattle.commit.proofs.Claims as committing
-use Rattle.intake.specs.declared.Kind.{Kind}
-use Rattle.intake.specs.declared.Intake.{Intake}
-use Rattle.intake.specs.declared.Reply.{Reply}
-use Rattle.intake.specs.declared.Reply.TheVariants as reply
-use Rattle.intake.specs.declared.Ending.{Ending}
-use Rattle.intake.specs.declared.Ending.TheVariants as ending
-use Rattle.intake.specs.Claims as intake
-use Rattle.intake.specs.Intake.{spoilt}
-use Rattle.intake.specs.Ending.{Finishes}
-use Rattle.intake.proofs.Unique as feeding
-use Rattle.intake.proofs.Finishing as finishing
+use Rattle.intake_tail.specs.declared.Kind.{Kind}
+use Rattle.intake_tail.specs.declared.Intake.{Intake}
+use Rattle.intake_tail.specs.declared.Reply.{Reply}
+use Rattle.intake_tail.specs.declared.Reply.TheVariants as reply
+use Rattle.intake_tail.specs.declared.Ending.{Ending}
+use Rattle.intake_tail.specs.declared.Ending.TheVariants as ending
+use Rattle.intake_tail.specs.Claims as intake
+use Rattle.intake_tail.specs.Intake.{spoilt}
+use Rattle.intake_tail.specs.Ending.{Finishes}
+use Rattle.intake_tail.proofs.Unique as feeding
+use Rattle.intake_tail.proofs.Finishing as finishing
 use Rattle.listen.specs.declared.Listener.{Listener}
 use Rattle.listen.specs.declared.Listener.TheVariants.{Front, Within, Ready}
 use Rattle.listen.specs.declared.Said.{Said}

@@ -22,19 +22,19 @@ use Rattle.window.specs.Window.{unfit, window}
 use Rattle.window.specs.Promises.{Painted}
 use Rattle.window.specs.Load.{load_window}
 use Rattle.commit.proofs.Claims.{commits_as_load}
-use Rattle.intake.specs.declared.Kind.{Kind}
-use Rattle.intake.specs.declared.Intake.{Intake}
-use Rattle.intake.specs.declared.Reply.{Reply}
-use Rattle.intake.specs.declared.Reply.TheVariants as reply
-use Rattle.intake.specs.declared.Ending.{Ending}
-use Rattle.intake.specs.declared.Ending.TheVariants as ending
-use Rattle.intake.specs.Ways.{way_of}
-use Rattle.intake.specs.Intake.{Feeds, new_tail, spoilt}
-use Rattle.intake.specs.Ending.{Finishes}
-use Rattle.intake.specs.Rows.{Row, no_chunk, and_then, opened, cr_before, text_of, AsLoad, UsedThrough, PassedThrough}
-use Rattle.intake.proofs.Before.{joined_one}
-use Rattle.intake.proofs.Rows.{come_to, row_decides, row_ends}
-use Rattle.intake.proofs.Tails.{tail_decides}
+use Rattle.intake_tail.specs.declared.Kind.{Kind}
+use Rattle.intake_tail.specs.declared.Intake.{Intake}
+use Rattle.intake_tail.specs.declared.Reply.{Reply}
+use Rattle.intake_tail.specs.declared.Reply.TheVariants as reply
+use Rattle.intake_tail.specs.declared.Ending.{Ending}
+use Rattle.intake_tail.specs.declared.Ending.TheVariants as ending
+use Rattle.intake_tail.specs.Ways.{way_of}
+use Rattle.intake_tail.specs.Intake.{Feeds, new_tail, spoilt}
+use Rattle.intake_tail.specs.Ending.{Finishes}
+use Rattle.intake_tail.specs.Rows.{Row, no_chunk, and_then, opened, cr_before, text_of, AsLoad, UsedThrough, PassedThrough}
+use Rattle.intake_tail.proofs.Before.{joined_one}
+use Rattle.intake_tail.proofs.Rows.{come_to, row_decides, row_ends}
+use Rattle.intake_tail.proofs.Tails.{tail_decides}
 use Rattle.listen.specs.declared.Blank.{Blank}
 use Rattle.listen.specs.declared.Listener.{Listener}
 use Rattle.listen.specs.declared.Listener.TheVariants.{Front, Within, Ready}
@@ -87,7 +87,7 @@ module _ (kind : Kind) (cr : Bool) (first : ℕ) (carry₀ stage₀ stated₀ : 
   cleared = replicate (length stated₀) 0
 
   -- only bytes of empty lines have come, and nothing was changed
-  pub record Blank-so (bytes : List ℕ) (kind' : Kind) (waits : Bool) (carry stage stated : List ℕ) : Type 0 where
+  pub record BlankSo (bytes : List ℕ) (kind' : Kind) (waits : Bool) (carry stage stated : List ℕ) : Type 0 where
     pub kind_is : kind' ≡ kind
     pub all_blank : blanks cr bytes ≡ record { at = length bytes; cr = waits }
     pub carry_is : carry ≡ carry₀
@@ -95,7 +95,7 @@ module _ (kind : Kind) (cr : Bool) (first : ℕ) (carry₀ stage₀ stated₀ : 
     pub stated_is : stated ≡ stated₀
 
   -- a load is fed the text from the dump's first byte on
-  pub record Dump-so (bytes : List ℕ) (s : Intake) (carry stage stated : List ℕ) : Type 0 where
+  pub record DumpSo (bytes : List ℕ) (s : Intake) (carry stage stated : List ℕ) : Type 0 where
     pub at : ℕ
     pub waits : Bool
     pub begins : blanks cr bytes ≡ record { at = at; cr = waits }
@@ -105,9 +105,9 @@ module _ (kind : Kind) (cr : Bool) (first : ℕ) (carry₀ stage₀ stated₀ : 
     pub rest : joined chunks ≡ drop at bytes
 
   abbrev pub Come : (bytes : List ℕ) → Listener → (carry stage stated : List ℕ) → Type 0
-  Come bytes (Front kind' waits) carry stage stated = Blank-so bytes kind' waits carry stage stated
-  Come bytes (Within s) carry stage stated = Dump-so bytes s carry stage stated
-  Come bytes (Ready kind') carry stage stated = Blank-so bytes kind' false carry stage stated
+  Come bytes (Front kind' waits) carry stage stated = BlankSo bytes kind' waits carry stage stated
+  Come bytes (Within s) carry stage stated = DumpSo bytes s carry stage stated
+  Come bytes (Ready kind') carry stage stated = BlankSo bytes kind' false carry stage stated
 
   come_first : (l₀ : Listener) → BeginsText l₀ kind cr → Come [] l₀ carry₀ stage₀ stated₀
   unfolding blanks
@@ -126,7 +126,7 @@ module _ (kind : Kind) (cr : Bool) (first : ℕ) (carry₀ stage₀ stated₀ : 
         rw (a, b) fit
     fit_there bytes (Ready k) carry stage stated x = rw (x.stage_is, x.stated_is) fit
 
-    module _ (bytes chunk : List ℕ) (kind' : Kind) (waits : Bool) (carry stage stated : List ℕ) (x : Blank-so bytes kind' waits carry stage stated) where
+    module _ (bytes chunk : List ℕ) (kind' : Kind) (waits : Bool) (carry stage stated : List ℕ) (x : BlankSo bytes kind' waits carry stage stated) where
       -- the bytes of the row and a chunk after them
       both_blank : blanks cr (bytes ++ chunk) ≡ after_so_many (length bytes) (blanks waits chunk)
       both_blank = blanks_on cr bytes chunk waits x.all_blank
@@ -173,7 +173,7 @@ module _ (kind : Kind) (cr : Bool) (first : ℕ) (carry₀ stage₀ stated₀ : 
               })
 
     -- more is wanted after a chunk within a dump
-    within_on : (bytes chunk : List ℕ) (s : Intake) (carry stage stated : List ℕ) → Dump-so bytes s carry stage stated → (r : Step) (carry' stage' stated' : List ℕ)
+    within_on : (bytes chunk : List ℕ) (s : Intake) (carry stage stated : List ℕ) → DumpSo bytes s carry stage stated → (r : Step) (carry' stage' stated' : List ℕ)
         → FedTo s 0 (length chunk) chunk carry first stage stated r carry' stage' stated' → r.said ≡ WantsMore → Come (bytes ++ chunk) r.listener carry' stage' stated'
     within_on bytes chunk s carry stage stated x r carry' stage' stated' g more =
         let (s', is, there) = wanted s 0 (length chunk) g.reply (sym (ap (λ (z : Step). z.said) g.answer) ∙ more) in
@@ -208,8 +208,8 @@ module _ (kind : Kind) (cr : Bool) (first : ℕ) (carry₀ stage₀ stated₀ : 
 
     module _ (chunk : List ℕ) (r : Step) (carry' stage' stated' : List ℕ) (answer : Loading) (more page marks : List ℕ) (even : length page ≡ length stage₀) (rows : length marks ≡ length stated₀) where
       -- what is claimed, of a text
-      abbrev Decided-so : (text : List ℕ) → Type 0
-      Decided-so text =
+      abbrev DecidedSo : (text : List ℕ) → Type 0
+      DecidedSo text =
           AsLoad (way_of kind false).source text first page marks stage₀ cleared answer stage' stated'
           × UsedThrough (way_of kind false).source text first page marks answer (drop r.used chunk ++ more)
           × (r.used ≤ length chunk)
@@ -218,7 +218,7 @@ module _ (kind : Kind) (cr : Bool) (first : ℕ) (carry₀ stage₀ stated₀ : 
       -- a load that was fed a part of the chunk has decided, after a row of its own
       by_row : (waits : Bool) (chunks : List (List ℕ)) (s : Intake) (carry stage stated : List ℕ) → Row first (begun kind waits) carry₀ stage₀ cleared chunks s carry stage stated
           → (before : ℕ) (part : List ℕ) → before ≤ length chunk → part ≡ drop before chunk → FedTo s before (length chunk) part carry first stage stated r carry' stage' stated' → r.said ≡ Decided answer
-          → suc (length (text_of waits chunks ++ (part ++ more))) < 2 ^ 64 → Decided-so (text_of waits chunks ++ (part ++ more))
+          → suc (length (text_of waits chunks ++ (part ++ more))) < 2 ^ 64 → DecidedSo (text_of waits chunks ++ (part ++ more))
       by_row waits chunks s carry stage stated row before part fits is g told short =
           let here = come_to kind false waits first carry₀ stage₀ cleared (begun kind waits) refl chunks s carry stage stated row in
           let (used, a, n, there) = decided s before (length chunk) g.reply answer here.tail_is (sym (ap (λ (z : Step). z.said) g.answer) ∙ told) in
@@ -237,13 +237,13 @@ module _ (kind : Kind) (cr : Bool) (first : ℕ) (carry₀ stage₀ stated₀ : 
       short_of text text' e h = subst (λ (t : List ℕ). suc (length t) < 2 ^ 64) e h
 
       -- the dump begins in the chunk
-      front_decides : (bytes : List ℕ) (kind' : Kind) (waits : Bool) (carry stage stated : List ℕ) → Blank-so bytes kind' waits carry stage stated
+      front_decides : (bytes : List ℕ) (kind' : Kind) (waits : Bool) (carry stage stated : List ℕ) → BlankSo bytes kind' waits carry stage stated
           → FromFront kind' waits chunk carry first stage stated r carry' stage' stated' → r.said ≡ Decided answer
-          → suc (length (dump_in cr (bytes ++ (chunk ++ more)))) < 2 ^ 64 → Decided-so (dump_in cr (bytes ++ (chunk ++ more)))
+          → suc (length (dump_in cr (bytes ++ (chunk ++ more)))) < 2 ^ 64 → DecidedSo (dump_in cr (bytes ++ (chunk ++ more)))
       unfolding joined
       front_decides bytes kind' waits carry stage stated x f told short = go (eqb (blanks waits chunk).at (length chunk)) refl
         where
-          go : (t : Bool) → eqb (blanks waits chunk).at (length chunk) ≡ t → Decided-so (dump_in cr (bytes ++ (chunk ++ more)))
+          go : (t : Bool) → eqb (blanks waits chunk).at (length chunk) ≡ t → DecidedSo (dump_in cr (bytes ++ (chunk ++ more)))
           go true e = let said = ap (λ (z : Step). z.said) (f.empty e).0 in let z : ◌≡◌ {A = ℕ} 0 1 = cc in absurd (omega arith)
           go false e =
               let b = blanks waits chunk in
@@ -254,14 +254,14 @@ module _ (kind : Kind) (cr : Bool) (first : ℕ) (carry₀ stage₀ stated₀ : 
               ap (λ (y : Blank). cr_before y.cr ++ drop y.at (bytes ++ (chunk ++ more))) is
               ∙ ap (λ (y : List ℕ). cr_before b.cr ++ y) (drop-append-add bytes (chunk ++ more) b.at ∙ drop-append-le b.at chunk more (omega arith))
               ∙ ap (λ (y : List ℕ). y ++ (drop b.at chunk ++ more)) (sym (append-nil (cr_before b.cr))) in
-              subst Decided-so (sym text)
+              subst DecidedSo (sym text)
               (by_row b.cr [] (begun kind b.cr) carry₀ stage₀ cleared no_chunk b.at (drop b.at chunk) (omega arith) refl
               (begun_so bytes chunk kind' waits carry stage stated x r carry' stage' stated' (f.dump e)) told (short_of _ _ text short))
 
       -- it was begun before
-      within_decides : (bytes : List ℕ) (s : Intake) (carry stage stated : List ℕ) → Dump-so bytes s carry stage stated
+      within_decides : (bytes : List ℕ) (s : Intake) (carry stage stated : List ℕ) → DumpSo bytes s carry stage stated
           → FedTo s 0 (length chunk) chunk carry first stage stated r carry' stage' stated' → r.said ≡ Decided answer
-          → suc (length (dump_in cr (bytes ++ (chunk ++ more)))) < 2 ^ 64 → Decided-so (dump_in cr (bytes ++ (chunk ++ more)))
+          → suc (length (dump_in cr (bytes ++ (chunk ++ more)))) < 2 ^ 64 → DecidedSo (dump_in cr (bytes ++ (chunk ++ more)))
       within_decides bytes s carry stage stated x g told short =
           let h = x.inside in
           let n : (blanks cr bytes).at < length bytes = rw x.begins h in
@@ -269,10 +269,10 @@ module _ (kind : Kind) (cr : Bool) (first : ℕ) (carry₀ stage₀ stated₀ : 
           ap (λ (y : Blank). cr_before y.cr ++ drop y.at (bytes ++ (chunk ++ more))) (blanks_begun cr bytes (chunk ++ more) n ∙ x.begins)
           ∙ ap (λ (y : List ℕ). cr_before x.waits ++ y) (drop-append-le x.at bytes (chunk ++ more) (omega arith) ∙ ap (λ (y : List ℕ). y ++ (chunk ++ more)) (sym x.rest))
           ∙ sym (append_assoc (cr_before x.waits) (joined x.chunks) (chunk ++ more)) in
-          subst Decided-so (sym text) (by_row x.waits x.chunks s carry stage stated x.row 0 chunk (omega arith) refl g told (short_of _ _ text short))
+          subst DecidedSo (sym text) (by_row x.waits x.chunks s carry stage stated x.row 0 chunk (omega arith) refl g told (short_of _ _ text short))
 
       decides_there : (bytes : List ℕ) (l : Listener) (carry stage stated : List ℕ) → Come bytes l carry stage stated → HearsSo l chunk carry first stage stated r carry' stage' stated' → r.said ≡ Decided answer
-          → suc (length (dump_in cr (bytes ++ (chunk ++ more)))) < 2 ^ 64 → Decided-so (dump_in cr (bytes ++ (chunk ++ more)))
+          → suc (length (dump_in cr (bytes ++ (chunk ++ more)))) < 2 ^ 64 → DecidedSo (dump_in cr (bytes ++ (chunk ++ more)))
       decides_there bytes (Front kind' waits) carry stage stated x f told short = front_decides bytes kind' waits carry stage stated x f told short
       decides_there bytes (Within s) carry stage stated x f told short = within_decides bytes s carry stage stated x f told short
       decides_there bytes (Ready kind') carry stage stated x f told short = front_decides bytes kind' false carry stage stated x f told short
@@ -409,14 +409,14 @@ module _ (kind : Kind) (first : ℕ) (carry₀ stage₀ stated₀ : List ℕ) (f
 
   module _ (bytes : List ℕ) (s : Intake) (carry stage stated : List ℕ) (chunks : List (List ℕ)) (row : Row first (new_tail kind) carry₀ stage₀ stated₀ chunks s carry stage stated) (whole : joined chunks ≡ bytes)
       (chunk : List ℕ) (r : Step) (carry' stage' stated' more : List ℕ) (short : suc (length (bytes ++ (chunk ++ more))) < 2 ^ 64) where
-    abbrev Passes-so : Type 0
-    Passes-so =
+    abbrev PassesSo : Type 0
+    PassesSo =
         ((answer : Loading) → r.said ≡ Decided answer → ⊥)
         × (r.said ≡ Passed
         → PassedThrough kind (bytes ++ (chunk ++ more)) (drop r.used chunk ++ more) × (r.used ≤ length chunk) × (r.listener ≡ Front kind false) × (stage' ≡ stage₀) × (Bytes stated₀ → stated' ≡ stated₀))
 
     -- by what the load replied
-    by_reply : (a : Reply) → Feeds s chunk carry first stage stated a carry' stage' stated' → r ≡ step_by s 0 (length chunk) a → Passes-so
+    by_reply : (a : Reply) → Feeds s chunk carry first stage stated a carry' stage' stated' → r ≡ step_by s 0 (length chunk) a → PassesSo
     by_reply (reply.WantsMore s') f e =
         let is = ap (λ (z : Step). z.said) e in
         (λ answer d. let z : ◌≡◌ {A = ℕ} 0 1 = cc in absurd (omega arith), λ p. let z : ◌≡◌ {A = ℕ} 0 1 = cc in absurd (omega arith))
@@ -445,10 +445,10 @@ module _ (kind : Kind) (first : ℕ) (carry₀ stage₀ stated₀ : List ℕ) (f
         (λ answer d. let z : ◌≡◌ {A = ℕ} 0 1 = cc in absurd (omega arith), λ p. let z : ◌≡◌ {A = ℕ} 0 1 = cc in absurd (omega arith))
 
     -- with 18 nothing is decided
-    by_tests : Hears (Within s) chunk carry first stage stated r carry' stage' stated' → Passes-so
+    by_tests : Hears (Within s) chunk carry first stage stated r carry' stage' stated' → PassesSo
     by_tests h = go (too_small (Within s) (length carry)) refl
       where
-        go : (t : Bool) → too_small (Within s) (length carry) ≡ t → Passes-so
+        go : (t : Bool) → too_small (Within s) (length carry) ≡ t → PassesSo
         go true t =
             let is = ap (λ (z : Step). z.said) (h.small t).answer in
             (λ answer d. let z : ◌≡◌ {A = ℕ} 0 1 = cc in absurd (omega arith), λ p. let z : ◌≡◌ {A = ℕ} 0 1 = cc in absurd (omega arith))

@@ -10,10 +10,10 @@ use lib.ListN.{length}
 use lib.Seq.{drop-length}
 use Rattle.steps.specs.Steps.{Verdict, accepted, refused, stated}
 use Rattle.steps.specs.Source.{Source}
-use Rattle.intake.specs.Past.{EndsAlike}
+use Rattle.intake_tail.specs.Past.{EndsAlike}
 use Rattle.listen.specs.Listen.{Mode, front, within, skipping, Saying, said, reaching, mode_after, Listened, first, is_end, listen, pause, stretch, listen_on}
 use Rattle.listen.specs.Skipping.{dump_steps, NoneEnds}
-use Rattle.listen.specs.Claims.{IsDump, Good, says_load, in_a_row, Row-is-said, Tail-is-skipped, One-is-lost, None-is-lost, Never-two, Known-after-a-pause, GoodAreSaid, TailNeverReady, CostsOne, NoneAfterAPause}
+use Rattle.listen.specs.Claims.{IsDump, Good, says_load, in_a_row, RowIsSaid, TailIsSkipped, OneIsLost, NoneIsLost, NeverTwo, KnownAfterAPause, GoodAreSaid, TailNeverReady, CostsOne, NoneAfterAPause}
 use Rattle.listen.proofs.Following.{listen_append}
 use Rattle.listen.proofs.Fronts.{front_decides}
 use Rattle.listen.proofs.Exactly.{has_byte, skips_on, skips_last, skips_all}
@@ -39,7 +39,7 @@ module _ {S : Type 0} (src : Source S) (inside : ℕ → Bool) where
   said_first ls more v i =
       listen_append src inside front ls more ∙ ap (λ (h : Listened S). first h.says (listen src inside h.mode more)) (alone ls v i)
 
-  row_is_said : Row-is-said src inside
+  row_is_said : RowIsSaid src inside
   unfolding in_a_row
   row_is_said [] more = refl
   row_is_said (d ∷ ds) more =
@@ -59,13 +59,13 @@ module _ {S : Type 0} (src : Source S) (inside : ℕ → Bool) where
     closed : (d : Good src inside) → Closed src d.lines
     closed d = good_closed src inside d.lines d.tally d.is_dump.decided alike
 
-    tail_is_skipped : Tail-is-skipped src inside
+    tail_is_skipped : TailIsSkipped src inside
     unfolding listen
     tail_is_skipped ahead tail more t e ne =
         let c = closed_tail src ahead tail ne (good_closed src inside (ahead ++ tail) t e alike) in
         (ap (listen src inside skipping) (sym (append-nil tail)) ∙ skips_closed tail [] c, skips_closed tail more c)
 
-    one_is_lost : One-is-lost src inside
+    one_is_lost : OneIsLost src inside
     unfolding in_a_row
     one_is_lost dump noise r n d ds more i h =
         said_first dump (noise ++ (in_a_row src inside (d ∷ ds) ++ more)) (refused r n) i
@@ -75,7 +75,7 @@ module _ {S : Type 0} (src : Source S) (inside : ℕ → Bool) where
         ∙ skips_closed d.lines (in_a_row src inside ds ++ more) (closed d)
         ∙ row_is_said ds more)
 
-    none_is_lost : None-is-lost src inside
+    none_is_lost : NoneIsLost src inside
     none_is_lost dump noise line r n ds more i h e =
         said_first dump (noise ++ (line ∷ (in_a_row src inside ds ++ more))) (refused r n) i
         ∙ ap (first (said (refused r n) [] ∷ []))
@@ -107,7 +107,7 @@ module _ {S : Type 0} (src : Source S) (inside : ℕ → Bool) where
     not_empty [] later c e = c
     not_empty (x ∷ ls) later c e = let z : ◌≡◌ {A = ℕ} 0 1 = cc in omega arith
 
-    never_two : Never-two src inside
+    never_two : NeverTwo src inside
     never_two ahead before later line d h e =
         let c = closed d in
         let (ahead', h', e') = from_there ahead before (d.lines ++ later) line h (not_empty d.lines later c) e in
@@ -120,7 +120,7 @@ module _ {S : Type 0} (src : Source S) (inside : ℕ → Bool) where
   paused (within n st) = refl
   paused skipping = refl
 
-  known_after_a_pause : Known-after-a-pause src inside
+  known_after_a_pause : KnownAfterAPause src inside
   unfolding listen_on
   known_after_a_pause m ls later ds more = (
     ap (λ (x : Mode S). first (stretch src inside m ls).says (listen_on src inside x later)) (paused (listen src inside m ls).mode),

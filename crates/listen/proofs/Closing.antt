@@ -17,10 +17,10 @@ use Rattle.steps.specs.Source as source
 use Rattle.steps.specs.Taken.{Standing, at_first, Went, on, stopped, placed_by, onward, acted, at_line}
 use Rattle.steps.proofs.Source.{count_refuses, start_refuses}
 use Rattle.steps.proofs.Taken.{acts_are}
-use Rattle.intake.specs.Past.{ends, EndsAlike}
+use Rattle.intake_tail.specs.Past.{ends, EndsAlike}
 use Rattle.listen.specs.Listen.{is_end}
 use Rattle.listen.specs.Claims.{DecidedByLast}
-use Rattle.listen.proofs.Following.{onward-steps, acts, after, Comes, same_decision}
+use Rattle.listen.proofs.Following.{onward_steps, acts, after, Comes, same_decision}
 
 -- ---- actions
 
@@ -80,12 +80,12 @@ module _ {S : Type 0} (src : Source S) where
   Met (c ∷ l) b = (s : S) × (ends (src.act s (c ∷ l)) ≡ b) × ((r : Refusal) → src.act s (c ∷ l) ≢ fails r ∷ [])
 
   -- all lines were met, and the last is an end record and no other is
-  abbrev pub All-met : List (List ℕ) → Type 0
-  All-met [] = ⊥
-  All-met (line ∷ []) = Met line true
-  All-met (line ∷ (line' ∷ ls)) = Met line false × All-met (line' ∷ ls)
+  abbrev pub AllMet : List (List ℕ) → Type 0
+  AllMet [] = ⊥
+  AllMet (line ∷ []) = Met line true
+  AllMet (line ∷ (line' ∷ ls)) = Met line false × AllMet (line' ∷ ls)
 
-  met_more : (line : List ℕ) (ls : List (List ℕ)) → Met line false → All-met ls → All-met (line ∷ ls)
+  met_more : (line : List ℕ) (ls : List (List ℕ)) → Met line false → AllMet ls → AllMet (line ∷ ls)
   met_more line [] e h = absurd h
   met_more line (line' ∷ ls) e h = (e, h)
 
@@ -93,14 +93,14 @@ module _ {S : Type 0} (src : Source S) where
 
   module _ (inside : ℕ → Bool) where
     abbrev Accepts : (n : ℕ) → Standing S → List (List ℕ) → Tally → Type 0
-    Accepts n st ls t = decision inside st.tally (onward-steps src inside n st ls) ≡ some (by (n + length ls) (accepted t))
+    Accepts n st ls t = decision inside st.tally (onward_steps src inside n st ls) ≡ some (by (n + length ls) (accepted t))
 
     -- a line that is refused stops the load with that refusal
     stops : (n : ℕ) (st : Standing S) (line : List ℕ) (r : Refusal) → src.act st.state line ≡ fails r ∷ [] → at_line src inside n st line ≡ stopped (refused r n) st.stated
     unfolding at_line acted turn
     stops n st line r q = rw q
 
-    pub all_met : (ls : List (List ℕ)) (n : ℕ) (st : Standing S) (t : Tally) → Accepts n st ls t → All-met ls
+    pub all_met : (ls : List (List ℕ)) (n : ℕ) (st : Standing S) (t : Tally) → Accepts n st ls t → AllMet ls
     unfolding source.steps decision at_line
     all_met [] n st t e = let z : ◌≡◌ {A = ℕ} 0 1 = cc in absurd (omega arith)
     all_met ([] ∷ ls) n st t e = met_more [] ls refl (all_met ls (suc n) st t (e ∙ ap (λ (j : ℕ). some (by j (accepted t))) (omega arith)))
@@ -108,12 +108,12 @@ module _ {S : Type 0} (src : Source S) where
         go (at_line src inside (suc n) st (c ∷ l)) refl (λ later. acts_are inside (suc n) (after src inside n st c l) (acts src inside n st c l) st.tally st.stated later)
         (acts_end inside (suc n) (after src inside n st c l) (acts src inside n st c l) st.tally st.stated) (all_met ls (suc n))
       where
-        alone : (ls : List (List ℕ)) → length ls ≡ 0 → Met (c ∷ l) true → All-met ((c ∷ l) ∷ ls)
+        alone : (ls : List (List ℕ)) → length ls ≡ 0 → Met (c ∷ l) true → AllMet ((c ∷ l) ∷ ls)
         alone [] q h = h
         alone (x ∷ xs) q h = absurd (omega arith)
 
         go : (w : Went S) → at_line src inside (suc n) st (c ∷ l) ≡ w → Comes src inside n st c l w → EndsSo inside (suc n) (acts src inside n st c l) w
-            → ((st' : Standing S) (t : Tally) → Accepts (suc n) st' ls t → All-met ls) → All-met ((c ∷ l) ∷ ls)
+            → ((st' : Standing S) (t : Tally) → Accepts (suc n) st' ls t → AllMet ls) → AllMet ((c ∷ l) ∷ ls)
         go (on st') p are es ih =
             met_more (c ∷ l) ls (st.state, es, λ r q. let f = stops (suc n) st (c ∷ l) r q in let z : ◌≡◌ {A = ℕ} 0 1 = cc in omega arith)
             (ih st' t (sym (same_decision src inside n st c l st' p are ls) ∙ e ∙ ap (λ (j : ℕ). some (by j (accepted t))) (omega arith)))
@@ -124,7 +124,7 @@ module _ {S : Type 0} (src : Source S) where
             alone ls (omega arith) (st.state, es t q, λ r g. let f' = stops (suc n) st (c ∷ l) r g in let z : ◌≡◌ {A = ℕ} 0 1 = cc in omega arith)
 
   -- each of them was met
-  pub met_there : (ahead later : List (List ℕ)) (line : List ℕ) → All-met (ahead ++ (line ∷ later)) → (b : Bool) × Met line b
+  pub met_there : (ahead later : List (List ℕ)) (line : List ℕ) → AllMet (ahead ++ (line ∷ later)) → (b : Bool) × Met line b
   met_there [] [] line h = (true, h)
   met_there [] (x ∷ later) line h = (false, h.0)
   met_there (a ∷ []) later line h = met_there [] later line h.1
@@ -152,14 +152,14 @@ module _ {S : Type 0} (src : Source S) where
     end_there [] b m = sym m
     end_there (c ∷ l) b m = alike src.beginning m.0 (c ∷ l) ∙ m.1
 
-    closes : (ls : List (List ℕ)) → All-met ls → Closed ls
+    closes : (ls : List (List ℕ)) → AllMet ls → Closed ls
     closes [] h = h
     closes (line ∷ []) h = end_there line true h
     closes (line ∷ (line' ∷ ls)) h = (end_there line false h.0, closes (line' ∷ ls) h.1)
 
 -- the lines that a load accepts by the last of them
 module _ {S : Type 0} (src : Source S) (inside : ℕ → Bool) (ls : List (List ℕ)) (t : Tally) (e : DecidedByLast src inside ls (accepted t)) where
-  pub good_met : All-met src ls
+  pub good_met : AllMet src ls
   good_met = all_met src inside ls 0 (at_first src) t (e ∙ ap (λ (j : ℕ). some (by j (accepted t))) (omega arith))
 
   pub good_closed : EndsAlike src → Closed src ls

@@ -21,10 +21,10 @@ use Rattle.steps.specs.Steps.{fails, nothing_yet, Tally, accepted, by, decision}
 use Rattle.steps.specs.Source.{Source}
 use Rattle.intel.specs.Placing.{act, intel_by, intel}
 use Rattle.srecload.specs.Placing.{s_act, s_records}
-use Rattle.intake.specs.Past.{EndsAlike}
+use Rattle.intake_tail.specs.Past.{EndsAlike}
 use Rattle.listen.specs.Listen.{front, skipping, Listened, silent, is_end, listen}
 use Rattle.listen.specs.Skipping.{dump_steps}
-use Rattle.listen.specs.Claims.{DecidedByLast, EndsWhole, Cut-tail-is-skipped, CutTailNeverReady, HexEndsWhole, SRecordsEndWhole}
+use Rattle.listen.specs.Claims.{DecidedByLast, EndsWhole, CutTailIsSkipped, CutTailNeverReady, HexEndsWhole, SRecordsEndWhole}
 use Rattle.listen.proofs.Exactly.{skips_on}
 use Rattle.listen.proofs.Closing.{Met, met_there, good_met}
 use Rattle.listen.proofs.Claims.{tail_never_ready}
@@ -62,7 +62,7 @@ module _ {S : Type 0} (src : Source S) (inside : ℕ → Bool) (alike : EndsAlik
         let ne : later ≢ [] = λ p. let z : ◌≡◌ {A = ℕ} 0 1 = cc in omega arith in
         ap (λ (h : Listened S). h.says) (the_rest [] ne).0
 
-  cut_tail_is_skipped : Cut-tail-is-skipped src inside
+  cut_tail_is_skipped : CutTailIsSkipped src inside
   cut_tail_is_skipped ahead later more c lost kept t e = (
     ap (λ (h : Listened S). h.says) (passes ahead later c lost kept t e later) ∙ silently ahead later c lost kept t e later refl,
     λ ne. passes ahead later c lost kept t e (later ++ more) ∙ (the_rest ahead later c lost kept t e more ne).1,

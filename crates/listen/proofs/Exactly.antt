@@ -76,22 +76,22 @@ module _ {S : Type 0} (src : Source S) (inside : ℕ → Bool) where
 
   -- ---- the decisions say something of all lines
 
-  abbrev Says-some : (from : Place) → List (List ℕ) → Type 0
-  Says-some from ls = (ss : List Saying) × (to : Place) × HeardAs src inside from ls ss to
+  abbrev SaysSome : (from : Place) → List (List ℕ) → Type 0
+  SaysSome from ls = (ss : List Saying) × (to : Place) × HeardAs src inside from ls ss to
 
-  abbrev Says-both : List (List ℕ) → Type 0
-  Says-both ls = Says-some beginning ls × Says-some unknown ls
+  abbrev SaysBoth : List (List ℕ) → Type 0
+  SaysBoth ls = SaysSome beginning ls × SaysSome unknown ls
 
-  at_place : (v : Verdict) (ls : List (List ℕ)) → Says-both ls → Says-some (place_after v) ls
+  at_place : (v : Verdict) (ls : List (List ℕ)) → SaysBoth ls → SaysSome (place_after v) ls
   at_place (accepted t) ls h = h.0
   at_place (refused r n) ls h = h.1
 
   -- at a beginning
-  some_front : (b : ℕ) (line : List ℕ) (ls : List (List ℕ)) → length ls ≤ b → ((ls' : List (List ℕ)) → length ls' ≤ b → Says-both ls') → Says-some beginning (line ∷ ls)
+  some_front : (b : ℕ) (line : List ℕ) (ls : List (List ℕ)) → length ls ≤ b → ((ls' : List (List ℕ)) → length ls' ≤ b → SaysBoth ls') → SaysSome beginning (line ∷ ls)
   some_front b [] ls h ih = let (ss, to, x) = (ih ls h).0 in (ss, to, empty_line ls ss to x)
   some_front b (c ∷ l) ls h ih = go (decision inside nothing_yet (dump_steps src ((c ∷ l) ∷ ls))) refl
     where
-      go : (o : Option Decision) → decision inside nothing_yet (dump_steps src ((c ∷ l) ∷ ls)) ≡ o → Says-some beginning ((c ∷ l) ∷ ls)
+      go : (o : Option Decision) → decision inside nothing_yet (dump_steps src ((c ∷ l) ∷ ls)) ≡ o → SaysSome beginning ((c ∷ l) ∷ ls)
       go none e = ([], midway, undecided (c ∷ l) ls (has_byte c l) e)
       go (some (by n v)) e =
           let d = front_decides src inside (c ∷ l) ls n v (has_byte c l) e in
@@ -107,17 +107,17 @@ module _ {S : Type 0} (src : Source S) (inside : ℕ → Bool) where
       skipped (line ∷ ahead) last later (line ∷ ls') ss' to' (e, h) f (ap (λ (y : List (List ℕ)). line ∷ y) w) x
 
   -- at an unknown place
-  some_unknown : (line : List ℕ) (ls : List (List ℕ)) → Says-both ls → Says-some unknown (line ∷ ls)
+  some_unknown : (line : List ℕ) (ls : List (List ℕ)) → SaysBoth ls → SaysSome unknown (line ∷ ls)
   some_unknown line ls ih = go (is_end src line) refl
     where
-      go : (b : Bool) → is_end src line ≡ b → Says-some unknown (line ∷ ls)
+      go : (b : Bool) → is_end src line ≡ b → SaysSome unknown (line ∷ ls)
       go true e = let (ss, to, x) = ih.0 in (ss, to, skipped [] line ls (line ∷ ls) ss to tt e refl x)
       go false e = let (ss, to, x) = ih.1 in (ss, to, one_more line ls ss to e x)
 
-  none_said : Says-both []
+  none_said : SaysBoth []
   none_said = (([], beginning, no_line), ([], unknown, all_skipped [] tt))
 
-  some_said : (b : ℕ) (ls : List (List ℕ)) → length ls ≤ b → Says-both ls
+  some_said : (b : ℕ) (ls : List (List ℕ)) → length ls ≤ b → SaysBoth ls
   some_said zero [] h = none_said
   some_said zero (line ∷ ls) h = absurd (omega arith)
   some_said (suc b) [] h = none_said
@@ -126,7 +126,7 @@ module _ {S : Type 0} (src : Source S) (inside : ℕ → Bool) where
 
   -- ---- so nothing else is heard
 
-  only : (from : Place) (ls : List (List ℕ)) (ss : List Saying) (to : Place) → Says-some from ls → CameTo (listen src inside (mode_at from) ls) ss to → HeardAs src inside from ls ss to
+  only : (from : Place) (ls : List (List ℕ)) (ss : List Saying) (to : Place) → SaysSome from ls → CameTo (listen src inside (mode_at from) ls) ss to → HeardAs src inside from ls ss to
   only from ls ss to (ss', to', x) c =
       let d = sound from ls ss' to' x in
       let p : ss' ≡ ss = sym d.0 ∙ c.0 in

@@ -30,15 +30,15 @@ module _ {S : Type 0} (src : Source S) (inside : ℕ → Bool) where
   -- ---- from within a dump, after n of its lines
 
   -- the steps of the lines from there on
-  abbrev pub onward-steps : (n : ℕ) → Standing S → List (List ℕ) → List Step
-  onward-steps n st ls = steps src st.state (suc n) ls
+  abbrev pub onward_steps : (n : ℕ) → Standing S → List (List ℕ) → List Step
+  onward_steps n st ls = steps src st.state (suc n) ls
 
   -- no line decides
   pub record Waits (n : ℕ) (st : Standing S) (ls : List (List ℕ)) : Type 0 where
     pub lines : ℕ
     pub standing : Standing S
     pub heard : listen src inside (within n st) ls ≡ silent (within lines standing)
-    pub undecided : decision inside st.tally (onward-steps n st ls) ≡ none
+    pub undecided : decision inside st.tally (onward_steps n st ls) ≡ none
 
   -- the line decides with which the first k of them end, and this was stated, whatever follows
   pub record Decides (n : ℕ) (st : Standing S) (ls : List (List ℕ)) : Type 0 where
@@ -48,8 +48,8 @@ module _ {S : Type 0} (src : Source S) (inside : ℕ → Bool) where
     pub verdict : Verdict
     pub reached : List Placement
     pub heard : listen src inside (within n st) ls ≡ first (said verdict (reaching verdict reached) ∷ []) (listen src inside (mode_after verdict) (drop k ls))
-    pub decides : (more : List (List ℕ)) → decision inside st.tally (onward-steps n st (take k ls ++ more)) ≡ some (by (n + k) verdict)
-    pub states : (more : List (List ℕ)) (t : Tally) → verdict ≡ accepted t → st.stated ++ stated (onward-steps n st (take k ls ++ more)) ≡ reached
+    pub decides : (more : List (List ℕ)) → decision inside st.tally (onward_steps n st (take k ls ++ more)) ≡ some (by (n + k) verdict)
+    pub states : (more : List (List ℕ)) (t : Tally) → verdict ≡ accepted t → st.stated ++ stated (onward_steps n st (take k ls ++ more)) ≡ reached
 
   abbrev pub Follows : (n : ℕ) → Standing S → List (List ℕ) → Type 0
   Follows n st ls = Waits n st ls ⊎ Decides n st ls
@@ -85,11 +85,11 @@ module _ {S : Type 0} (src : Source S) (inside : ℕ → Bool) where
 
     -- it lets the dump go on, to this standing
     module _ (st' : Standing S) (e : at_line src inside (suc n) st (c ∷ l) ≡ on st') (are : Comes (on st')) where
-      pub same_decision : (ls : List (List ℕ)) → decision inside st.tally (onward-steps n st ((c ∷ l) ∷ ls)) ≡ decision inside st'.tally (onward-steps (suc n) st' ls)
+      pub same_decision : (ls : List (List ℕ)) → decision inside st.tally (onward_steps n st ((c ∷ l) ∷ ls)) ≡ decision inside st'.tally (onward_steps (suc n) st' ls)
       unfolding steps
       same_decision ls = (are (steps src after (suc (suc n)) ls)).1 ∙ ap (λ (s : S). decision inside st'.tally (steps src s (suc (suc n)) ls)) (sym (are []).0)
 
-      same_stated : (ls : List (List ℕ)) → st.stated ++ stated (onward-steps n st ((c ∷ l) ∷ ls)) ≡ st'.stated ++ stated (onward-steps (suc n) st' ls)
+      same_stated : (ls : List (List ℕ)) → st.stated ++ stated (onward_steps n st ((c ∷ l) ∷ ls)) ≡ st'.stated ++ stated (onward_steps (suc n) st' ls)
       unfolding steps
       same_stated ls = (are (steps src after (suc (suc n)) ls)).2 ∙ ap (λ (s : S). st'.stated ++ stated (steps src s (suc (suc n)) ls)) (sym (are []).0)
 

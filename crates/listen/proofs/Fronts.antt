@@ -23,13 +23,13 @@ module _ {S : Type 0} (src : Source S) (inside : ℕ → Bool) where
   as_within (c ∷ l) ls ne = refl
 
   -- no line decides
-  pub record Front-waits (ls : List (List ℕ)) : Type 0 where
+  pub record FrontWaits (ls : List (List ℕ)) : Type 0 where
     pub lines : ℕ
     pub standing : Standing S
     pub heard : listen src inside front ls ≡ silent (within lines standing)
 
   -- line n decides, as it does where the lines end with it
-  pub record Front-decides (ls : List (List ℕ)) (n : ℕ) (v : Verdict) : Type 0 where
+  pub record FrontDecides (ls : List (List ℕ)) (n : ℕ) (v : Verdict) : Type 0 where
     pub some_line : 0 < n
     pub there : n ≤ length ls
     pub heard : listen src inside front ls ≡ first (said v (reaching v (stated (dump_steps src ls))) ∷ []) (listen src inside (mode_after v) (drop n ls))
@@ -57,7 +57,7 @@ module _ {S : Type 0} (src : Source S) (inside : ℕ → Bool) where
         reached_by d.verdict (stated (dump_steps src (take d.k ls))) d.reached
         (λ t q. ap (λ (x : List (List ℕ)). stated (dump_steps src x)) (sym (append-nil (take d.k ls))) ∙ d.states [] t q)
 
-    decided_so : listen src inside front ls ≡ listen src inside (within 0 (at_first src)) ls → Front-decides ls d.k d.verdict
+    decided_so : listen src inside front ls ≡ listen src inside (within 0 (at_first src)) ls → FrontDecides ls d.k d.verdict
     decided_so e =
         record {
           some_line = d.some_line;
@@ -67,18 +67,18 @@ module _ {S : Type 0} (src : Source S) (inside : ℕ → Bool) where
           states = reached_alone ∙ reached_all;
         }
 
-  pub front_waits : (line : List ℕ) (ls : List (List ℕ)) → line ≢ [] → decision inside nothing_yet (dump_steps src (line ∷ ls)) ≡ none → Front-waits (line ∷ ls)
+  pub front_waits : (line : List ℕ) (ls : List (List ℕ)) → line ≢ [] → decision inside nothing_yet (dump_steps src (line ∷ ls)) ≡ none → FrontWaits (line ∷ ls)
   front_waits line ls ne e = go (follow src inside (line ∷ ls) 0 (at_first src))
     where
-      go : Follows src inside 0 (at_first src) (line ∷ ls) → Front-waits (line ∷ ls)
+      go : Follows src inside 0 (at_first src) (line ∷ ls) → FrontWaits (line ∷ ls)
       go (inl w) = record { lines = w.lines; standing = w.standing; heard = as_within line ls ne ∙ w.heard }
       go (inr d) = let f = followed (line ∷ ls) d in let z : ◌≡◌ {A = ℕ} 0 1 = cc in absurd (omega arith)
 
   pub front_decides : (line : List ℕ) (ls : List (List ℕ)) (n : ℕ) (v : Verdict) → line ≢ []
-      → decision inside nothing_yet (dump_steps src (line ∷ ls)) ≡ some (by n v) → Front-decides (line ∷ ls) n v
+      → decision inside nothing_yet (dump_steps src (line ∷ ls)) ≡ some (by n v) → FrontDecides (line ∷ ls) n v
   front_decides line ls n v ne e = go (follow src inside (line ∷ ls) 0 (at_first src))
     where
-      go : Follows src inside 0 (at_first src) (line ∷ ls) → Front-decides (line ∷ ls) n v
+      go : Follows src inside 0 (at_first src) (line ∷ ls) → FrontDecides (line ∷ ls) n v
       go (inl w) = let u : decision inside nothing_yet (dump_steps src (line ∷ ls)) ≡ none = w.undecided in let z : ◌≡◌ {A = ℕ} 0 1 = cc in absurd (omega arith)
       go (inr d) =
           let f = followed (line ∷ ls) d in

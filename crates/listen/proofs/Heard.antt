@@ -19,17 +19,17 @@ use Rattle.steps.specs.Source.{Source, steps_of}
 use Rattle.steps.specs.Told.{told_loading}
 use Rattle.window.specs.Window.{unfit, within}
 use Rattle.window.proofs.Loads.{load_answer}
-use Rattle.intake.specs.declared.Kind.{Kind}
-use Rattle.intake.specs.declared.Kind.TheVariants.{Hex, SRecords}
-use Rattle.intake.specs.declared.Reply.{Reply}
-use Rattle.intake.specs.declared.Reply.TheVariants as reply
-use Rattle.intake.specs.Past.{past}
-use Rattle.intake.specs.Intake.{Feeds, new_tail}
-use Rattle.intake.specs.declared.Intake.{Intake}
-use Rattle.intake.specs.Ways.{way_of}
-use Rattle.intake.specs.Rows.{Row, cr_before, text_of, AsLoad}
-use Rattle.intake.proofs.Following.{stops_fit}
-use Rattle.intake.proofs.Rows.{row_decides, row_waits}
+use Rattle.intake_tail.specs.declared.Kind.{Kind}
+use Rattle.intake_tail.specs.declared.Kind.TheVariants.{Hex, SRecords}
+use Rattle.intake_tail.specs.declared.Reply.{Reply}
+use Rattle.intake_tail.specs.declared.Reply.TheVariants as reply
+use Rattle.intake_tail.specs.Past.{past}
+use Rattle.intake_tail.specs.Intake.{Feeds, new_tail}
+use Rattle.intake_tail.specs.declared.Intake.{Intake}
+use Rattle.intake_tail.specs.Ways.{way_of}
+use Rattle.intake_tail.specs.Rows.{Row, cr_before, text_of, AsLoad}
+use Rattle.intake_tail.proofs.Following.{stops_fit}
+use Rattle.intake_tail.proofs.Rows.{row_decides, row_waits}
 use Rattle.listen.specs.declared.Blank.{Blank}
 use Rattle.listen.specs.declared.Listener.{Listener}
 use Rattle.listen.specs.declared.Listener.TheVariants.{Front, Within, Ready}
@@ -42,7 +42,7 @@ use Rattle.listen.specs.Calls.{dump_in, DumpIsHeard, EndIsHeard, TailIsHeard}
 use Rattle.listen.specs.Texts.{WaitsForMore}
 use Rattle.listen.proofs.Blanks.{after_so_many, blanks_on, blanks_begun, blanks_begin}
 use Rattle.listen.proofs.Texts.{drops_empty_lines, hears_a_dump, hears_a_tail, pauses_in_a_dump}
-use Rattle.listen.proofs.Calls.{Blank-so, Come, come, fit_there, open_decided, dump_decides, dump_ends, Passing, passing, tail_fit}
+use Rattle.listen.proofs.Calls.{BlankSo, Come, come, fit_there, open_decided, dump_decides, dump_ends, Passing, passing, tail_fit}
 
 -- ---- the dump in a text
 
@@ -113,14 +113,14 @@ begins_so cr (c ∷ bytes) h = go (eqb c LF) refl (eqb c CR) refl cr (λ x. begi
 -- ---- a dump that is decided has begun
 
 module _ (kind : Kind) (cr : Bool) (first : ℕ) (carry₀ stage₀ stated₀ : List ℕ) (bytes chunk more : List ℕ) (r : Step) (carry' stage' stated' : List ℕ) (answer : Loading) (told : r.said ≡ Decided answer) where
-  abbrev Has-begun : Type 0
-  Has-begun = (blanks cr (bytes ++ (chunk ++ more))).at < length (bytes ++ (chunk ++ more))
+  abbrev HasBegun : Type 0
+  HasBegun = (blanks cr (bytes ++ (chunk ++ more))).at < length (bytes ++ (chunk ++ more))
 
-  begun_front : (kind' : Kind) (waits : Bool) (carry stage stated : List ℕ) → Blank-so kind cr first carry₀ stage₀ stated₀ bytes kind' waits carry stage stated
-      → FromFront kind' waits chunk carry first stage stated r carry' stage' stated' → Has-begun
+  begun_front : (kind' : Kind) (waits : Bool) (carry stage stated : List ℕ) → BlankSo kind cr first carry₀ stage₀ stated₀ bytes kind' waits carry stage stated
+      → FromFront kind' waits chunk carry first stage stated r carry' stage' stated' → HasBegun
   begun_front kind' waits carry stage stated x f = go (eqb (blanks waits chunk).at (length chunk)) refl
     where
-      go : (t : Bool) → eqb (blanks waits chunk).at (length chunk) ≡ t → Has-begun
+      go : (t : Bool) → eqb (blanks waits chunk).at (length chunk) ≡ t → HasBegun
       go true e = let said-is = ap (λ (z : Step). z.said) (f.empty e).0 in let z : ◌≡◌ {A = ℕ} 0 1 = cc in absurd (omega arith)
       go false e =
           let h = blanks_begin waits chunk e in
@@ -128,7 +128,7 @@ module _ (kind : Kind) (cr : Bool) (first : ℕ) (carry₀ stage₀ stated₀ : 
           ap (λ (b : Blank). b.at) (blanks_on cr bytes (chunk ++ more) waits x.all_blank ∙ ap (after_so_many (length bytes)) (blanks_begun waits chunk more h)) in
           omega (arith, h, n, length-append bytes (chunk ++ more), length-append chunk more)
 
-  begun_there : (l : Listener) (carry stage stated : List ℕ) → Come kind cr first carry₀ stage₀ stated₀ bytes l carry stage stated → HearsSo l chunk carry first stage stated r carry' stage' stated' → Has-begun
+  begun_there : (l : Listener) (carry stage stated : List ℕ) → Come kind cr first carry₀ stage₀ stated₀ bytes l carry stage stated → HearsSo l chunk carry first stage stated r carry' stage' stated' → HasBegun
   begun_there (Front kind' waits) carry stage stated x f = begun_front kind' waits carry stage stated x f
   begun_there (Ready kind') carry stage stated x f = begun_front kind' false carry stage stated x f
   begun_there (Within s) carry stage stated x f =
@@ -206,13 +206,13 @@ past_so SRecords inside text n v e = e
 
 module _ (kind : Kind) (first : ℕ) (carry₀ stage₀ stated₀ : List ℕ) (fit : unfit first (length stage₀) (length stated₀) ≡ false) (bytes : List ℕ) (chunk : List ℕ) (r : Step) (carry' stage' stated' : List ℕ)
     (told : r.said ≡ Passed) (more : List ℕ) (short : suc (length (bytes ++ (chunk ++ more))) < 2 ^ 64) where
-  abbrev Heard-on : Type 0
-  Heard-on =
+  abbrev HeardOn : Type 0
+  HeardOn =
       listen (way_of kind false).source (within first (length stage₀)) skipping (lines (bytes ++ (chunk ++ more)))
       ≡ listen (way_of kind false).source (within first (length stage₀)) front (lines (drop r.used chunk ++ more))
 
   module _ (s : Intake) (carry stage stated : List ℕ) (chunks : List (List ℕ)) (row : Row first (new_tail kind) carry₀ stage₀ stated₀ chunks s carry stage stated) (whole : joined chunks ≡ bytes) where
-    by_reply : (a : Reply) → Feeds s chunk carry first stage stated a carry' stage' stated' → r ≡ step_by s 0 (length chunk) a → Heard-on
+    by_reply : (a : Reply) → Feeds s chunk carry first stage stated a carry' stage' stated' → r ≡ step_by s 0 (length chunk) a → HeardOn
     by_reply (reply.WantsMore s') f e = let is = ap (λ (z : Step). z.said) e in let z : ◌≡◌ {A = ℕ} 0 1 = cc in absurd (omega arith)
     by_reply reply.CarryTooSmall f e = let is = ap (λ (z : Step). z.said) e in let z : ◌≡◌ {A = ℕ} 0 1 = cc in absurd (omega arith)
     by_reply (reply.Decided l used) f e =
@@ -236,12 +236,12 @@ module _ (kind : Kind) (first : ℕ) (carry₀ stage₀ stated₀ : List ℕ) (f
         used_is : (l : Loading) (used : ℕ) → r ≡ step_by s 0 (length chunk) (reply.Decided l used) → used ≡ r.used
         used_is l used e = let n = ap (λ (z : Step). z.used) e ∙ used_by s.tail l (0 + used) in omega (arith, n)
 
-  heard_on : (l : Listener) (carry stage stated : List ℕ) → Passing kind first carry₀ stage₀ stated₀ fit bytes l carry stage stated → Hears l chunk carry first stage stated r carry' stage' stated' → Heard-on
+  heard_on : (l : Listener) (carry stage stated : List ℕ) → Passing kind first carry₀ stage₀ stated₀ fit bytes l carry stage stated → Hears l chunk carry first stage stated r carry' stage' stated' → HeardOn
   heard_on (Front k c) carry stage stated x h = absurd x
   heard_on (Ready k) carry stage stated x h = absurd x
   heard_on (Within s) carry stage stated (chunks, row, whole) h = go (too_small (Within s) (length carry)) refl
     where
-      go : (t : Bool) → too_small (Within s) (length carry) ≡ t → Heard-on
+      go : (t : Bool) → too_small (Within s) (length carry) ≡ t → HeardOn
       go true t = let is = ap (λ (z : Step). z.said) (h.small t).answer in let z : ◌≡◌ {A = ℕ} 0 1 = cc in absurd (omega arith)
       go false t =
           let g = h.else_so t (tail_fit kind first carry₀ stage₀ stated₀ fit s carry stage stated chunks row) in

@@ -13,7 +13,7 @@ use Rattle.steps.specs.Steps.{Placement, nothing_yet, accepted, refused, Decisio
 use Rattle.steps.specs.Source.{Source}
 use Rattle.listen.specs.Listen.{Mode, front, within, skipping, Saying, said, reaching, listen, pause, stretch}
 use Rattle.listen.specs.Skipping.{dump_steps, Place, beginning, midway, unknown, place_after, place_of, HeardAs, no_line, empty_line, undecided, decided, all_skipped, skipped}
-use Rattle.listen.specs.Parts.{Part, dump, passed, begun, lines_of, all_of, AsLoad, said_of, said-in-all, reaches_of, to_page}
+use Rattle.listen.specs.Parts.{Part, dump, passed, begun, lines_of, all_of, AsLoad, said_of, said_in_all, reaches_of, to_page}
 use Rattle.listen.specs.Claims.{Parted, SaidAsLoad, StretchAsLoad}
 use Rattle.listen.proofs.Fronts.{front_decides}
 use Rattle.listen.proofs.Exactly.{heard_exactly}
@@ -32,15 +32,15 @@ paused_there skipping = refl
 module _ {S : Type 0} (src : Source S) (inside : ℕ → Bool) where
   -- ---- the parts
 
-  pub record Parts-of (ls : List (List ℕ)) (ss : List Saying) (to : Place) : Type 0 where
+  pub record PartsOf (ls : List (List ℕ)) (ss : List Saying) (to : Place) : Type 0 where
     pub parts : List Part
     pub whole : all_of lines_of parts ≡ ls
     pub as_load : Every (AsLoad src inside) parts
     pub says : ss ≡ all_of (said_of src inside) parts
-    pub pauses : ss ++ at_pause to ≡ all_of (said-in-all src inside) parts
+    pub pauses : ss ++ at_pause to ≡ all_of (said_in_all src inside) parts
 
   -- some lines are passed, and then there are these parts
-  pass : (ahead ls all : List (List ℕ)) (ss : List Saying) (to : Place) → all ≡ ahead ++ ls → Parts-of ls ss to → Parts-of all ss to
+  pass : (ahead ls all : List (List ℕ)) (ss : List Saying) (to : Place) → all ≡ ahead ++ ls → PartsOf ls ss to → PartsOf all ss to
   unfolding all_of
   pass ahead ls all ss to e p =
       record {
@@ -51,16 +51,16 @@ module _ {S : Type 0} (src : Source S) (inside : ℕ → Bool) where
         pauses = p.pauses;
       }
 
-  no_part : (to : Place) → at_pause to ≡ [] → Parts-of [] [] to
+  no_part : (to : Place) → at_pause to ≡ [] → PartsOf [] [] to
   unfolding all_of
   no_part to e = record { parts = []; whole = refl; as_load = tt; says = refl; pauses = e }
 
   -- a dump that no line decides
-  last_part : (ls : List (List ℕ)) → decision inside nothing_yet (dump_steps src ls) ≡ none → Parts-of ls [] midway
+  last_part : (ls : List (List ℕ)) → decision inside nothing_yet (dump_steps src ls) ≡ none → PartsOf ls [] midway
   unfolding all_of verdict
   last_part ls e = record { parts = begun ls ∷ []; whole = append-nil ls; as_load = (e, tt); says = refl; pauses = ap (λ (o : Option Decision). said (verdict o) [] ∷ []) (sym e) }
 
-  parts_of : (from : Place) (ls : List (List ℕ)) (ss : List Saying) (to : Place) → HeardAs src inside from ls ss to → Parts-of ls ss to
+  parts_of : (from : Place) (ls : List (List ℕ)) (ss : List Saying) (to : Place) → HeardAs src inside from ls ss to → PartsOf ls ss to
   unfolding all_of
   parts_of from ls ss to no_line = no_part beginning refl
   parts_of from ls ss to (empty_line ls' ss' to' h) = pass ([] ∷ []) ls' ([] ∷ ls') ss' to' refl (parts_of beginning ls' ss' to' h)
@@ -96,7 +96,7 @@ module _ {S : Type 0} (src : Source S) (inside : ℕ → Bool) where
   one_reaches (begun ls) ss = refl
 
   -- a pause adds nothing
-  as_many : (p : Part) (ss : List Saying) → to_page (said-in-all src inside p ++ ss) ≡ reaches_of src inside p ++ to_page ss
+  as_many : (p : Part) (ss : List Saying) → to_page (said_in_all src inside p ++ ss) ≡ reaches_of src inside p ++ to_page ss
   unfolding to_page
   as_many (dump ls v) ss = one_reaches (dump ls v) ss
   as_many (passed ls) ss = refl
@@ -104,20 +104,20 @@ module _ {S : Type 0} (src : Source S) (inside : ℕ → Bool) where
 
   -- ---- lines, and a stretch
 
-  module _ (m : Mode S) (ls : List (List ℕ)) (p : Parts-of ls (listen src inside m ls).says (place_of (listen src inside m ls).mode)) where
+  module _ (m : Mode S) (ls : List (List ℕ)) (p : PartsOf ls (listen src inside m ls).says (place_of (listen src inside m ls).mode)) where
     lines_parted : Parted src inside (said_of src inside) (listen src inside m ls) ls
     lines_parted = (p.parts, p.whole, p.as_load, p.says, ap to_page p.says ∙ reach_page (said_of src inside) one_reaches p.parts)
 
-    stretch_parted : Parted src inside (said-in-all src inside) (stretch src inside m ls) ls
+    stretch_parted : Parted src inside (said_in_all src inside) (stretch src inside m ls) ls
     stretch_parted =
         let h = listen src inside m ls in
         let e = ap (λ (x : List Saying). h.says ++ x) (paused_there h.mode) ∙ p.pauses in
-        (p.parts, p.whole, p.as_load, e, ap to_page e ∙ reach_page (said-in-all src inside) as_many p.parts)
+        (p.parts, p.whole, p.as_load, e, ap to_page e ∙ reach_page (said_in_all src inside) as_many p.parts)
 
-  from_front : (ls : List (List ℕ)) → Parts-of ls (listen src inside front ls).says (place_of (listen src inside front ls).mode)
+  from_front : (ls : List (List ℕ)) → PartsOf ls (listen src inside front ls).says (place_of (listen src inside front ls).mode)
   from_front ls = let h = listen src inside front ls in parts_of beginning ls h.says (place_of h.mode) ((heard_exactly S src inside ls h.says (place_of h.mode)).0.0 (refl, refl))
 
-  from_unknown : (ls : List (List ℕ)) → Parts-of ls (listen src inside skipping ls).says (place_of (listen src inside skipping ls).mode)
+  from_unknown : (ls : List (List ℕ)) → PartsOf ls (listen src inside skipping ls).says (place_of (listen src inside skipping ls).mode)
   from_unknown ls = let h = listen src inside skipping ls in parts_of unknown ls h.says (place_of h.mode) ((heard_exactly S src inside ls h.says (place_of h.mode)).1.0 (refl, refl))
 
 pub said_as_load : SaidAsLoad

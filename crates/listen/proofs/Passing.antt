@@ -9,15 +9,15 @@ use native.Mathlib.Omega.{arith}
 use lib.ListN.{length, drop}
 use Rattle.steps.specs.Steps.{Step, step, nothing_yet, Verdict, accepted, by, turn, decision}
 use Rattle.steps.specs.Source.{Source, steps}
-use Rattle.intake.specs.Past.{ends_text, passed, past}
+use Rattle.intake_tail.specs.Past.{ends_text, passed, past}
 use Rattle.listen.specs.Listen.{front, skipping, silent, is_end, listen}
 use Rattle.listen.specs.Claims.{SkipsAsPast}
 use Rattle.listen.proofs.Exactly.{skips_on, skips_last}
 
 module _ {S : Type 0} (src : Source S) (inside : ℕ → Bool) where
   -- the steps of lines that are passed over, after n lines
-  abbrev past-steps : (n : ℕ) → List (List ℕ) → List Step
-  past-steps n ls = steps (past src) tt (suc n) ls
+  abbrev past_steps : (n : ℕ) → List (List ℕ) → List Step
+  past_steps n ls = steps (past src) tt (suc n) ls
 
   pub record Skipped (n : ℕ) (ls : List (List ℕ)) (m : ℕ) (v : Verdict) : Type 0 where
     pub k : ℕ
@@ -27,14 +27,14 @@ module _ {S : Type 0} (src : Source S) (inside : ℕ → Bool) where
     pub there : k ≤ length ls
     pub heard : listen src inside skipping ls ≡ listen src inside front (drop k ls)
 
-  not_yet : (n : ℕ) (ls : List (List ℕ)) → decision inside nothing_yet (past-steps n ls) ≡ none → listen src inside skipping ls ≡ silent skipping
+  not_yet : (n : ℕ) (ls : List (List ℕ)) → decision inside nothing_yet (past_steps n ls) ≡ none → listen src inside skipping ls ≡ silent skipping
   unfolding steps decision turn listen is_end
   not_yet n [] e = refl
   not_yet n ([] ∷ ls) e = skips_on src inside [] ls refl ∙ not_yet (suc n) ls e
   not_yet n ((c ∷ l) ∷ ls) e = go (ends_text src (c ∷ l)) refl e (not_yet (suc n) ls)
     where
-      go : (b : Bool) → ends_text src (c ∷ l) ≡ b → decision inside nothing_yet (map (step (suc n)) (passed b) ++ past-steps (suc n) ls) ≡ none
-          → (decision inside nothing_yet (past-steps (suc n) ls) ≡ none → listen src inside skipping ls ≡ silent skipping)
+      go : (b : Bool) → ends_text src (c ∷ l) ≡ b → decision inside nothing_yet (map (step (suc n)) (passed b) ++ past_steps (suc n) ls) ≡ none
+          → (decision inside nothing_yet (past_steps (suc n) ls) ≡ none → listen src inside skipping ls ≡ silent skipping)
           → listen src inside skipping ((c ∷ l) ∷ ls) ≡ silent skipping
       go true p q ih = let z : ◌≡◌ {A = ℕ} 0 1 = cc in absurd (omega arith)
       go false p q ih = skips_on src inside (c ∷ l) ls p ∙ ih q
@@ -51,14 +51,14 @@ module _ {S : Type 0} (src : Source S) (inside : ℕ → Bool) where
         heard = skips_on src inside line ls e ∙ s.heard;
       }
 
-  by_then : (n m : ℕ) (v : Verdict) (ls : List (List ℕ)) → decision inside nothing_yet (past-steps n ls) ≡ some (by m v) → Skipped n ls m v
+  by_then : (n m : ℕ) (v : Verdict) (ls : List (List ℕ)) → decision inside nothing_yet (past_steps n ls) ≡ some (by m v) → Skipped n ls m v
   unfolding steps decision turn is_end
   by_then n m v [] e = let z : ◌≡◌ {A = ℕ} 0 1 = cc in absurd (omega arith)
   by_then n m v ([] ∷ ls) e = more n m v [] ls refl (by_then (suc n) m v ls e)
   by_then n m v ((c ∷ l) ∷ ls) e = go (ends_text src (c ∷ l)) refl e (by_then (suc n) m v ls)
     where
-      go : (b : Bool) → ends_text src (c ∷ l) ≡ b → decision inside nothing_yet (map (step (suc n)) (passed b) ++ past-steps (suc n) ls) ≡ some (by m v)
-          → (decision inside nothing_yet (past-steps (suc n) ls) ≡ some (by m v) → Skipped (suc n) ls m v) → Skipped n ((c ∷ l) ∷ ls) m v
+      go : (b : Bool) → ends_text src (c ∷ l) ≡ b → decision inside nothing_yet (map (step (suc n)) (passed b) ++ past_steps (suc n) ls) ≡ some (by m v)
+          → (decision inside nothing_yet (past_steps (suc n) ls) ≡ some (by m v) → Skipped (suc n) ls m v) → Skipped n ((c ∷ l) ∷ ls) m v
       go true p q ih =
           let x : suc n ≡ m = cc in
           let y : accepted nothing_yet ≡ v = cc in

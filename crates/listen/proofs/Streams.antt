@@ -17,14 +17,14 @@ use Rattle.steps.specs.Source.{Source, steps_of}
 use Rattle.steps.specs.Told.{told_loading}
 use Rattle.steps.proofs.Places.{length_painted}
 use Rattle.window.specs.Window.{unfit, within, window}
-use Rattle.intake.specs.declared.Kind.{Kind}
-use Rattle.intake.specs.declared.Intake.{Intake}
-use Rattle.intake.specs.declared.Reply.{Reply}
-use Rattle.intake.specs.declared.Reply.TheVariants as reply
-use Rattle.intake.specs.Ways.{Way, way_of}
-use Rattle.intake.specs.Intake.{spoilt, Feeds, FeedsSo, new_tail}
-use Rattle.intake.specs.Rows.{cr_before}
-use Rattle.intake.proofs.Rows.{come_to}
+use Rattle.intake_tail.specs.declared.Kind.{Kind}
+use Rattle.intake_tail.specs.declared.Intake.{Intake}
+use Rattle.intake_tail.specs.declared.Reply.{Reply}
+use Rattle.intake_tail.specs.declared.Reply.TheVariants as reply
+use Rattle.intake_tail.specs.Ways.{Way, way_of}
+use Rattle.intake_tail.specs.Intake.{spoilt, Feeds, FeedsSo, new_tail}
+use Rattle.intake_tail.specs.Rows.{cr_before}
+use Rattle.intake_tail.proofs.Rows.{come_to}
 use Rattle.listen.specs.declared.Listener.{Listener}
 use Rattle.listen.specs.declared.Listener.TheVariants.{Front, Within, Ready}
 use Rattle.listen.specs.declared.Said.TheVariants.{WantsMore, Decided, Passed, CarryTooSmall}

@@ -8,8 +8,8 @@ use lib.Dec.{ltb}
 use Rattle.steps.specs.declared.Loading.{Loading}
 use Rattle.steps.specs.declared.Loading.TheVariants.{Accepted, Refused}
 use Rattle.steps.specs.Told.{is_accepted}
-use Rattle.intake.specs.declared.Kind.{Kind}
-use Rattle.intake.specs.Intake.{new_tail}
+use Rattle.intake_tail.specs.declared.Kind.{Kind}
+use Rattle.intake_tail.specs.Intake.{new_tail}
 use Rattle.listen.specs.declared.Listener.{Listener}
 use Rattle.listen.specs.declared.Listener.TheVariants.{Front, Within, Ready}
 use Rattle.listen.specs.declared.Said.TheVariants.{Decided, Passed}

@@ -12,12 +12,12 @@ use Rattle.steps.specs.declared.LoaderError.TheVariants.{BadWindow}
 use Rattle.steps.specs.declared.Loading.{Loading}
 use Rattle.steps.specs.declared.Loading.TheVariants.{Refused}
 use Rattle.window.specs.Window.{unfit}
-use Rattle.intake.specs.declared.Kind.{Kind}
-use Rattle.intake.specs.declared.Intake.{Intake}
-use Rattle.intake.specs.declared.Reply.{Reply}
-use Rattle.intake.specs.declared.Reply.TheVariants as reply
-use Rattle.intake.specs.Ways.{way_of}
-use Rattle.intake.specs.Intake.{spoilt, Feeds, FeedsSo}
+use Rattle.intake_tail.specs.declared.Kind.{Kind}
+use Rattle.intake_tail.specs.declared.Intake.{Intake}
+use Rattle.intake_tail.specs.declared.Reply.{Reply}
+use Rattle.intake_tail.specs.declared.Reply.TheVariants as reply
+use Rattle.intake_tail.specs.Ways.{way_of}
+use Rattle.intake_tail.specs.Intake.{spoilt, Feeds, FeedsSo}
 use Rattle.listen.specs.declared.Listener.{Listener}
 use Rattle.listen.specs.declared.Listener.TheVariants.{Front, Within}
 use Rattle.listen.specs.declared.Said.TheVariants.{WantsMore, Decided, CarryTooSmall}

@@ -14,12 +14,12 @@ use Rattle.reader.specs.Lines.{LF, ends_line, first_line, lines, later, through}
 use Rattle.reader.proofs.Cutting.{lines_closed, through_head}
 use Rattle.steps.specs.Steps.{nothing_yet, Verdict, accepted, refused, Decision, by, decision, verdict, stated}
 use Rattle.steps.specs.Source.{Source, steps_of}
-use Rattle.intake.specs.Past.{past}
+use Rattle.intake_tail.specs.Past.{past}
 use Rattle.listen.specs.Listen.{front, skipping, Saying, said, reaching, mode_after, Listened, silent, first, hear, listen, pause, stretch}
 use Rattle.listen.specs.Skipping.{dump_steps}
 use Rattle.listen.specs.Claims.{Begins}
 use Rattle.listen.specs.Texts.{decided_by, LeftAfter, DropsEmptyLines, HearsADump, HearsATail, PausesInADump, PausesInATail}
-use Rattle.listen.proofs.Fronts.{Front-waits, Front-decides, front_waits, front_decides}
+use Rattle.listen.proofs.Fronts.{FrontWaits, FrontDecides, front_waits, front_decides}
 use Rattle.listen.proofs.Exactly.{has_byte}
 use Rattle.listen.proofs.Passing.{skips_as_past}
 
@@ -67,12 +67,12 @@ drops_empty_lines S src inside text = (refl, refl)
 
 module _ {S : Type 0} (src : Source S) (inside : ℕ → Bool) where
   -- lines that begin a dump are decided by line n
-  dump_decided : (ls : List (List ℕ)) (n : ℕ) (v : Verdict) → Begins ls → decision inside nothing_yet (dump_steps src ls) ≡ some (by n v) → Front-decides src inside ls n v
+  dump_decided : (ls : List (List ℕ)) (n : ℕ) (v : Verdict) → Begins ls → decision inside nothing_yet (dump_steps src ls) ≡ some (by n v) → FrontDecides src inside ls n v
   dump_decided [] n v b e = absurd b
   dump_decided ([] ∷ ls) n v b e = absurd b
   dump_decided ((c ∷ l) ∷ ls) n v b e = front_decides src inside (c ∷ l) ls n v (has_byte c l) e
 
-  dump_waits : (ls : List (List ℕ)) → Begins ls → decision inside nothing_yet (dump_steps src ls) ≡ none → Front-waits src inside ls
+  dump_waits : (ls : List (List ℕ)) → Begins ls → decision inside nothing_yet (dump_steps src ls) ≡ none → FrontWaits src inside ls
   dump_waits [] b e = absurd b
   dump_waits ([] ∷ ls) b e = absurd b
   dump_waits ((c ∷ l) ∷ ls) b e = front_waits src inside (c ∷ l) ls (has_byte c l) e

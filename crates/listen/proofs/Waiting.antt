@@ -18,18 +18,18 @@ use Rattle.steps.specs.declared.Loading.TheVariants.{Accepted, Refused}
 use Rattle.steps.specs.Steps.{nothing_yet, Verdict, Decision, by, decision}
 use Rattle.steps.specs.Source.{steps_of}
 use Rattle.window.specs.Window.{unfit, within}
-use Rattle.intake.specs.declared.Kind.{Kind}
-use Rattle.intake.specs.declared.Intake.{Intake}
-use Rattle.intake.specs.declared.Reply.{Reply}
-use Rattle.intake.specs.declared.Reply.TheVariants as reply
-use Rattle.intake.specs.declared.Ending.{Ending}
-use Rattle.intake.specs.declared.Ending.TheVariants as ending
-use Rattle.intake.specs.Ways.{way_of}
-use Rattle.intake.specs.Intake.{new_tail, spoilt, Feeds}
-use Rattle.intake.specs.Ending.{Finishes}
-use Rattle.intake.specs.Rows.{Row, no_chunk, cr_before, text_of, FirstEnd}
-use Rattle.intake.proofs.Rows.{come_to, row_waits, row_carries}
-use Rattle.intake.proofs.Tails as tails
+use Rattle.intake_tail.specs.declared.Kind.{Kind}
+use Rattle.intake_tail.specs.declared.Intake.{Intake}
+use Rattle.intake_tail.specs.declared.Reply.{Reply}
+use Rattle.intake_tail.specs.declared.Reply.TheVariants as reply
+use Rattle.intake_tail.specs.declared.Ending.{Ending}
+use Rattle.intake_tail.specs.declared.Ending.TheVariants as ending
+use Rattle.intake_tail.specs.Ways.{way_of}
+use Rattle.intake_tail.specs.Intake.{new_tail, spoilt, Feeds}
+use Rattle.intake_tail.specs.Ending.{Finishes}
+use Rattle.intake_tail.specs.Rows.{Row, no_chunk, cr_before, text_of, FirstEnd}
+use Rattle.intake_tail.proofs.Rows.{come_to, row_waits, row_carries}
+use Rattle.intake_tail.proofs.Tails as tails
 use Rattle.listen.specs.declared.Blank.{Blank}
 use Rattle.listen.specs.declared.Listener.{Listener}
 use Rattle.listen.specs.declared.Listener.TheVariants.{Front, Within, Ready}
@@ -39,7 +39,7 @@ use Rattle.listen.specs.Listener.{blanks, begun, step_by, decided_by, end_by, to
 use Rattle.listen.specs.Calls.{dump_in}
 use Rattle.listen.specs.Waiting.{EighteenExactly, DumpSays, DumpWaits, TailSays, TailWaits}
 use Rattle.listen.proofs.Blanks.{blanks_on, blanks_begun}
-use Rattle.listen.proofs.Calls.{Blank-so, Dump-so, Come, come, fit_there, Passing, passing, tail_fit, tail_passes}
+use Rattle.listen.proofs.Calls.{BlankSo, DumpSo, Come, come, fit_there, Passing, passing, tail_fit, tail_passes}
 
 -- ---- what a row can say
 
@@ -211,11 +211,11 @@ short_cr true = omega arith
 short_cr false = omega arith
 
 module _ (kind : Kind) (cr : Bool) (first : ℕ) (carry₀ stage₀ stated₀ : List ℕ) where
-  abbrev decided-at : (text : List ℕ) → Option Decision
-  decided-at text = decision (within first (length stage₀)) nothing_yet (steps_of (way_of kind false).source text)
+  abbrev decided_at : (text : List ℕ) → Option Decision
+  decided_at text = decision (within first (length stage₀)) nothing_yet (steps_of (way_of kind false).source text)
 
-  front_waits : (bytes : List ℕ) (kind' : Kind) (waits : Bool) (carry stage stated : List ℕ) → Blank-so kind cr first carry₀ stage₀ stated₀ bytes kind' waits carry stage stated
-      → (more : List ℕ) (n : ℕ) (v : Verdict) → decided-at (dump_in cr (bytes ++ more)) ≡ some (by n v) → through n (dump_in cr bytes) ≡ none
+  front_waits : (bytes : List ℕ) (kind' : Kind) (waits : Bool) (carry stage stated : List ℕ) → BlankSo kind cr first carry₀ stage₀ stated₀ bytes kind' waits carry stage stated
+      → (more : List ℕ) (n : ℕ) (v : Verdict) → decided_at (dump_in cr (bytes ++ more)) ≡ some (by n v) → through n (dump_in cr bytes) ≡ none
   unfolding joined
   front_waits bytes kind' waits carry stage stated x more n v d =
       let b = blanks waits more in
@@ -226,11 +226,11 @@ module _ (kind : Kind) (cr : Bool) (first : ℕ) (carry₀ stage₀ stated₀ : 
       ap (λ (y : Blank). cr_before y.cr ++ drop y.at bytes) x.all_blank ∙ ap (λ (y : List ℕ). cr_before waits ++ y) (drop-length bytes) ∙ append-nil (cr_before waits) in
       let started = begun kind b.cr in
       let nothing = row_waits kind false b.cr first carry₀ stage₀ (replicate (length stated₀) 0) started refl [] started carry₀ stage₀ (replicate (length stated₀) 0) no_chunk (drop b.at more)
-      (short_cr b.cr) n v (ap decided-at (sym text) ∙ d) in
+      (short_cr b.cr) n v (ap decided_at (sym text) ∙ d) in
       ap (through n) here ∙ no_LF n (text_of b.cr []) nothing waits
 
-  within_waits : (bytes : List ℕ) (s : Intake) (carry stage stated : List ℕ) → Dump-so kind cr first carry₀ stage₀ stated₀ bytes s carry stage stated
-      → (more : List ℕ) → suc (length (dump_in cr bytes)) < 2 ^ 64 → (n : ℕ) (v : Verdict) → decided-at (dump_in cr (bytes ++ more)) ≡ some (by n v) → through n (dump_in cr bytes) ≡ none
+  within_waits : (bytes : List ℕ) (s : Intake) (carry stage stated : List ℕ) → DumpSo kind cr first carry₀ stage₀ stated₀ bytes s carry stage stated
+      → (more : List ℕ) → suc (length (dump_in cr bytes)) < 2 ^ 64 → (n : ℕ) (v : Verdict) → decided_at (dump_in cr (bytes ++ more)) ≡ some (by n v) → through n (dump_in cr bytes) ≡ none
   within_waits bytes s carry stage stated x more short n v d =
       let h = x.inside in
       let k : (blanks cr bytes).at < length bytes = rw x.begins h in
@@ -242,10 +242,10 @@ module _ (kind : Kind) (cr : Bool) (first : ℕ) (carry₀ stage₀ stated₀ : 
       ∙ sym (append_assoc (cr_before x.waits) (joined x.chunks) more) in
       ap (through n) text
       ∙ row_waits kind false x.waits first carry₀ stage₀ (replicate (length stated₀) 0) (begun kind x.waits) refl x.chunks s carry stage stated x.row more
-      (subst (λ (y : List ℕ). suc (length y) < 2 ^ 64) text short) n v (ap decided-at (sym whole) ∙ d)
+      (subst (λ (y : List ℕ). suc (length y) < 2 ^ 64) text short) n v (ap decided_at (sym whole) ∙ d)
 
   waits_there : (bytes : List ℕ) (l : Listener) (carry stage stated : List ℕ) → Come kind cr first carry₀ stage₀ stated₀ bytes l carry stage stated
-      → (more : List ℕ) → suc (length (dump_in cr bytes)) < 2 ^ 64 → (n : ℕ) (v : Verdict) → decided-at (dump_in cr (bytes ++ more)) ≡ some (by n v) → through n (dump_in cr bytes) ≡ none
+      → (more : List ℕ) → suc (length (dump_in cr bytes)) < 2 ^ 64 → (n : ℕ) (v : Verdict) → decided_at (dump_in cr (bytes ++ more)) ≡ some (by n v) → through n (dump_in cr bytes) ≡ none
   waits_there bytes (Front kind' waits) carry stage stated x more short n v d = front_waits bytes kind' waits carry stage stated x more n v d
   waits_there bytes (Within s) carry stage stated x more short n v d = within_waits bytes s carry stage stated x more short n v d
   waits_there bytes (Ready kind') carry stage stated x more short n v d = front_waits bytes kind' false carry stage stated x more n v d

@@ -2,7 +2,7 @@
 -- Assumes nothing.
 use Rattle.std.specs.Prelude.{ℕ, ◌≡◌, Bool, List, take}
 use Rattle.marks.specs.Claims.{Bytes}
-use Rattle.intake.specs.declared.Kind.{Kind}
+use Rattle.intake_tail.specs.declared.Kind.{Kind}
 use Rattle.listen.specs.declared.Listener.{Listener}
 use Rattle.listen.specs.declared.Listener.TheVariants.{Front, Within, Ready}
 use Rattle.listen.specs.declared.Said.{Said}

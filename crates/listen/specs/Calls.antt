@@ -12,10 +12,10 @@ use Rattle.steps.specs.Source.{steps_of}
 use Rattle.steps.specs.Told.{told_loading}
 use Rattle.window.specs.Window.{unfit, within}
 use Rattle.window.specs.Load.{load_window}
-use Rattle.intake.specs.declared.Kind.{Kind}
-use Rattle.intake.specs.Ways.{way_of}
-use Rattle.intake.specs.Intake.{new_tail}
-use Rattle.intake.specs.Rows.{cr_before, AsLoad, UsedThrough, PassedThrough}
+use Rattle.intake_tail.specs.declared.Kind.{Kind}
+use Rattle.intake_tail.specs.Ways.{way_of}
+use Rattle.intake_tail.specs.Intake.{new_tail}
+use Rattle.intake_tail.specs.Rows.{cr_before, AsLoad, UsedThrough, PassedThrough}
 use Rattle.listen.specs.declared.Listener.{Listener}
 use Rattle.listen.specs.declared.Listener.TheVariants.{Front, Within, Ready}
 use Rattle.listen.specs.declared.Said.{Said}

@@ -8,10 +8,10 @@ use Rattle.steps.specs.Steps.{fails, nothing_yet, Tally, Verdict, accepted, refu
 use Rattle.steps.specs.Source.{Source}
 use Rattle.intel.specs.Placing.{intel}
 use Rattle.srecload.specs.Placing.{s_records}
-use Rattle.intake.specs.Past.{past, EndsAlike}
+use Rattle.intake_tail.specs.Past.{past, EndsAlike}
 use Rattle.listen.specs.Listen.{Mode, front, skipping, Saying, said, Listened, silent, first, is_end, listen, stretch, listen_on}
 use Rattle.listen.specs.Skipping.{dump_steps, NoneEnds, Place, beginning, unknown, place_of, HeardAs}
-use Rattle.listen.specs.Parts.{Part, lines_of, all_of, AsLoad, said_of, said-in-all, reaches_of, to_page}
+use Rattle.listen.specs.Parts.{Part, lines_of, all_of, AsLoad, said_of, said_in_all, reaches_of, to_page}
 
 -- ---- what is heard
 
@@ -76,22 +76,22 @@ EndsWhole {S} src =
 
 module _ {S : Type 0} (src : Source S) (inside : ℕ → Bool) where
   -- from a known beginning each good dump is said as its load says it, and after the last of them another one begins
-  abbrev pub Row-is-said : Type 0
-  Row-is-said =
+  abbrev pub RowIsSaid : Type 0
+  RowIsSaid =
       (ds : List (Good src inside)) (more : List (List ℕ))
       → listen src inside front (in_a_row src inside ds ++ more) ≡ first (map (says_load src inside) ds) (listen src inside front more)
 
   -- a tail, from a line on, of lines that a load accepts by the last of them is skipped: nothing is said, and what follows it is heard as from a
   -- known beginning
-  abbrev pub Tail-is-skipped : Type 0
-  Tail-is-skipped =
+  abbrev pub TailIsSkipped : Type 0
+  TailIsSkipped =
       (ahead tail more : List (List ℕ)) (t : Tally) → DecidedByLast src inside (ahead ++ tail) (accepted t) → tail ≢ []
       → (listen src inside skipping tail ≡ silent front) × (listen src inside skipping (tail ++ more) ≡ listen src inside front more)
 
   -- the same from a byte on, within a line of theirs that has lost its first bytes: nothing is said. If it was the last line, the end record is lost,
   -- and skipping goes on
-  abbrev pub Cut-tail-is-skipped : Type 0
-  Cut-tail-is-skipped =
+  abbrev pub CutTailIsSkipped : Type 0
+  CutTailIsSkipped =
       (ahead later more : List (List ℕ)) (c : ℕ) (lost kept : List ℕ) (t : Tally)
       → DecidedByLast src inside (ahead ++ ((c ∷ (lost ++ kept)) ∷ later)) (accepted t)
       → ((listen src inside skipping (kept ∷ later)).says ≡ [])
@@ -99,43 +99,43 @@ module _ {S : Type 0} (src : Source S) (inside : ℕ → Bool) where
       × (later ≡ [] → listen src inside skipping (kept ∷ (later ++ more)) ≡ listen src inside skipping more)
 
   -- a refused dump, then lines with no end record, then good dumps in a row: the first of these is lost, and each later one is said as its load says it
-  abbrev pub One-is-lost : Type 0
-  One-is-lost =
+  abbrev pub OneIsLost : Type 0
+  OneIsLost =
       (dump noise : List (List ℕ)) (r : Refusal) (n : ℕ) (d : Good src inside) (ds : List (Good src inside)) (more : List (List ℕ))
       → IsDump src inside dump (refused r n) → NoneEnds src noise
       → listen src inside front (dump ++ (noise ++ (in_a_row src inside (d ∷ ds) ++ more)))
       ≡ first (said (refused r n) [] ∷ map (says_load src inside) ds) (listen src inside front more)
 
   -- with an end record after those lines, no good dump is lost
-  abbrev pub None-is-lost : Type 0
-  None-is-lost =
+  abbrev pub NoneIsLost : Type 0
+  NoneIsLost =
       (dump noise : List (List ℕ)) (line : List ℕ) (r : Refusal) (n : ℕ) (ds : List (Good src inside)) (more : List (List ℕ))
       → IsDump src inside dump (refused r n) → NoneEnds src noise → is_end src line ≡ true
       → listen src inside front (dump ++ (noise ++ (line ∷ (in_a_row src inside ds ++ more))))
       ≡ first (said (refused r n) [] ∷ map (says_load src inside) ds) (listen src inside front more)
 
   -- whatever lines are skipped through an end record, a good dump among them is the last of them: so there are never two
-  abbrev pub Never-two : Type 0
-  Never-two =
+  abbrev pub NeverTwo : Type 0
+  NeverTwo =
       (ahead before later : List (List ℕ)) (line : List ℕ) (d : Good src inside) → NoneEnds src ahead
       → ahead ++ (line ∷ []) ≡ before ++ (d.lines ++ later) → later ≡ []
 
   -- whatever came before a pause, what follows it is heard from a known beginning, and no good dump of a row is lost
-  abbrev pub Known-after-a-pause : Type 0
-  Known-after-a-pause =
+  abbrev pub KnownAfterAPause : Type 0
+  KnownAfterAPause =
       (m : Mode S) (ls : List (List ℕ)) (later : List (List (List ℕ))) (ds : List (Good src inside)) (more : List (List ℕ))
       → (listen_on src inside m (ls ∷ later) ≡ first (stretch src inside m ls).says (listen_on src inside front later))
       × (stretch src inside front (in_a_row src inside ds ++ more) ≡ first (map (says_load src inside) ds) (stretch src inside front more))
 
 abbrev pub GoodAreSaid : Type 1
-GoodAreSaid = (S : Type 0) (src : Source S) (inside : ℕ → Bool) → Row-is-said src inside
+GoodAreSaid = (S : Type 0) (src : Source S) (inside : ℕ → Bool) → RowIsSaid src inside
 
 -- a tail of an old dump is never ready
 abbrev pub TailNeverReady : Type 1
-TailNeverReady = (S : Type 0) (src : Source S) (inside : ℕ → Bool) → EndsAlike src → Tail-is-skipped src inside
+TailNeverReady = (S : Type 0) (src : Source S) (inside : ℕ → Bool) → EndsAlike src → TailIsSkipped src inside
 
 abbrev pub CutTailNeverReady : Type 1
-CutTailNeverReady = (S : Type 0) (src : Source S) (inside : ℕ → Bool) → EndsAlike src → EndsWhole src → Cut-tail-is-skipped src inside
+CutTailNeverReady = (S : Type 0) (src : Source S) (inside : ℕ → Bool) → EndsAlike src → EndsWhole src → CutTailIsSkipped src inside
 
 -- the lines of both kinds of text are such
 abbrev pub HexEndsWhole : Type 0
@@ -147,11 +147,11 @@ SRecordsEndWhole = EndsWhole s_records
 -- a refusal costs at most one good dump after it
 abbrev pub CostsOne : Type 1
 CostsOne =
-    (S : Type 0) (src : Source S) (inside : ℕ → Bool) → EndsAlike src → One-is-lost src inside × None-is-lost src inside × Never-two src inside
+    (S : Type 0) (src : Source S) (inside : ℕ → Bool) → EndsAlike src → OneIsLost src inside × NoneIsLost src inside × NeverTwo src inside
 
 -- and none after a pause
 abbrev pub NoneAfterAPause : Type 1
-NoneAfterAPause = (S : Type 0) (src : Source S) (inside : ℕ → Bool) → Known-after-a-pause src inside
+NoneAfterAPause = (S : Type 0) (src : Source S) (inside : ℕ → Bool) → KnownAfterAPause src inside
 
 -- ---- each saying
 
@@ -175,4 +175,4 @@ SaidAsLoad =
 abbrev pub StretchAsLoad : Type 1
 StretchAsLoad =
     (S : Type 0) (src : Source S) (inside : ℕ → Bool) (ls : List (List ℕ))
-    → Parted src inside (said-in-all src inside) (stretch src inside front ls) ls × Parted src inside (said-in-all src inside) (stretch src inside skipping ls) ls
+    → Parted src inside (said_in_all src inside) (stretch src inside front ls) ls × Parted src inside (said_in_all src inside) (stretch src inside skipping ls) ls

@@ -9,14 +9,14 @@ use Rattle.steps.specs.declared.Loading.{Loading}
 use Rattle.steps.specs.declared.Loading.TheVariants.{Accepted, Refused}
 use Rattle.window.specs.Window.{unfit}
 use Rattle.commit.specs.Commit.{Commit}
-use Rattle.intake.specs.declared.Kind.{Kind}
-use Rattle.intake.specs.declared.Intake.{Intake}
-use Rattle.intake.specs.declared.Reply.{Reply}
-use Rattle.intake.specs.declared.Reply.TheVariants as reply
-use Rattle.intake.specs.declared.Ending.{Ending}
-use Rattle.intake.specs.declared.Ending.TheVariants as ending
-use Rattle.intake.specs.Intake.{new_intake, new_tail, Feeds}
-use Rattle.intake.specs.Ending.{Finishes}
+use Rattle.intake_tail.specs.declared.Kind.{Kind}
+use Rattle.intake_tail.specs.declared.Intake.{Intake}
+use Rattle.intake_tail.specs.declared.Reply.{Reply}
+use Rattle.intake_tail.specs.declared.Reply.TheVariants as reply
+use Rattle.intake_tail.specs.declared.Ending.{Ending}
+use Rattle.intake_tail.specs.declared.Ending.TheVariants as ending
+use Rattle.intake_tail.specs.Intake.{new_intake, new_tail, Feeds}
+use Rattle.intake_tail.specs.Ending.{Finishes}
 use Rattle.listen.specs.declared.Listener.{Listener}
 use Rattle.listen.specs.declared.Listener.TheVariants.{Front, Within, Ready}
 use Rattle.listen.specs.declared.Said.{Said}

@@ -38,10 +38,10 @@ module _ {S : Type 0} (src : Source S) (inside : ℕ → Bool) where
   said_of (begun ls) = []
 
   -- the same with a pause after it: what is begun has the verdict of a load whose text ends there
-  abbrev pub said-in-all : Part → List Saying
-  said-in-all (dump ls v) = said v (reaching v (stated (dump_steps src ls))) ∷ []
-  said-in-all (passed ls) = []
-  said-in-all (begun ls) = said (verdict (decision inside nothing_yet (dump_steps src ls))) [] ∷ []
+  abbrev pub said_in_all : Part → List Saying
+  said_in_all (dump ls v) = said v (reaching v (stated (dump_steps src ls))) ∷ []
+  said_in_all (passed ls) = []
+  said_in_all (begun ls) = said (verdict (decision inside nothing_yet (dump_steps src ls))) [] ∷ []
 
   -- what of a part reaches the page: what the lines of an accepted dump state
   abbrev pub reaches_of : Part → List Placement

@@ -4,7 +4,7 @@ ghost use Rattle.std.specs.Prelude.{◌≡◌, true, eqb, ltb, length};
 ghost use Rattle.listen.specs.Listener.{Begins, is_blank, blanks, after, after_end, decided_by, step_by, step, FromFront, too_small, Tested, Hears, Pauses, PausesWithin, Commits};
 ghost use Rattle.listen.specs.Helpers.{Fits, Starts};
 
-use intake::{Ending, Intake, Kind, Reply};
+use intake_tail::{Ending, Intake, Kind, Reply};
 use loader::Base;
 use record::char_counts;
 use steps::{LoaderError, Loading};

@@ -14,7 +14,7 @@ use Rattle.intel.specs.Placing.{intel}
 use Rattle.loader.specs.Load.{load}
 use Rattle.intel.specs.Lines.{Stops, the_end, no_record, first_outside, start_differs, account}
 use Rattle.loader.specs.Claims.{Why}
-use Rattle.intel.proofs.Puts.{holding, from_puts, to_puts, lie, Put-there, one_byte, as_last, of_last, none_ends, end_stops}
+use Rattle.intel.proofs.Puts.{holding, from_puts, to_puts, lie, PutThere, one_byte, as_last, of_last, none_ends, end_stops}
 use Rattle.loader.specs.Segments.{Owed, OwedUnique, Stored, StoredByIntel, FirstOutside, OutsideByIntel}
 use Rattle.window.proofs.Loads.{at_place}
 use Rattle.loader.proofs.Claims.{reasons}
@@ -23,10 +23,10 @@ use Rattle.loader.proofs.Claims.{reasons}
 
 -- what is owed to a place, in Intel's names
 module _ (ls : List (List ℕ)) (a : ℕ) where
-  as_owed : {old m b : ℕ} → puts.OwedPut (Put-there ls a) old m b → Owed ls a old m b
+  as_owed : {old m b : ℕ} → puts.OwedPut (PutThere ls a) old m b → Owed ls a old m b
   as_owed x = record { one_or_zero = x.one_or_zero; marked_iff_put = x.marked_iff_put; marked_holds = λ e. as_last ls a (x.marked_holds e); unmarked_keeps = x.unmarked_keeps }
 
-  of_owed : {old m b : ℕ} → Owed ls a old m b → puts.OwedPut (Put-there ls a) old m b
+  of_owed : {old m b : ℕ} → Owed ls a old m b → puts.OwedPut (PutThere ls a) old m b
   of_owed x = record { one_or_zero = x.one_or_zero; marked_iff_put = x.marked_iff_put; marked_holds = λ e. of_last ls a (x.marked_holds e); unmarked_keeps = x.unmarked_keeps }
 
 pub stored_by_intel : StoredByIntel
@@ -48,12 +48,12 @@ stored_by_intel text first page marks k e = go (load text first page marks).answ
           none_ahead = none_ends _ [] d.ahead d.pass;
           inside = λ n' dri a' b p. all_inside holding (account inside) inside (lie inside) [] d.ahead d.pass n' dri a' b (from_puts d.ahead n' dri a' b p);
           places = λ i h. rw ((at_place intel text first page marks k e i h).0, (at_place intel text first page marks k e i h).1) (rw (d.stated k q)
-              (as_owed d.ahead (first + i) (owed_put holding d.ahead (first + i) (get_or page i 0) (Put-there d.ahead (first + i))
+              (as_owed d.ahead (first + i) (owed_put holding d.ahead (first + i) (get_or page i 0) (PutThere d.ahead (first + i))
               (λ m j b. to_puts d.ahead m j (first + i) b) (λ m j b. from_puts d.ahead m j (first + i) b))));
         }
 
 pub owed_unique : OwedUnique
-owed_unique ls a old m m' b b' x y = owed_put_unique (Put-there ls a) (one_byte ls a) old m m' b b' (of_owed ls a x) (of_owed ls a y)
+owed_unique ls a old m m' b b' x y = owed_put_unique (PutThere ls a) (one_byte ls a) old m m' b b' (of_owed ls a x) (of_owed ls a y)
 
 -- ---- refusal 17
 

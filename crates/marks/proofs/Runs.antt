@@ -23,15 +23,15 @@ or_right true b n t = absurd (n tt)
 or_right false b n t = t
 
 module _ (f g : ℕ → ℕ → ℕ) where
-  abbrev pub agree-within : ℕ → ℕ → Bool
-  agree-within r n = ltb 8 (r + n) || eqb (f r n) (g r n)
+  abbrev pub agree_within : ℕ → ℕ → Bool
+  agree_within r n = ltb 8 (r + n) || eqb (f r n) (g r n)
 
   -- two rules of a part of a byte agree where the test says so at each
-  pub within : T (all_below 9 (λ r. all_below 9 (agree-within r))) → (r n : ℕ) → r + n ≤ 8 → f r n ≡ g r n
+  pub within : T (all_below 9 (λ r. all_below 9 (agree_within r))) → (r n : ℕ) → r + n ≤ 8 → f r n ≡ g r n
   within t r n h =
       eqb→eq (f r n) (g r n)
       (or_right (ltb 8 (r + n)) (eqb (f r n) (g r n)) (λ u. omega (arith, ltb→lt 8 (r + n) u))
-      (below 9 (agree-within r) (below 9 (λ r. all_below 9 (agree-within r)) t r (omega arith)) n (omega arith)))
+      (below 9 (agree_within r) (below 9 (λ r. all_below 9 (agree_within r)) t r (omega arith)) n (omega arith)))
 
 -- as the shifts have it
 pub ones_shifted : (r n : ℕ) → r + n ≤ 8 → 255 / 2 ^ (8 - n) * 2 ^ r % 2 ^ 8 ≡ ones_at r n

@@ -88,15 +88,15 @@ module _ (first : ℕ) (page : List ℕ) (below : first + length page ≤ 2 ^ 32
   -- ---- all records
 
   -- from a base and a count, a row is accepted with k data records more, and states these places
-  record Comes-to (base : Base) (count k : ℕ) (rest : List Numbered) (stated-places : List ℕ) : Type 0 where
+  record ComesTo (base : Base) (count k : ℕ) (rest : List Numbered) (stated-places : List ℕ) : Type 0 where
     line : ℕ
     decides : decision (within first (length page)) (tally count) (left base rest) ≡ some (by line (accepted (tally (count + k))))
     states : stated (left base rest) ≡ map (placement first page) stated-places
 
   module _ (marks : List ℕ) (even : length page ≡ length marks) where
     comes_data : (n count k : ℕ) (p : Piece) (rest : List Numbered) (later : List ℕ) → Good first marks p → Sayable (meant (data_of first p) page)
-        → Comes-to (linear (upper first p)) (suc count) k rest later
-        → Comes-to (linear (upper first p)) count (suc k) (on n (said_of (meant (data_of first p) page)) ∷ rest) (places p.place p.size ++ later)
+        → ComesTo (linear (upper first p)) (suc count) k rest later
+        → ComesTo (linear (upper first p)) count (suc k) (on n (said_of (meant (data_of first p) page)) ∷ rest) (places p.place p.size ++ later)
     unfolding decision turn stated does base_behind
     comes_data n count k p rest later g s c =
         let said = steps_said n (linear (upper first p)) (meant (data_of first p) page) rest s in
@@ -110,7 +110,7 @@ module _ (first : ℕ) (page : List ℕ) (below : first + length page ≤ 2 ^ 32
         }
 
     comes_upper : (n u count k : ℕ) (base : Base) (rest : List Numbered) (later : List ℕ) → Sayable (extended_linear u)
-        → Comes-to (linear u) count k rest later → Comes-to base count k (on n (said_of (extended_linear u)) ∷ rest) later
+        → ComesTo (linear u) count k rest later → ComesTo base count k (on n (said_of (extended_linear u)) ∷ rest) later
     unfolding does base_behind
     comes_upper n u count k base rest later s c =
         let said = steps_said n base (extended_linear u) rest s in
@@ -119,7 +119,7 @@ module _ (first : ℕ) (page : List ℕ) (below : first + length page ≤ 2 ^ 32
     -- the records of pieces, behind the latest upper 16 bits
     comes : (n count : ℕ) (base : Base) (latest : Option ℕ) (ps : List Piece) → Every (Good first marks) ps
         → Every (λ r. Sayable (meant r page)) (records first latest ps) → ((u : ℕ) → latest ≡ some u → base ≡ linear u)
-        → Comes-to base count (length ps) (spoken n (records first latest ps) page) (held ps)
+        → ComesTo base count (length ps) (spoken n (records first latest ps) page) (held ps)
     unfolding records spoken held decision turn stated along act does
     comes n count base latest [] g s b = record { line = n; decides = rw (add-zero count); states = refl }
     comes n count base latest (p ∷ ps) (g, gs) s b =
@@ -131,8 +131,8 @@ module _ (first : ℕ) (page : List ℕ) (below : first + length page ≤ 2 ^ 32
 
         go : (t : Bool) → is_latest latest (upper first p) ≡ t
             → Every (λ r. Sayable (meant r page)) ((if t then [] else ExtendedLinearAddress (upper first p) ∷ []) ++ (data_of first p ∷ later))
-            → ((m c : ℕ) → Every (λ r. Sayable (meant r page)) later → Comes-to (linear (upper first p)) c (length ps) (spoken m later page) (held ps))
-            → Comes-to base count (suc (length ps)) (spoken n ((if t then [] else ExtendedLinearAddress (upper first p) ∷ []) ++ (data_of first p ∷ later)) page)
+            → ((m c : ℕ) → Every (λ r. Sayable (meant r page)) later → ComesTo (linear (upper first p)) c (length ps) (spoken m later page) (held ps))
+            → ComesTo base count (suc (length ps)) (spoken n ((if t then [] else ExtendedLinearAddress (upper first p) ∷ []) ++ (data_of first p ∷ later)) page)
             (places p.place p.size ++ held ps)
         go true e (s, h) ih =
             rw (b (upper first p) (is_so latest (upper first p) e)) (comes_data n count (length ps) p _ _ g s (ih (suc n) (suc count) h))

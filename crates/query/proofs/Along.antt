@@ -31,10 +31,10 @@ asked_from address seen t s = answered (or_else (last_at address (stated s)) see
 
 module _ (address : ℕ) where
   -- the steps of these sayings are answered as their walk, whatever the count of data records so far
-  abbrev As-walked : List Numbered → Type 0
-  As-walked row = (k : Known) (t : Tally) → t.start ≡ k.start → asked_from address k.byte t (left k.base row) ≡ asked_along address k row
+  abbrev AsWalked : List Numbered → Type 0
+  AsWalked row = (k : Known) (t : Tally) → t.start ≡ k.start → asked_from address k.byte t (left k.base row) ≡ asked_along address k row
 
-  at_data : (n : ℕ) (k : Known) (t : Tally) (offset : ℕ) (bytes : List ℕ) (row : List Numbered) → t.start ≡ k.start → As-walked row
+  at_data : (n : ℕ) (k : Known) (t : Tally) (offset : ℕ) (bytes : List ℕ) (row : List Numbered) → t.start ≡ k.start → AsWalked row
       → asked_from address k.byte t (does_on n k.base (data_at offset bytes) ++ left k.base row)
       ≡ onward (at_record address n k (data_at offset bytes)) (λ k'. asked_along address k' row)
   unfolding asked_from decision turn stated does at_record
@@ -43,7 +43,7 @@ module _ (address : ℕ) where
       rw (all_anywhere what, last_append address what (stated (left k.base row)), or_else_assoc (last_at address (stated (left k.base row))) (last_at address what) k.byte)
       (ih (record { base = k.base; start = k.start; byte = or_else (last_at address what) k.byte }) (one_more t) e)
 
-  at_a_start : (n : ℕ) (k : Known) (t : Tally) (s : Start) (row : List Numbered) → t.start ≡ k.start → As-walked row
+  at_a_start : (n : ℕ) (k : Known) (t : Tally) (s : Start) (row : List Numbered) → t.start ≡ k.start → AsWalked row
       → asked_from address k.byte t (step n (starts s) ∷ left k.base row) ≡ onward (at_start n k s) (λ k'. asked_along address k' row)
   unfolding asked_from decision turn stated verdict
   at_a_start n k t s row e ih = rw e (go (differ k.start (some s)))
@@ -55,7 +55,7 @@ module _ (address : ℕ) where
       go true = refl
       go false = ih (record { base = k.base; start = or_else k.start (some s); byte = k.byte }) (record { records = t.records; start = or_else k.start (some s) }) refl
 
-  at_a_record : (n : ℕ) (k : Known) (t : Tally) (m : Meaning) (row : List Numbered) → t.start ≡ k.start → As-walked row
+  at_a_record : (n : ℕ) (k : Known) (t : Tally) (m : Meaning) (row : List Numbered) → t.start ≡ k.start → AsWalked row
       → asked_from address k.byte t (does_on n k.base m ++ left (base_behind k.base m) row) ≡ onward (at_record address n k m) (λ k'. asked_along address k' row)
   unfolding asked_from decision turn stated verdict last_at does base_behind at_record
   at_a_record n k t (data_at offset bytes) row e ih = at_data n k t offset bytes row e ih
@@ -65,7 +65,7 @@ module _ (address : ℕ) where
   at_a_record n k t (extended_linear x) row e ih = ih _ t e
   at_a_record n k t (start_linear x) row e ih = at_a_start n k t (linear_address x) row e ih
 
-  as_walked : (row : List Numbered) → As-walked row
+  as_walked : (row : List Numbered) → AsWalked row
   unfolding asked_from asked_along along act base_after decision turn stated verdict
   as_walked [] k t e = refl
   as_walked (on n (wrong r) ∷ row) k t e = refl

@@ -25,7 +25,7 @@ use Rattle.intel.specs.Placing.{intel, intel_by, steps_of, placements}
 use Rattle.intel.specs.Lines.{in_force, data_records, Stops, the_end, no_record, first_outside, start_differs, account}
 use Rattle.intel.proofs.Reasons.{counted_none, walked}
 use Rattle.intel.proofs.OneReason.{sound}
-use Rattle.intel.proofs.Puts.{holding, from_puts, to_puts, Put-there, one_byte, of_last}
+use Rattle.intel.proofs.Puts.{holding, from_puts, to_puts, PutThere, one_byte, of_last}
 use Rattle.record.proofs.Standing.{Stands, stands}
 use Rattle.intel.proofs.Claims.{fault_among, named_by}
 use Rattle.query.specs.declared.Asked.{Asked as CodeAsked}
@@ -63,7 +63,7 @@ module _ (ahead : List (List ℕ)) (address : ℕ) where
   only_found none f (this_byte b l) = absurd (f l.line l.dri b (from_puts ahead l.line l.dri address b l.puts))
   only_found none f (no_byte g) = refl
   only_found (some c) (line, i, p, later) (this_byte b l) =
-      ap states (one_last (Put-there ahead address) (one_byte ahead address) b c (of_last ahead address l)
+      ap states (one_last (PutThere ahead address) (one_byte ahead address) b c (of_last ahead address l)
       (record { line = line; i = i; puts = to_puts ahead line i address c p; none_later = λ n d e q. later n d e (from_puts ahead n d address e q) }))
   only_found (some c) (line, i, p, later) (no_byte g) = absurd (g line i c (to_puts ahead line i address c p))
 

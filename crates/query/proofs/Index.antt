@@ -5,7 +5,7 @@ use mathlib.Core.Option.{Option, none, some}
 use Rattle.record.specs.declared.Record.TheVariants.{Data}
 use Rattle.steps.specs.Runs.{spread}
 use Rattle.steps.specs.Sites.{last_at}
-use Rattle.steps.proofs.Puts.{In-record, in_record}
+use Rattle.steps.proofs.Puts.{InRecord, in_record}
 use Rattle.intel.specs.Placing.{Base, from_segment, from_linear, byte_address}
 use Rattle.intel.specs.Records.{LiesIn}
 use Rattle.query.specs.declared.Aim.{Aim}
@@ -62,7 +62,7 @@ module _ (at : ℕ → ℕ) (a : ℕ) (bytes : List ℕ) (r : ℕ) (solved : (i 
   last_there : r < length bytes → last_at a (spread at 0 bytes) ≡ some (get_or bytes r 0)
   last_there h = go (last_at a (spread at 0 bytes)) (in_record at a 0 bytes)
     where
-      go : (o : Option ℕ) → In-record at a 0 bytes o → o ≡ some (get_or bytes r 0)
+      go : (o : Option ℕ) → InRecord at a 0 bytes o → o ≡ some (get_or bytes r 0)
       go none f = absurd (f r h (rw (zero-add r) ((solved r h).1 refl)))
       go (some b) (j, l, q, g, later) =
           let same : j ≡ r = (solved j l).0 (rw (zero-add j) at q) in ap some (sym g ∙ ap (λ (i : ℕ). get_or bytes i 0) same)
@@ -70,7 +70,7 @@ module _ (at : ℕ → ℕ) (a : ℕ) (bytes : List ℕ) (r : ℕ) (solved : (i 
   last_nowhere : length bytes ≤ r → last_at a (spread at 0 bytes) ≡ none
   last_nowhere h = go (last_at a (spread at 0 bytes)) (in_record at a 0 bytes)
     where
-      go : (o : Option ℕ) → In-record at a 0 bytes o → o ≡ none
+      go : (o : Option ℕ) → InRecord at a 0 bytes o → o ≡ none
       go none f = refl
       go (some b) (j, l, q, g, later) = let same : j ≡ r = (solved j l).0 (rw (zero-add j) at q) in absurd (omega arith)
 

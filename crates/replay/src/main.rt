@@ -128,12 +128,12 @@ fn say_digits(rt: &impl Print, text: &[u8]) -> io::Result<()> {
     Ok(())
 }
 
-// Where the digits of a number begin that are printed: behind the zeros in front, but for those of its last `width` digits.
+// Where the digits of a number begin that are printed: behind the zeros in front, but for the last `width` digits, and the last.
 fn first_digit(text: &[u8], width: usize) -> usize
     ensures { result ≤ length text.now }
 {
     let mut i = 0;
-    while i < text.len() {
+    while i + 1 < text.len() {
         if text.len() - i <= width {
             break;
         }

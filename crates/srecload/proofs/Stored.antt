@@ -9,7 +9,7 @@ use Rattle.srec.proofs.Standing.{Stands, stands, fault_few}
 use Rattle.steps.specs.Steps.{Tally, Verdict, accepted, refused}
 use Rattle.steps.specs.Account.{AllPass}
 use Rattle.steps.proofs.Firsts.{AllInside}
-use Rattle.steps.proofs.Puts.{Laid, laid_states, Holding, Puts-after, owed_put, all_inside, first_out, owed_put_unique}
+use Rattle.steps.proofs.Puts.{Laid, laid_states, Holding, PutsAfter, owed_put, all_inside, first_out, owed_put_unique}
 use Rattle.window.specs.Window.{within}
 use Rattle.window.specs.Reasons.{bad_one, no_end, at_line}
 use Rattle.window.proofs.Loads.{at_place}
@@ -48,11 +48,11 @@ holding =
 
 -- what lines hold is what they put
 module _ (ls : List (List ℕ)) (n i a b : ℕ) where
-  from_puts : Puts ls n i a b → Puts-after holding [] ls a n i b
+  from_puts : Puts ls n i a b → PutsAfter holding [] ls a n i b
   unfolding s_address
   from_puts p = record { laid = record { at = s_address p.start; bytes = p.bytes }; there = ap held p.there; inside = p.inside; has = p.holds; lies = sym p.at }
 
-  to_puts : Puts-after holding [] ls a n i b → Puts ls n i a b
+  to_puts : PutsAfter holding [] ls a n i b → Puts ls n i a b
   unfolding s_address
   to_puts p = go (record_on (get_or ls n [])) refl p.there
     where

@@ -25,7 +25,7 @@ use Rattle.srecload.specs.declared.Walk.{Walk}
 use Rattle.srecload.specs.declared.Taken.{Taken}
 use Rattle.srecload.specs.declared.Taken.TheVariants.{On, Stop}
 use Rattle.srecload.specs.Placing.{SMeaning, s_header, s_data, s_count, s_end, s_address, s_placed, s_does, s_act, s_records}
-use Rattle.srecload.specs.Helpers.{meant_in, LiesIn, so_far, Passed, TookRecord, PutWhole}
+use Rattle.srecload.specs.Helpers.{meant_in, LiesIn, so_far, Passed, TookRecord, TookInWindow, PutWhole}
 use Rattle.srecload.specs.Taking.{told_taken, closed, TakeLine}
 use Rattle.srecload.proofs.Reading.{Came}
 use Rattle.srecload.proofs.Meeting.{means_data}
@@ -91,11 +91,11 @@ module _ (inside : ℕ → Bool) (there : Walk) (seen : ℕ) where
       → acted inside there.line tt (so_far seen) [] (s_does m) ≡ told_taken (Stop l) []
   record_stops m l h = went_out (s_does m) l h (acted inside there.line tt (so_far seen) [] (s_does m)) (comes m)
 
--- judged and written through the window as a table of its own, upon a page and marks that were left as they were
-pub took_by_table : (n seen : ℕ) (x : SRecord) (pool : List ℕ) (first : ℕ) (page marks page₁ marks₁ : List ℕ) → (page₁ ≡ page) × (marks₁ ≡ marks) → (r : Taken) (ps : List Placement)
-    → acted (inside_of 1 (rows_in (alone first (length page₁)))) n tt (so_far seen) [] (s_does (meant_in x pool)) ≡ told_taken r ps → (page' marks' : List ℕ)
-    → Painted (site_of 1 (rows_in (alone first (length page₁)))) ps page₁ marks₁ page' marks' → TookRecord n seen x pool first page marks r page' marks'
-took_by_table n seen x pool first page marks page₁ marks₁ (e, f) r ps h page' marks' p =
+-- taken through the window as a table of its own, upon a page and marks that were left as they were
+pub took_by_table : (n seen : ℕ) (x : SRecord) (pool : List ℕ) (first : ℕ) (page marks page₁ marks₁ : List ℕ) → (page₁ ≡ page) × (marks₁ ≡ marks) → (r : Taken) (page' marks' : List ℕ)
+    → TookRecord (inside_of 1 (rows_in (alone first (length page₁)))) (site_of 1 (rows_in (alone first (length page₁)))) n seen x pool page₁ marks₁ r page' marks'
+    → TookInWindow n seen x pool first page marks r page' marks'
+took_by_table n seen x pool first page marks page₁ marks₁ (e, f) r page' marks' (ps, h, p) =
     rw (← e, ← f) (ps, rw (inside_is first (length page₁)) at h, alone_painted first (length page₁) ps page₁ marks₁ page' marks' p)
 
 -- ---- a data record stored at once
@@ -139,14 +139,14 @@ module _ (x : SRecord) (pool : List ℕ) (first : ℕ) (page marks : List ℕ) w
 
 -- a line that gave a record, and one that was refused
 module _ (inside : ℕ → Bool) (n seen : ℕ) (line : List ℕ) where
-  abbrev pub Line-is : Went Unit → Type 0
-  Line-is w = at_line s_records inside n (record { state = tt; tally = so_far seen; stated = [] }) line ≡ w
+  abbrev pub LineIs : Went Unit → Type 0
+  LineIs w = at_line s_records inside n (record { state = tt; tally = so_far seen; stated = [] }) line ≡ w
 
-  pub line_read : (pool : List ℕ) (x : SRecord) (w : Went Unit) → Came line pool x → acted inside n tt (so_far seen) [] (s_does (meant_in x pool)) ≡ w → Line-is w
+  pub line_read : (pool : List ℕ) (x : SRecord) (w : Went Unit) → Came line pool x → acted inside n tt (so_far seen) [] (s_does (meant_in x pool)) ≡ w → LineIs w
   unfolding at_line s_records s_act
   line_read pool x w c h = rw c.said h
 
-  pub line_refused : (e : ReaderError) → judge line ≡ wrong (refusal_of e) → Line-is (told_taken (Stop (Refused (Line e) n)) [])
+  pub line_refused : (e : ReaderError) → judge line ≡ wrong (refusal_of e) → LineIs (told_taken (Stop (Refused (Line e) n)) [])
   unfolding at_line acted turn s_records s_act
   line_refused e h = rw h
 
@@ -169,7 +169,7 @@ module _ (line : List ℕ) (number seen first : ℕ) (page marks : List ℕ) whe
 
   -- a line that came to something in the window
   pub take_open : closed seen first (length page) (length marks) ≡ false → (r : Taken) (ps : List Placement) (page' marks' : List ℕ)
-      → Line-is (within first (length page)) number seen line (told_taken r ps)
+      → LineIs (within first (length page)) number seen line (told_taken r ps)
       → Painted (window first (length page)) ps page marks page' marks' → TakeLine line number seen first page marks r page' marks'
   take_open c r ps page' marks' e p =
       record {

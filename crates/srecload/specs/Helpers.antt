@@ -116,13 +116,17 @@ Wrote site text w page₀ marks₀ further.End page' marks' = (stated (ahead_of 
 
 -- ---- one line by itself
 
--- a record was taken as record of line n: in the window it came to what the answer tells, and what it stated is painted
-abbrev pub TookRecord : (n seen : ℕ) → SRecord → (pool : List ℕ) (first : ℕ) (page₀ marks₀ : List ℕ) → Taken → (page' marks' : List ℕ) → Type 0
-TookRecord n seen x pool first page₀ marks₀ r page' marks' =
-    (ps : List Placement) × (acted (within first (length page₀)) n tt (so_far seen) [] (s_does (meant_in x pool)) ≡ told_taken r ps)
-    × Painted (window first (length page₀)) ps page₀ marks₀ page' marks'
+-- a record was taken as record of line n: it came to what the answer tells, and what it stated is painted
+abbrev pub TookRecord : (inside : ℕ → Bool) (site : ℕ → Option ℕ) (n seen : ℕ) → SRecord → (pool page₀ marks₀ : List ℕ) → Taken → (page' marks' : List ℕ) → Type 0
+TookRecord inside site n seen x pool page₀ marks₀ r page' marks' =
+    (ps : List Placement) × (acted inside n tt (so_far seen) [] (s_does (meant_in x pool)) ≡ told_taken r ps) × Painted site ps page₀ marks₀ page' marks'
+
+-- the same of one window
+abbrev pub TookInWindow : (n seen : ℕ) → SRecord → (pool : List ℕ) (first : ℕ) (page₀ marks₀ : List ℕ) → Taken → (page' marks' : List ℕ) → Type 0
+TookInWindow n seen x pool first page₀ marks₀ r page' marks' =
+    TookRecord (within first (length page₀)) (window first (length page₀)) n seen x pool page₀ marks₀ r page' marks'
 
 -- a data record was stored at once, so on any line it counts one more; or nothing changed
 pub record PutWhole (x : SRecord) (pool : List ℕ) (first : ℕ) (page₀ marks₀ : List ℕ) (r : Bool) (page' marks' : List ℕ) : Type 0 where
-  pub took : r ≡ true → (n seen : ℕ) → TookRecord n seen x pool first page₀ marks₀ (taken.On (seen + 1)) page' marks'
+  pub took : r ≡ true → (n seen : ℕ) → TookInWindow n seen x pool first page₀ marks₀ (taken.On (seen + 1)) page' marks'
   pub kept : r ≡ false → (page' ≡ page₀) × (marks' ≡ marks₀)

@@ -10,7 +10,7 @@ ghost use Rattle.window.specs.Promises.{Surveyed, Painted};
 ghost use Rattle.srecload.specs.Placing.{s_records, s_address, s_placed, line_steps};
 ghost use Rattle.srecload.specs.Load.{placements, steps_of, LoadSRecords};
 ghost use Rattle.srecload.specs.Taking.{TakeLine};
-ghost use Rattle.srecload.specs.Helpers.{LiesIn, MeetsData, MeetsCount, Meets, Met, UnderWay, Judged, WroteRecord, WroteLine, Wrote, PutWhole, TookRecord};
+ghost use Rattle.srecload.specs.Helpers.{LiesIn, MeetsData, MeetsCount, Meets, Met, UnderWay, Judged, WroteRecord, WroteLine, Wrote, TookRecord, TookInWindow, PutWhole};
 
 use srec::{SAnswer, SRecord, types};
 use steps::{LoaderError, Loading, Start, Tally};
@@ -330,8 +330,34 @@ fn put_whole(pool: &[u8], given: SRecord, first: u32, page: &mut [u8], marks: &m
     window::put_inside(first, given.address, &pool[from..end], page, marks)
 }
 
-// Takes a record: if it lets the load go on, what it states is stored and marked. A data record that lies in the window takes a short way.
+// Takes a record: if it lets the load go on, what it states is stored and marked.
 fn take_record(
+    pool: &[u8],
+    rows: &[usize],
+    number: usize,
+    seen: usize,
+    given: SRecord,
+    page: &mut [u8],
+    marks: &mut [u8],
+) -> Taken
+    requires { LiesIn given pool.now × (seen + 1 < 2 ^ 64) × Sound (length page.old) (rows_in rows.now) }
+    ensures { TookRecord (inside_of 1 (rows_in rows.now)) (site_of 1 (rows_in rows.now)) number seen given pool.now page.old marks.old result page.new marks.new }
+{
+    let there = Walk {
+        position: 0,
+        line: number,
+    };
+    match judge_record(owners::FIRST, rows, there, seen, given) {
+        Turn::On(n, _) => {
+            write_record(pool, owners::FIRST, rows, given, page, marks);
+            Taken::On(n)
+        }
+        Turn::Stop(answer) => Taken::Stop(answer),
+    }
+}
+
+// Takes a record into a window. A data record that lies in the window takes a short way.
+fn take_in_window(
     pool: &[u8],
     number: usize,
     seen: usize,
@@ -341,23 +367,13 @@ fn take_record(
     marks: &mut [u8],
 ) -> Taken
     requires { LiesIn given pool.now × (seen + 1 < 2 ^ 64) × (unfit first (length page.old) (length marks.old) ≡ false) }
-    ensures { TookRecord number seen given pool.now first page.old marks.old result page.new marks.new }
+    ensures { TookInWindow number seen given pool.now first page.old marks.old result page.new marks.new }
 {
     if put_whole(pool, given, first, page, marks) {
         return Taken::On(seen + 1);
     }
     let rows = [owners::FIRST, first as usize, page.len(), 0];
-    let there = Walk {
-        position: 0,
-        line: number,
-    };
-    match judge_record(owners::FIRST, &rows, there, seen, given) {
-        Turn::On(n, _) => {
-            write_record(pool, owners::FIRST, &rows, given, page, marks);
-            Taken::On(n)
-        }
-        Turn::Stop(answer) => Taken::Stop(answer),
-    }
+    take_record(pool, &rows, number, seen, given, page, marks)
 }
 
 // Takes one line of S-records into a page with marks: judged as the loader judges it, with the number that a refusal names, after so many data records. If it lets the load go on, what it states is stored and marked. A window that is refused, and a count that can grow no more, are 16, with line 0.
@@ -376,7 +392,7 @@ pub fn take_line(
     }
     let mut pool = [0u8; MOST_DATA];
     match srec::read_srecord(line, &mut pool, 0) {
-        SAnswer::Read(given) => take_record(&pool, number, seen, given, first, page, marks),
+        SAnswer::Read(given) => take_in_window(&pool, number, seen, given, first, page, marks),
         SAnswer::Refused(e) => Taken::Stop(Loading::Refused(LoaderError::Line(e), number)),
     }
 }

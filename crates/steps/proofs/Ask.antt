@@ -25,8 +25,8 @@ all_anywhere (p ∷ ps) = all_anywhere ps
 
 module _ (inside : ℕ → Bool) where
   -- these steps are decided alike with every address inside, or one lies outside
-  abbrev Same-or-out : (s : List Step) (t : Tally) → Type 0
-  Same-or-out s t = (decision inside t s ≡ decision anywhere t s) ⊎ ((outer : ℕ) × ((n : ℕ) × (decision inside t s ≡ some (by n (refused (outside_window outer) n)))))
+  abbrev SameOrOut : (s : List Step) (t : Tally) → Type 0
+  SameOrOut s t = (decision inside t s ≡ decision anywhere t s) ⊎ ((outer : ℕ) × ((n : ℕ) × (decision inside t s ≡ some (by n (refused (outside_window outer) n)))))
 
   -- a step comes to the same, or lies outside
   turns : (t : Tally) (n : ℕ) (a : Action) → (turn inside t n a ≡ turn anywhere t n a) ⊎ ((outer : ℕ) × (turn inside t n a ≡ stop (refused (outside_window outer) n)))
@@ -42,19 +42,19 @@ module _ (inside : ℕ → Bool) where
   turns t n (fails r) = inl refl
 
   -- and so do steps
-  same_or_out : (s : List Step) (t : Tally) → Same-or-out s t
+  same_or_out : (s : List Step) (t : Tally) → SameOrOut s t
   unfolding decision
   same_or_out [] t = inl refl
   same_or_out (step n a ∷ s) t = go (turn anywhere t n a) (turns t n a) (same_or_out s)
     where
-      later : (x : Turn) → ((t' : Tally) → Same-or-out s t')
+      later : (x : Turn) → ((t' : Tally) → SameOrOut s t')
           → (onward n x (λ t'. decision inside t' s) ≡ onward n x (λ t'. decision anywhere t' s))
           ⊎ ((outer : ℕ) × ((m : ℕ) × (onward n x (λ t'. decision inside t' s) ≡ some (by m (refused (outside_window outer) m)))))
       later (on t') h = h t'
       later (stop v) h = inl refl
 
       go : (x : Turn) → (turn inside t n a ≡ x) ⊎ ((outer : ℕ) × (turn inside t n a ≡ stop (refused (outside_window outer) n)))
-          → ((t' : Tally) → Same-or-out s t')
+          → ((t' : Tally) → SameOrOut s t')
           → (onward n (turn inside t n a) (λ t'. decision inside t' s) ≡ onward n x (λ t'. decision anywhere t' s))
           ⊎ ((outer : ℕ) × ((m : ℕ) × (onward n (turn inside t n a) (λ t'. decision inside t' s) ≡ some (by m (refused (outside_window outer) m)))))
       go x (inl e) h = rw e (later x h)
@@ -64,7 +64,7 @@ module _ (inside : ℕ → Bool) where
   pub accepted_anywhere : (s : List Step) (n : ℕ) (t : Tally) → decision inside nothing_yet s ≡ some (by n (accepted t)) → decision anywhere nothing_yet s ≡ some (by n (accepted t))
   accepted_anywhere s n t d = go (same_or_out s nothing_yet)
     where
-      go : Same-or-out s nothing_yet → decision anywhere nothing_yet s ≡ some (by n (accepted t))
+      go : SameOrOut s nothing_yet → decision anywhere nothing_yet s ≡ some (by n (accepted t))
       go (inl q) = sym q ∙ d
       go (inr w) =
           let q : some (by n (accepted t)) ≡ some (by w.1.0 (refused (outside_window w.0) w.1.0)) = sym d ∙ w.1.1 in
@@ -106,7 +106,7 @@ pub like_or_outside : (inside : ℕ → Bool) (s : List Step) (address : ℕ) �
 unfolding ask_steps verdict
 like_or_outside inside s address = go (same_or_out inside s nothing_yet)
   where
-    go : Same-or-out inside s nothing_yet
+    go : SameOrOut inside s nothing_yet
         → Like (verdict (decision inside nothing_yet s)) (answered (last_at address (stated s)) (verdict (decision anywhere nothing_yet s))) ⊎ Outside (verdict (decision inside nothing_yet s))
     go (inl q) = inl (rw q (like_answered (last_at address (stated s)) (verdict (decision anywhere nothing_yet s))))
     go (inr w) = inr (w.0, w.1.0, ap verdict w.1.1)

@@ -105,15 +105,15 @@ module _ (inside : ℕ → Bool) (a : Tally) where
   Quiet t s = (n : ℕ) → ¬ Meets t s n
 
   -- an action states no start, or A's
-  abbrev No-other : Action → Type 0
-  No-other x = (z : Start) → x ≡ starts z → (y : Start) → a.start ≡ some y → z ≡ y
+  abbrev NoOther : Action → Type 0
+  NoOther x = (z : Start) → x ≡ starts z → (y : Start) → a.start ≡ some y → z ≡ y
 
   meets_here : (t : Tally) (n : ℕ) (y x : Start) (s : List Step) → a.start ≡ some y → x ≢ y → Meets t (step n (starts x) ∷ s) n
   unfolding decision
   meets_here t n y x s e d =
       record { start = y; other = x; before = []; later = s; first_is = e; whole = refl; differs = d; reached = refl; none_earlier = tt }
 
-  meets_later : (m : ℕ) (x : Action) (t t' : Tally) (s : List Step) (n : ℕ) → No-other x → turn inside t m x ≡ on t' → Meets t' s n → Meets t (step m x ∷ s) n
+  meets_later : (m : ℕ) (x : Action) (t t' : Tally) (s : List Step) (n : ℕ) → NoOther x → turn inside t m x ≡ on t' → Meets t' s n → Meets t (step m x ∷ s) n
   unfolding decision
   meets_later m x t t' s n other q f =
       record {
@@ -174,14 +174,14 @@ module _ (inside : ℕ → Bool) (a : Tally) where
   quiet_none : (t : Tally) → Quiet t []
   quiet_none t n f = not_empty f.before (step n (starts f.other)) f.later f.whole
 
-  quiet_on : (m : ℕ) (x : Action) (t t' : Tally) (s : List Step) → No-other x → turn inside t m x ≡ on t' → Quiet t' s → Quiet t (step m x ∷ s)
+  quiet_on : (m : ℕ) (x : Action) (t t' : Tally) (s : List Step) → NoOther x → turn inside t m x ≡ on t' → Quiet t' s → Quiet t (step m x ∷ s)
   quiet_on m x t t' s other q h n f = go (met m x t s n f)
     where
       go : Here m x ⊎ Further m x t s n → ⊥
       go (inl p) = p.differs (other p.other p.states p.start p.first_is)
       go (inr p) = let e : p.tally ≡ t' = cc p.goes_on in h n (rw e at p.meets)
 
-  quiet_stop : (m : ℕ) (x : Action) (t : Tally) (s : List Step) (v : Verdict) → No-other x → turn inside t m x ≡ stop v → Quiet t (step m x ∷ s)
+  quiet_stop : (m : ℕ) (x : Action) (t : Tally) (s : List Step) (v : Verdict) → NoOther x → turn inside t m x ≡ stop v → Quiet t (step m x ∷ s)
   quiet_stop m x t s v other q n f = go (met m x t s n f)
     where
       go : Here m x ⊎ Further m x t s n → ⊥
@@ -214,13 +214,13 @@ module _ (inside : ℕ → Bool) (k : ℕ) (a : Tally) where
   NoCount acts = (stated : ℕ) → ¬ Memᴰ (counts stated) acts
 
   module _ (n : ℕ) (x : Action) (s₁ s₂ : List Step) (t : Tally) where
-    both_go_on : (t' : Tally) → No-other inside a x → turn inside t (suc n) x ≡ on t' → turn inside (together a t) (k + suc n) x ≡ on (together a t') → Fate t' s₁ s₂
+    both_go_on : (t' : Tally) → NoOther inside a x → turn inside t (suc n) x ≡ on t' → turn inside (together a t) (k + suc n) x ≡ on (together a t') → Fate t' s₁ s₂
         → Fate t (step (k + suc n) x ∷ s₁) (step (suc n) x ∷ s₂)
     unfolding decision
     both_go_on t' other p q (alike h e g) = alike (quiet_on inside a (suc n) x t t' s₂ other p h) (rw (p, q) e) (rw p g)
     both_go_on t' other p q (conflict m f e g) = conflict m (meets_later inside a (suc n) x t t' s₂ m other p f) (rw q e) (rw p g)
 
-    both_stop : (v : Verdict) → No-other inside a x → turn inside t (suc n) x ≡ stop v → turn inside (together a t) (k + suc n) x ≡ stop (after_verdict k a v)
+    both_stop : (v : Verdict) → NoOther inside a x → turn inside t (suc n) x ≡ stop v → turn inside (together a t) (k + suc n) x ≡ stop (after_verdict k a v)
         → ((b : Tally) → v ≡ accepted b → Agreeing a.start b.start) → Fate t (step (k + suc n) x ∷ s₁) (step (suc n) x ∷ s₂)
     unfolding decision verdict
     both_stop v other p q g = alike (quiet_stop inside a (suc n) x t s₂ v other p) (rw (p, q)) (rw p g)
@@ -331,7 +331,7 @@ module _ (inside : ℕ → Bool) (k : ℕ) (a : Tally) where
   unfolding turn
   after_step n (places what) s₁ s₂ never h t g = go (outside inside what) refl
     where
-      none_other : No-other inside a (places what)
+      none_other : NoOther inside a (places what)
       none_other z e = let w : ◌≡◌ {A = ℕ} 0 1 = cc in absurd (omega arith)
 
       go : (o : Option ℕ) → outside inside what ≡ o → Fate t (step (k + suc n) (places what) ∷ s₁) (step (suc n) (places what) ∷ s₂)

@@ -84,11 +84,11 @@ module _ {S : Type 0} (src : Source S) (reset : List ℕ) (j : Joinable src rese
   lines_joined front b w = lines_closed (as_closed front w) (reset ++ (LF ∷ b)) ∙ ap (λ (x : List (List ℕ)). lines front ++ x) (j.one_line b)
 
   -- A's steps before its end
-  abbrev front-steps : (a : List ℕ) → List Step
-  front-steps a = steps src src.beginning 1 (lines (before_end src a))
+  abbrev front_steps : (a : List ℕ) → List Step
+  front_steps a = steps src src.beginning 1 (lines (before_end src a))
 
   joined_steps : (a b : List ℕ) → HasEnd src a
-      → steps_of src (joined src reset a b) ≡ front-steps a ++ steps src src.beginning (suc (lines_ahead src a) + 1) (lines b)
+      → steps_of src (joined src reset a b) ≡ front_steps a ++ steps src src.beginning (suc (lines_ahead src a) + 1) (lines b)
   unfolding steps_of joined
   joined_steps a b h =
       let s = src.beginning in
@@ -97,7 +97,7 @@ module _ {S : Type 0} (src : Source S) (reset : List ℕ) (j : Joinable src rese
       let e : suc (1 + n) ≡ suc (lines_ahead src a) + 1 = omega (arith, lines_ahead_counts S src a h) in
       ap (steps src s 1) (lines_joined front b (before_end_made_so S src a h).whole_lines)
       ∙ steps_append src s 1 (lines front) (reset ∷ lines b)
-      ∙ ap (λ (x : List Step). front-steps a ++ x)
+      ∙ ap (λ (x : List Step). front_steps a ++ x)
       (with_a_byte reset j.has_a_byte (state_after src s (lines front)) (1 + n) (lines b)
       ∙ rw (j.silent (state_after src s (lines front)), j.back (state_after src s (lines front))) (ap (λ (m : ℕ). steps src s m (lines b)) e))
 
@@ -108,7 +108,7 @@ module _ {S : Type 0} (src : Source S) (reset : List ℕ) (j : Joinable src rese
   at_end (c ∷ l) s n ls e = rw (j.plain_end s (c ∷ l) e)
 
   -- A's steps: those, its end, and others
-  steps_cut : (a : List ℕ) → HasEnd src a → (line : ℕ) × (others : List Step) × (steps_of src a ≡ front-steps a ++ (step line finishes ∷ others))
+  steps_cut : (a : List ℕ) → HasEnd src a → (line : ℕ) × (others : List Step) × (steps_of src a ≡ front_steps a ++ (step line finishes ∷ others))
   unfolding steps_of
   steps_cut a h =
       let k = before_end_made_so S src a h in
@@ -121,7 +121,7 @@ module _ {S : Type 0} (src : Source S) (reset : List ℕ) (j : Joinable src rese
         ap (λ (x : List ℕ). steps src s 1 (lines x)) k.whole
             ∙ ap (steps src s 1) (lines_closed (as_closed front k.whole_lines) k.rest ∙ ap (λ (x : List (List ℕ)). lines front ++ x) k.next)
             ∙ steps_append src s 1 (lines front) (k.line ∷ k.later)
-            ∙ ap (λ (x : List Step). front-steps a ++ x) (at_end k.line at line k.later k.is_end),
+            ∙ ap (λ (x : List Step). front_steps a ++ x) (at_end k.line at line k.later k.is_end),
       )
 
   -- ---- decided and stated
@@ -131,23 +131,23 @@ module _ {S : Type 0} (src : Source S) (reset : List ℕ) (j : Joinable src rese
     end_of : HasEnd src a
     end_of = accepted_has src inside a ta n e
 
-    handed_on : Handed inside nothing_yet ta (front-steps a)
+    handed_on : Handed inside nothing_yet ta (front_steps a)
     handed_on =
         let (line, others, cut) = steps_cut a end_of in
-        handed inside (front-steps a) others line n nothing_yet ta
+        handed inside (front_steps a) others line n nothing_yet ta
         (no_end_lines src src.beginning 1 (lines (before_end src a)) (before_end_made_so S src a end_of).none_ends) (ap (decision inside nothing_yet) (sym cut) ∙ e)
 
-    abbrev later-steps : (b : List ℕ) → List Step
-    later-steps b = steps src src.beginning (suc (lines_ahead src a) + 1) (lines b)
+    abbrev later_steps : (b : List ℕ) → List Step
+    later_steps b = steps src src.beginning (suc (lines_ahead src a) + 1) (lines b)
 
-    pub decided_after : (b : List ℕ) → verdict (decision inside nothing_yet (steps_of src (joined src reset a b))) ≡ verdict (decision inside (together ta nothing_yet) (later-steps b))
+    pub decided_after : (b : List ℕ) → verdict (decision inside nothing_yet (steps_of src (joined src reset a b))) ≡ verdict (decision inside (together ta nothing_yet) (later_steps b))
     decided_after b =
         let same : ta ≡ together ta nothing_yet = λ i. record { records = sym (add-zero ta.records) i; start = sym (or_else_none ta.start) i } in
         ap (λ (s : List Step). verdict (decision inside nothing_yet s)) (joined_steps a b end_of)
-        ∙ ap verdict (handed_on.decides (later-steps b))
-        ∙ ap (λ (t : Tally). verdict (decision inside t (later-steps b))) same
+        ∙ ap verdict (handed_on.decides (later_steps b))
+        ∙ ap (λ (t : Tally). verdict (decision inside t (later_steps b))) same
 
-    pub fate_after : (b : List ℕ) → Fate inside (suc (lines_ahead src a)) ta nothing_yet (later-steps b) (steps_of src b)
+    pub fate_after : (b : List ℕ) → Fate inside (suc (lines_ahead src a)) ta nothing_yet (later_steps b) (steps_of src b)
     unfolding steps_of
     fate_after b = after_tally inside (suc (lines_ahead src a)) ta src j.no_count src.beginning 0 (lines b) nothing_yet (agree ta.start)
       where
@@ -159,7 +159,7 @@ module _ {S : Type 0} (src : Source S) (reset : List ℕ) (j : Joinable src rese
     unfolding steps_of stated
     stated_after b =
         let (line, others, cut) = steps_cut a end_of in
-        let own : stated (steps_of src a) ≡ stated (front-steps a) = ap stated cut ∙ handed_on.states (step line finishes ∷ others) ∙ append-nil (stated (front-steps a)) in
+        let own : stated (steps_of src a) ≡ stated (front_steps a) = ap stated cut ∙ handed_on.states (step line finishes ∷ others) ∙ append-nil (stated (front_steps a)) in
         ap stated (joined_steps a b end_of)
         ∙ handed_on.states (steps src src.beginning (suc (lines_ahead src a) + 1) (lines b))
         ∙ ap₂ (λ (x y : List Placement). x ++ y) (sym own) (stated_anywhere src src.beginning (suc (lines_ahead src a) + 1) 1 (lines b))

@@ -42,8 +42,8 @@ module _ (site : ℕ → Option ℕ) (ps : List Placement) (page marks : List �
   store_mark (refused r n) i h = refl
 
 module _ (room : Room) (steps : List Step) (b : Buffers) where
-  abbrev the-verdict : Verdict
-  the-verdict = judged room steps
+  abbrev the_verdict : Verdict
+  the_verdict = judged room steps
 
   pub after_lengths : (length (after room steps b).page ≡ length b.page) × (length (after room steps b).marks ≡ length b.marks)
   unfolding after load_steps

@@ -52,13 +52,13 @@ module _ (at : ℕ → ℕ) where
 
   module _ (a : ℕ) where
     -- what the bytes from byte i on have at the address: none of them, or this one as the last
-    abbrev pub In-record : (i : ℕ) → List ℕ → Option ℕ → Type 0
-    In-record i bytes none = (j : ℕ) → j < length bytes → at (i + j) ≢ a
-    In-record i bytes (some b) =
+    abbrev pub InRecord : (i : ℕ) → List ℕ → Option ℕ → Type 0
+    InRecord i bytes none = (j : ℕ) → j < length bytes → at (i + j) ≢ a
+    InRecord i bytes (some b) =
         (j : ℕ) × (j < length bytes) × (at (i + j) ≡ a) × (get_or bytes j 0 ≡ b) × ((k : ℕ) → k < length bytes → at (i + k) ≡ a → k ≤ j)
 
-    one_byte : (i b : ℕ) (bytes : List ℕ) (o : Option ℕ) (t : Bool) → eqb (at i) a ≡ t → In-record (suc i) bytes o
-        → In-record i (b ∷ bytes) (or_else o (if t then some b else none))
+    one_byte : (i b : ℕ) (bytes : List ℕ) (o : Option ℕ) (t : Bool) → eqb (at i) a ≡ t → InRecord (suc i) bytes o
+        → InRecord i (b ∷ bytes) (or_else o (if t then some b else none))
     one_byte i b bytes (some c) t e (j, h, q, g, later) = (suc j, omega arith, rw (step j) q, g, at_most)
       where
         step : (k : ℕ) → i + suc k ≡ suc i + k
@@ -78,7 +78,7 @@ module _ (at : ℕ → ℕ) where
         nowhere zero l p = eqb-false (at i) a e (rw (← (add-zero i)) p)
         nowhere (suc k) l p = let s : i + suc k ≡ suc i + k = omega arith in f k (omega arith) (rw (← s) p)
 
-    pub in_record : (i : ℕ) (bytes : List ℕ) → In-record i bytes (last_at a (spread at i bytes))
+    pub in_record : (i : ℕ) (bytes : List ℕ) → InRecord i bytes (last_at a (spread at i bytes))
     unfolding last_at spread
     in_record i [] = λ j h. absurd (omega arith)
     in_record i (b ∷ bytes) = one_byte i b bytes (last_at a (spread at (suc i) bytes)) (eqb (at i) a) refl (in_record (suc i) bytes)
@@ -103,66 +103,66 @@ pub record Holding : Type 0 where
 
 module _ (h : Holding) where
   -- byte i of line n lies at the address, where the lines stand after others
-  pub record Puts-after (ahead ls : List (List ℕ)) (a n i byte : ℕ) : Type 0 where
+  pub record PutsAfter (ahead ls : List (List ℕ)) (a n i byte : ℕ) : Type 0 where
     pub laid : Laid
     pub there : h.holds (ahead ++ take n ls) (get_or ls n []) ≡ some laid
     pub inside : i < length laid.bytes
     pub has : get_or laid.bytes i 0 ≡ byte
     pub lies : laid.at i ≡ a
 
-  no_lines : (ahead : List (List ℕ)) (a n i b : ℕ) → ¬ Puts-after ahead [] a n i b
+  no_lines : (ahead : List (List ℕ)) (a n i b : ℕ) → ¬ PutsAfter ahead [] a n i b
   no_lines ahead a n i b p = let e = h.empty_none (ahead ++ take n []) in let z : ◌≡◌ {A = ℕ} 0 1 = cc p.there in omega arith
 
   module _ (a : ℕ) where
     -- what the lines have at the address: nothing, or this byte as the last
     abbrev pub Among : (ahead ls : List (List ℕ)) → Option ℕ → Type 0
-    Among ahead ls none = (n i b : ℕ) → ¬ Puts-after ahead ls a n i b
+    Among ahead ls none = (n i b : ℕ) → ¬ PutsAfter ahead ls a n i b
     Among ahead ls (some byte) =
-        (line : ℕ) × (i : ℕ) × Puts-after ahead ls a line i byte
-        × ((n j b : ℕ) → Puts-after ahead ls a n j b → (n < line) ⊎ ((n ≡ line) × (j ≤ i)))
+        (line : ℕ) × (i : ℕ) × PutsAfter ahead ls a line i byte
+        × ((n j b : ℕ) → PutsAfter ahead ls a n j b → (n < line) ⊎ ((n ≡ line) × (j ≤ i)))
 
     -- what the first of them has
-    abbrev On-first : (ahead : List (List ℕ)) (l : List ℕ) (ls : List (List ℕ)) → Option ℕ → Type 0
-    On-first ahead l ls none = (i b : ℕ) → ¬ Puts-after ahead (l ∷ ls) a zero i b
-    On-first ahead l ls (some byte) =
-        (i : ℕ) × Puts-after ahead (l ∷ ls) a zero i byte × ((j b : ℕ) → Puts-after ahead (l ∷ ls) a zero j b → j ≤ i)
+    abbrev OnFirst : (ahead : List (List ℕ)) (l : List ℕ) (ls : List (List ℕ)) → Option ℕ → Type 0
+    OnFirst ahead l ls none = (i b : ℕ) → ¬ PutsAfter ahead (l ∷ ls) a zero i b
+    OnFirst ahead l ls (some byte) =
+        (i : ℕ) × PutsAfter ahead (l ∷ ls) a zero i byte × ((j b : ℕ) → PutsAfter ahead (l ∷ ls) a zero j b → j ≤ i)
 
     module _ (ahead : List (List ℕ)) (l : List ℕ) (ls : List (List ℕ)) where
-      on_it : (i b : ℕ) (p : Puts-after ahead (l ∷ ls) a zero i b) → h.holds ahead l ≡ some p.laid
+      on_it : (i b : ℕ) (p : PutsAfter ahead (l ∷ ls) a zero i b) → h.holds ahead l ≡ some p.laid
       on_it i b p = rw append-nil at p.there
 
-      met : (x : Laid) → h.holds ahead l ≡ some x → (i b : ℕ) → Puts-after ahead (l ∷ ls) a zero i b → (i < length x.bytes) × (x.at (0 + i) ≡ a)
+      met : (x : Laid) → h.holds ahead l ≡ some x → (i b : ℕ) → PutsAfter ahead (l ∷ ls) a zero i b → (i < length x.bytes) × (x.at (0 + i) ≡ a)
       met x e i b p =
           let q = on_it i b p in
           let same : p.laid ≡ x = cc in
           (rw (← same) p.inside, rw (zero-add i, ← same) p.lies)
 
-      put : (x : Laid) → h.holds ahead l ≡ some x → (j b : ℕ) → j < length x.bytes → x.at (0 + j) ≡ a → get_or x.bytes j 0 ≡ b → Puts-after ahead (l ∷ ls) a zero j b
+      put : (x : Laid) → h.holds ahead l ≡ some x → (j b : ℕ) → j < length x.bytes → x.at (0 + j) ≡ a → get_or x.bytes j 0 ≡ b → PutsAfter ahead (l ∷ ls) a zero j b
       put x e j b k q g = record { laid = x; there = rw append-nil e; inside = k; has = g; lies = rw (zero-add j) at q }
 
-      on_data : (x : Laid) → h.holds ahead l ≡ some x → (o : Option ℕ) → In-record x.at a 0 x.bytes o → On-first ahead l ls o
+      on_data : (x : Laid) → h.holds ahead l ≡ some x → (o : Option ℕ) → InRecord x.at a 0 x.bytes o → OnFirst ahead l ls o
       on_data x e none f = λ j b p. let (k, q) = met x e j b p in f j k q
       on_data x e (some b) (j, k, q, g, later) = (j, put x e j b k q g, λ d c p. let (i, r) = met x e d c p in later d i r)
 
-      on_first : On-first ahead l ls (last_at a (laid_states (h.holds ahead l)))
+      on_first : OnFirst ahead l ls (last_at a (laid_states (h.holds ahead l)))
       unfolding last_at
       on_first = go (h.holds ahead l) refl
         where
-          go : (o : Option Laid) → h.holds ahead l ≡ o → On-first ahead l ls (last_at a (laid_states o))
+          go : (o : Option Laid) → h.holds ahead l ≡ o → OnFirst ahead l ls (last_at a (laid_states o))
           go none e = λ i b p. let q = on_it i b p in let z : ◌≡◌ {A = ℕ} 0 1 = cc in omega arith
           go (some x) e = on_data x e (last_at a (spread x.at 0 x.bytes)) (in_record x.at a 0 x.bytes)
 
       -- the lines after the first
-      down : (n i b : ℕ) → Puts-after ahead (l ∷ ls) a (suc n) i b → Puts-after (ahead ++ (l ∷ [])) ls a n i b
+      down : (n i b : ℕ) → PutsAfter ahead (l ∷ ls) a (suc n) i b → PutsAfter (ahead ++ (l ∷ [])) ls a n i b
       down n i b p = record { laid = p.laid; there = rw append_assoc p.there; inside = p.inside; has = p.has; lies = p.lies }
 
-      up : (n i b : ℕ) → Puts-after (ahead ++ (l ∷ [])) ls a n i b → Puts-after ahead (l ∷ ls) a (suc n) i b
+      up : (n i b : ℕ) → PutsAfter (ahead ++ (l ∷ [])) ls a n i b → PutsAfter ahead (l ∷ ls) a (suc n) i b
       up n i b p = record { laid = p.laid; there = rw append_assoc at p.there; inside = p.inside; has = p.has; lies = p.lies }
 
-      both : (o₁ o₂ : Option ℕ) → On-first ahead l ls o₁ → Among (ahead ++ (l ∷ [])) ls o₂ → Among ahead (l ∷ ls) (or_else o₂ o₁)
+      both : (o₁ o₂ : Option ℕ) → OnFirst ahead l ls o₁ → Among (ahead ++ (l ∷ [])) ls o₂ → Among ahead (l ∷ ls) (or_else o₂ o₁)
       both o₁ (some b) f (line, i, p, later) = (suc line, i, up line i b p, last)
         where
-          last : (n j c : ℕ) → Puts-after ahead (l ∷ ls) a n j c → (n < suc line) ⊎ ((n ≡ suc line) × (j ≤ i))
+          last : (n j c : ℕ) → PutsAfter ahead (l ∷ ls) a n j c → (n < suc line) ⊎ ((n ≡ suc line) × (j ≤ i))
           last zero j c q = inl (omega arith)
           last (suc n) j c q = go (later n j c (down n j c q))
             where
@@ -171,12 +171,12 @@ module _ (h : Holding) where
               go (inr (e, k)) = inr (ap suc e, k)
       both (some b) none (i, p, later) g = (zero, i, p, last)
         where
-          last : (n j c : ℕ) → Puts-after ahead (l ∷ ls) a n j c → (n < 0) ⊎ ((n ≡ 0) × (j ≤ i))
+          last : (n j c : ℕ) → PutsAfter ahead (l ∷ ls) a n j c → (n < 0) ⊎ ((n ≡ 0) × (j ≤ i))
           last zero j c q = inr (refl, later j c q)
           last (suc n) j c q = absurd (g n j c (down n j c q))
       both none none f g = nothing
         where
-          nothing : (n j c : ℕ) → ¬ Puts-after ahead (l ∷ ls) a n j c
+          nothing : (n j c : ℕ) → ¬ PutsAfter ahead (l ∷ ls) a n j c
           nothing zero j c q = f j c q
           nothing (suc n) j c q = g n j c (down n j c q)
 
@@ -191,7 +191,7 @@ module _ (h : Holding) where
   -- ---- what is owed to a place
 
   -- by what was found for it, in the words of a loader
-  module _ (ls : List (List ℕ)) (a old : ℕ) (P : (n i b : ℕ) → Type 0) (to : (n i b : ℕ) → Puts-after [] ls a n i b → P n i b) (from : (n i b : ℕ) → P n i b → Puts-after [] ls a n i b) where
+  module _ (ls : List (List ℕ)) (a old : ℕ) (P : (n i b : ℕ) → Type 0) (to : (n i b : ℕ) → PutsAfter [] ls a n i b → P n i b) (from : (n i b : ℕ) → P n i b → PutsAfter [] ls a n i b) where
     owed_for : (o : Option ℕ) → Among a [] ls o → OwedPut P old (mark o) (Option.get_or o old)
     unfolding mark
     owed_for none f =
@@ -215,7 +215,7 @@ module _ (h : Holding) where
   -- ---- inside and outside
 
   module _ (w : Account) (inside : ℕ → Bool) (lie : (ahead : List (List ℕ)) (l : List ℕ) → w.passes ahead l → AllInside inside (laid_states (h.holds ahead l))) where
-    line_inside : (ahead : List (List ℕ)) (l : List ℕ) (ls : List (List ℕ)) → w.passes ahead l → (i a b : ℕ) → Puts-after ahead (l ∷ ls) a zero i b → inside a ≡ true
+    line_inside : (ahead : List (List ℕ)) (l : List ℕ) (ls : List (List ℕ)) → w.passes ahead l → (i a b : ℕ) → PutsAfter ahead (l ∷ ls) a zero i b → inside a ≡ true
     line_inside ahead l ls x i a b p =
         let e = on_it a ahead l ls i b p in
         let ps = spread p.laid.at 0 p.laid.bytes in
@@ -223,7 +223,7 @@ module _ (h : Holding) where
         rw (← q) (first_inside p.laid.at inside 0 p.laid.bytes ps [] (sym (append-nil ps)) (rw e at (lie ahead l x)) i (rw (length_spread p.laid.at 0 p.laid.bytes) k))
 
     -- each byte of lines that pass lies inside
-    pub all_inside : (ahead ls : List (List ℕ)) → AllPass w ahead ls → (n i a b : ℕ) → Puts-after ahead ls a n i b → inside a ≡ true
+    pub all_inside : (ahead ls : List (List ℕ)) → AllPass w ahead ls → (n i a b : ℕ) → PutsAfter ahead ls a n i b → inside a ≡ true
     all_inside ahead [] x n i a b p = absurd (no_lines ahead a n i b p)
     all_inside ahead (l ∷ ls) x zero i a b p = line_inside ahead l ls x.0 i a b p
     all_inside ahead (l ∷ ls) x (suc n) i a b p = all_inside (ahead ++ (l ∷ [])) ls x.1 n i a b (down a ahead l ls n i b p)
@@ -247,7 +247,7 @@ module _ (h : Holding) where
             let same = ap (λ (ps : List Placement). get_or ps (length before) (record { address = 0; byte = 0 })) s ∙ get_or-append_seam before p after (record { address = 0; byte = 0 }) in
             rw (← (zero-add (length before))) (ap (λ (q : Placement). q.address) (sym here ∙ same))
 
-        earlier : (m j a b : ℕ) → Puts-after [] all a m j b → (m < length ahead) ⊎ ((m ≡ length ahead) × (j < length before)) → inside a ≡ true
+        earlier : (m j a b : ℕ) → PutsAfter [] all a m j b → (m < length ahead) ⊎ ((m ≡ length ahead) × (j < length before)) → inside a ≡ true
         earlier m j a b q (inl k) =
             all_inside [] ahead pass m j a b
             (record {
@@ -264,10 +264,10 @@ module _ (h : Holding) where
             let is : x.at (0 + j) ≡ a = rw (zero-add j, ← same) q.lies in
             rw (← is) (first_inside x.at inside 0 x.bytes before (p ∷ after) s first j l)
 
-      pub first_out : h.states ahead line ≡ before ++ (p ∷ after) → FirstOut inside (λ n i a b. Puts-after [] all a n i b) p.address (suc (length ahead))
+      pub first_out : h.states ahead line ≡ before ++ (p ∷ after) → FirstOut inside (λ n i a b. PutsAfter [] all a n i b) p.address (suc (length ahead))
       first_out s = go (h.holds ahead line) refl (sym (h.same ahead line) ∙ s)
         where
-          go : (o : Option Laid) → h.holds ahead line ≡ o → laid_states o ≡ before ++ (p ∷ after) → FirstOut inside (λ n i a b. Puts-after [] all a n i b) p.address (suc (length ahead))
+          go : (o : Option Laid) → h.holds ahead line ≡ o → laid_states o ≡ before ++ (p ∷ after) → FirstOut inside (λ n i a b. PutsAfter [] all a n i b) p.address (suc (length ahead))
           go none e s = absurd (not_empty before p after s)
           go (some x) e s =
               record {

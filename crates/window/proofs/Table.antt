@@ -427,13 +427,13 @@ refused_exactly owner pool marks rows = (breaks owner pool marks rows, λ b. fal
 -- ---- one window that fills the pool
 
 module _ (owner first pool marks : ℕ) where
-  abbrev whole-pool : Row
-  whole-pool = record { owner = owner; first = first; size = pool; place = 0 }
+  abbrev whole_pool : Row
+  whole_pool = record { owner = owner; first = first; size = pool; place = 0 }
 
   itself : eqb owner owner ≡ true
   itself = eq-eqb owner owner refl
 
-  pub inside_same : (a : ℕ) → inside_of owner (whole-pool ∷ []) a ≡ within first pool a
+  pub inside_same : (a : ℕ) → inside_of owner (whole_pool ∷ []) a ≡ within first pool a
   unfolding inside_of
   inside_same a = rw itself (go (within first pool a))
     where
@@ -441,14 +441,14 @@ module _ (owner first pool marks : ℕ) where
       go true = refl
       go false = refl
 
-  pub site_same : (i : ℕ) → site_of owner (whole-pool ∷ []) i ≡ window first pool i
+  pub site_same : (i : ℕ) → site_of owner (whole_pool ∷ []) i ≡ window first pool i
   unfolding site_of window within
   site_same i =
       let a : first + (i - 0) ≡ first + i = omega arith in
       let b : 0 + pool ≡ pool = omega arith in
       rw (itself, le-leb 0 i (omega arith), b, a)
 
-  no_fault : is_owner owner ≡ true → unfit first pool marks ≡ false → fits owner pool marks (whole-pool ∷ []) ≡ true
+  no_fault : is_owner owner ≡ true → unfit first pool marks ≡ false → fits owner pool marks (whole_pool ∷ []) ≡ true
   unfolding fits unfit
   no_fault o u =
       let (u₁, a) = or_false (not (eqb (row_length pool) marks) || ltb 65536 pool) (ltb (2 ^ 32) (first + pool)) u in
@@ -457,7 +457,7 @@ module _ (owner first pool marks : ℕ) where
       let b : leb (0 + pool) pool ≡ true = le-leb (0 + pool) pool (omega arith) in
       rw (o, le-leb pool 65536 (ltb-false 65536 pool p), eq-eqb marks (row_length pool) q, le-leb (first + pool) (2 ^ 32) (ltb-false (2 ^ 32) (first + pool) a), b)
 
-  fault_same : is_owner owner ≡ true → unfit first pool marks ≡ false → (owned owner pool marks (whole-pool ∷ [])).fault ≡ (one_window first pool marks).fault
+  fault_same : is_owner owner ≡ true → unfit first pool marks ≡ false → (owned owner pool marks (whole_pool ∷ [])).fault ≡ (one_window first pool marks).fault
   unfolding owned one_window
   fault_same o u = rw (no_fault o u, u)
 

@@ -273,10 +273,10 @@ module _ {S : Type 0} (src : Source S) (owner first : ℕ) (text pool marks : Li
   abbrev only : List Row
   only = record { owner = owner; first = first; size = length pool; place = 0 } ∷ []
 
-  abbrev its-window : Room
-  its-window = one_window first (length pool) (length marks)
+  abbrev its_window : Room
+  its_window = one_window first (length pool) (length marks)
 
-  room_same : owned owner (length pool) (length marks) only ≡ its-window
+  room_same : owned owner (length pool) (length marks) only ≡ its_window
   room_same = one_window_table owner first (length pool) (length marks) o u
 
   -- the table's load, and the window's, each with the marks unpacked
@@ -284,13 +284,13 @@ module _ {S : Type 0} (src : Source S) (owner first : ℕ) (text pool marks : Li
   unfolding sites.load
   answer_same =
       (as_plain owner only (steps_of src text) pool marks).0 ∙ ap (λ (r : Room). (load_steps r (steps_of src text) pool (bits marks)).answer) room_same
-      ∙ (other_marks its-window (steps_of src text) pool (bits marks) (flags (length pool) marks)).0 ∙ sym (loads.as_plain src text first pool marks).answers
+      ∙ (other_marks its_window (steps_of src text) pool (bits marks) (flags (length pool) marks)).0 ∙ sym (loads.as_plain src text first pool marks).answers
 
   page_same : (load_rows owner only (steps_of src text) pool marks).page ≡ (load_window src text first pool marks).page
   unfolding sites.load
   page_same =
       (as_plain owner only (steps_of src text) pool marks).1 ∙ ap (λ (r : Room). (load_steps r (steps_of src text) pool (bits marks)).page) room_same
-      ∙ (other_marks its-window (steps_of src text) pool (bits marks) (flags (length pool) marks)).1 ∙ sym (loads.as_plain src text first pool marks).pages
+      ∙ (other_marks its_window (steps_of src text) pool (bits marks) (flags (length pool) marks)).1 ∙ sym (loads.as_plain src text first pool marks).pages
 
   mark_same : (i : ℕ) → i < length pool → (v : Verdict) → (load_window src text first pool marks).answer ≡ v
       → mark_at (load_rows owner only (steps_of src text) pool marks).marks i ≡ mark_at (load_window src text first pool marks).marks i
@@ -302,7 +302,7 @@ module _ {S : Type 0} (src : Source S) (owner first : ℕ) (text pool marks : Li
       let w = loads.fit_window src text first pool marks t e in
       let m = w.row in
       mark_of owner only (steps_of src text) pool marks i ∙ ap (λ (r : Room). get_or (load_steps r (steps_of src text) pool (bits marks)).marks i 0) room_same
-      ∙ other_mark its-window (steps_of src text) pool (bits marks) (flags (length pool) marks) i (omega (arith, bits_length marks, m, row_holds_places (length pool)))
+      ∙ other_mark its_window (steps_of src text) pool (bits marks) (flags (length pool) marks) i (omega (arith, bits_length marks, m, row_holds_places (length pool)))
       (omega (arith, flags_length (length pool) marks)) (bits_say marks i ∙ sym ((flags_made_so (length pool) marks).say i h))
       ∙ sym (loads.mark_of src text first pool marks t e i h)
 

@@ -1,18 +1,14 @@
--- `intake::met` meets its contract: tail and kind are those that were tested.
+-- `intake::met` meets its contract: the kind is the one that was matched.
 -- Assumes nothing.
-use Rattle.std.proofs.Common.{sym, rules}
-use Rattle.intake.proofs.Ways.{tail_holds}
+use Rattle.std.proofs.Common.{rules}
 use Rattle.intake.proofs.met.Statement.{statement}
 use Rattle.intake.proofs.met.Tie as tie
 
-returns : tie.Need-returns-then-mode
-returns c = rw c.if-mode.true (sym (tail_holds c.args.mode.kind c.args.tally))
+returns : tie.Need-returns-in-Hex
+returns c = rw c.in-Hex.is
 
-returns-2 : tie.Need-returns-in-Hex
-returns-2 c = rw (c.if-mode.false, c.in-Hex.is)
-
-returns-3 : tie.Need-returns-in-SRecords
-returns-3 c = rw (c.if-mode.false, c.in-SRecords.is)
+returns-2 : tie.Need-returns-in-SRecords
+returns-2 c = rw c.in-SRecords.is
 
 pub met_spec : {M : Type 1} → statement M
-met_spec = tie.close (tie.spec returns (λ c. search rules) (λ c. search rules) returns-2 returns-3)
+met_spec = tie.close (tie.spec (λ c. search rules) (λ c. search rules) returns returns-2)

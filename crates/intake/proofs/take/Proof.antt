@@ -1,36 +1,28 @@
--- `intake::take` meets its contract: a line of a tail is passed over, and each kind is taken by its own function.
+-- `intake::take` meets its contract: each kind is taken by its own function.
 -- Assumes nothing.
 use Rattle.std.proofs.Common.{rules}
-use Rattle.intake.proofs.Turning.{pass_so}
 use Rattle.intake.proofs.take.Statement.{statement}
 use Rattle.intake.proofs.take.Tie as tie
 
-returns : tie.Need-returns-then-mode
+returns : tie.Need-returns-in-Hex
 returns c =
-    let a = c.args in
-    rw (c.if-mode.true, c.pass.ensures) (pass_so a.skipped a.number a.base a.tally a.first a.page.now a.marks.now a.mode.kind a.line.now)
+    rw c.in-Hex.is c.take_hex.ensures
 
-returns-2 : tie.Need-returns-in-Hex
+returns-2 : tie.Need-returns-in-SRecords
 returns-2 c =
-    rw (c.in-Hex.is, c.if-mode.false) c.take_hex.ensures
-
-returns-3 : tie.Need-returns-in-SRecords
-returns-3 c =
-    rw (c.in-SRecords.is, c.if-mode.false) c.take_srecord.ensures
+    rw c.in-SRecords.is c.take_srecord.ensures
 
 pub take_spec : {M : Type 1} → statement M
 take_spec =
     tie.close
     (tie.spec
+    (λ c. search rules)
     (λ c κs. search rules)
+    (λ c. search rules)
+    (λ c κs. search rules)
+    (λ c. search rules)
+    (λ c. search rules)
     returns
     (λ c. search rules)
-    (λ c κs. search rules)
     (λ c. search rules)
-    (λ c κs. search rules)
-    (λ c. search rules)
-    (λ c. search rules)
-    returns-2
-    (λ c. search rules)
-    (λ c. search rules)
-    returns-3)
+    returns-2)

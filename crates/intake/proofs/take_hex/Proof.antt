@@ -9,8 +9,7 @@ use Rattle.loader.specs.declared.Taken.{Taken}
 use Rattle.loader.specs.declared.Taken.TheVariants.{Stop}
 use Rattle.loader.specs.Helpers.{based, told_taken}
 use Rattle.intake.specs.declared.Turn.TheVariants as turn
-use Rattle.intake.specs.Ways.{hex_standing}
-use Rattle.intake.specs.Helpers.{in_line}
+use Rattle.intake.specs.Helpers.{in_line, hex_standing}
 use Rattle.intake.proofs.Turning.{turned, stop_in_line}
 use Rattle.intake.proofs.take_hex.Statement.{statement}
 use Rattle.intake.proofs.take_hex.Tie as tie
@@ -18,22 +17,18 @@ use Rattle.intake.proofs.take_hex.Tie as tie
 returns : tie.Need-returns-in-On
 returns c =
     let a = c.args in
-    let t = c.take_line in (
-      turned intel hex_standing told_taken (Stop (Refused BadWindow 0)) refl a.line.now a.skipped a.number a.base a.tally (based a.base) (tallied a.tally) refl
-          a.first a.page.now a.marks.now c.requires t.result _ _ t.ensures (turn.On c.in-On.after c.in-On.t)
-          (λ ps. ap (λ (x : Taken). in_line a.skipped (told_taken x ps)) c.in-On.is),
-      tt,
-    )
+    let t = c.take_line in
+    turned intel hex_standing told_taken (Stop (Refused BadWindow 0)) refl a.line.now a.skipped a.number a.base a.tally (based a.base) (tallied a.tally) refl
+    a.first a.page.now a.marks.now c.requires t.result _ _ t.ensures (turn.On c.in-On.after c.in-On.t)
+    (λ ps. ap (λ (x : Taken). in_line a.skipped (told_taken x ps)) c.in-On.is)
 
 returns-2 : tie.Need-returns-in-Stop
 returns-2 c =
     let a = c.args in
-    let t = c.take_line in (
-      turned intel hex_standing told_taken (Stop (Refused BadWindow 0)) refl a.line.now a.skipped a.number a.base a.tally (based a.base) (tallied a.tally) refl
-          a.first a.page.now a.marks.now c.requires t.result _ _ t.ensures (turn.Stop c.in_line.result)
-          (λ ps. ap (λ (x : Taken). in_line a.skipped (told_taken x ps)) c.in-Stop.is ∙ stop_in_line a.skipped ps c.in-Stop.answer c.in_line.result c.in_line.ensures),
-      tt,
-    )
+    let t = c.take_line in
+    turned intel hex_standing told_taken (Stop (Refused BadWindow 0)) refl a.line.now a.skipped a.number a.base a.tally (based a.base) (tallied a.tally) refl
+    a.first a.page.now a.marks.now c.requires t.result _ _ t.ensures (turn.Stop c.in_line.result)
+    (λ ps. ap (λ (x : Taken). in_line a.skipped (told_taken x ps)) c.in-Stop.is ∙ stop_in_line a.skipped ps c.in-Stop.answer c.in_line.result c.in_line.ensures)
 
 pub take_hex_spec : {M : Type 1} → statement M
 take_hex_spec =

@@ -3,9 +3,7 @@
 use Rattle.std.proofs.Common.{◌≤◌, [], length, sym, subst, arith, length-take, length-take-le, rules}
 use Rattle.chunks.specs.declared.LineReply.{LineReply}
 use Rattle.chunks.specs.Line.{Inside}
-use Rattle.intake.specs.Ways.{way_of}
-use Rattle.intake.proofs.Ways.{lawful}
-use Rattle.intake.proofs.Finishing.{last_by, no_last_by, ends_missing_so, ends_line_so, Last-by}
+use Rattle.intake.proofs.Finishing.{last_by, no_last_by, ends_missing_so, ends_line_so, LastBy}
 use Rattle.intake.proofs.take_last.Statement.{statement}
 use Rattle.intake.proofs.take_last.Tie as tie
 
@@ -27,8 +25,8 @@ returns c =
     let l = c.last_line-step in
     let t = c.take-turn in
     rw c.answer_after.ensures
-    (ends_line_so (way_of a.s.kind a.s.tail) (lawful a.s.kind a.s.tail) a.first a.s a.carry.now a.page.now a.marks.now l.new.carry c.in-InCarry.len c.in-InCarry.skipped l.result.state
-    (subst (Last-by a.s a.carry.now l.result.state l.new.carry) c.in-InCarry.is (last_by a.s a.carry.now c.requires.0 w.result w.ensures l.result l.new.carry l.ensures))
+    (ends_line_so a.first a.s a.carry.now a.page.now a.marks.now a.s.kind l.new.carry c.in-InCarry.len c.in-InCarry.skipped l.result.state
+    (subst (LastBy a.s a.carry.now l.result.state l.new.carry) c.in-InCarry.is (last_by a.s a.carry.now c.requires.0 w.result w.ensures l.result l.new.carry l.ensures))
     (simp length-take (omega (arith, (in_carry c.before.before.before.before.before.before.before.before).0))) w.result w.ensures t.result _ _ t.ensures)
 
 returns-2 : tie.Need-returns
@@ -36,7 +34,7 @@ returns-2 c =
     let a = c.args in
     let w = c.stand-w in
     let l = c.last_line-step in
-    ends_missing_so (way_of a.s.kind a.s.tail) (lawful a.s.kind a.s.tail) a.first a.s a.carry.now a.page.now a.marks.now
+    ends_missing_so a.first a.s a.carry.now a.page.now a.marks.now a.s.kind
     (no_last_by a.s a.carry.now l.result.state l.new.carry l.result.reply c.in_default.in_default-own.keys2
     (last_by a.s a.carry.now c.requires.0 w.result w.ensures l.result l.new.carry l.ensures))
 

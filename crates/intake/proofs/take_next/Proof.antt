@@ -6,8 +6,6 @@ use Rattle.chunks.specs.declared.LineReply.{LineReply}
 use Rattle.chunks.specs.Next.{kept_in}
 use Rattle.chunks.specs.Line.{Inside}
 use Rattle.chunks.proofs.Calls.{fits}
-use Rattle.intake.specs.Ways.{way_of}
-use Rattle.intake.proofs.Ways.{lawful}
 use Rattle.intake.proofs.Hearing.{found_by, used_up_so, in_chunk_so, in_carry_so}
 use Rattle.intake.proofs.take_next.Statement.{statement}
 use Rattle.intake.proofs.take_next.Tie as tie
@@ -25,43 +23,43 @@ in_carry c =
 add-to : tie.Need-overflow_add-to
 add-to c = omega (arith, in_chunk c)
 
-part-hear-end : tie.Need-slice_bounds-hear-end
-part-hear-end c = in_chunk c
+part-take-end : tie.Need-slice_bounds-take-end
+part-take-end c = in_chunk c
 
-slice-reshare-prefix-hear : tie.Need-slice_bounds-hear-end-in-InCarry
-slice-reshare-prefix-hear c = (in_carry c).1
+slice-reshare-prefix-take : tie.Need-slice_bounds-take-end-in-InCarry
+slice-reshare-prefix-take c = (in_carry c).1
 
-slice-aggregate-hear : tie.Need-slice_bounds-hear-end-in-InCarry-2
-slice-aggregate-hear c = sym (length-take-le c.in-InCarry.len c.next_line-step.new.carry (in_carry c).1)
+slice-aggregate-take : tie.Need-slice_bounds-take-end-in-InCarry-2
+slice-aggregate-take c = sym (length-take-le c.in-InCarry.len c.next_line-step.new.carry (in_carry c).1)
 
 returns : tie.Need-returns-in-InChunk
 returns c =
     let a = c.args in
     let l = c.next_line-step in
-    let h = c.hear.ensures in
-    rw h.answer
-    (in_chunk_so (way_of a.mode.kind a.mode.tail) (lawful a.mode.kind a.mode.tail) a.first a.w a.chunk.now a.carry.now a.page.now a.marks.now l.new.carry l.result.state
-    (omega (arith, (fits a.w.reader a.carry.now c.requires.0.big_enough).0, l.auto.carry)) h.came _ _ _
+    let t = c.take-turn in
+    rw c.hear.ensures
+    (in_chunk_so a.kind a.first a.w a.chunk.now a.carry.now a.page.now a.marks.now l.new.carry l.result.state
+    (omega (arith, (fits a.w.reader a.carry.now c.requires.0.big_enough).0, l.auto.carry)) t.result _ _ _
     (found_by a.w.reader a.chunk.now a.carry.now l.result l.new.carry c.requires.0 l.ensures _ c.in-InChunk.is)
-    (rw (part_is a.chunk.now c.in-InChunk.from c.in-InChunk.len) at h.turned))
+    (rw (part_is a.chunk.now c.in-InChunk.from c.in-InChunk.len) at t.ensures))
 
 returns-2 : tie.Need-returns-in-InCarry
 returns-2 c =
     let a = c.args in
     let l = c.next_line-step in
-    let h = c.hear-in-InCarry.ensures in
-    rw h.answer
-    (in_carry_so (way_of a.mode.kind a.mode.tail) (lawful a.mode.kind a.mode.tail) a.first a.w a.chunk.now a.carry.now a.page.now a.marks.now l.new.carry l.result.state
-    (omega (arith, (fits a.w.reader a.carry.now c.requires.0.big_enough).0, l.auto.carry)) h.came _ _ (kept_in l.new.carry c.in-InCarry.len c.in-InCarry.skipped)
-    (simp length-take (omega (arith, (in_carry c.before.before.before.before.before.before.before).0)))
+    let t = c.take-turn-in-InCarry in
+    rw c.hear-in-InCarry.ensures
+    (in_carry_so a.kind a.first a.w a.chunk.now a.carry.now a.page.now a.marks.now l.new.carry l.result.state
+    (omega (arith, (fits a.w.reader a.carry.now c.requires.0.big_enough).0, l.auto.carry)) t.result _ _ (kept_in l.new.carry c.in-InCarry.len c.in-InCarry.skipped)
+    (simp length-take (omega (arith, (in_carry c.before.before.before.before.before.before.before.before).0)))
     (found_by a.w.reader a.chunk.now a.carry.now l.result l.new.carry c.requires.0 l.ensures _ c.in-InCarry.is)
-    h.turned)
+    t.ensures)
 
 returns-3 : tie.Need-returns-in-UsedUp
 returns-3 c =
     let a = c.args in
     let l = c.next_line-step in
-    used_up_so (way_of a.mode.kind a.mode.tail) (lawful a.mode.kind a.mode.tail) a.first a.w a.chunk.now a.carry.now a.page.now a.marks.now l.new.carry l.result.state
+    used_up_so a.kind a.first a.w a.chunk.now a.carry.now a.page.now a.marks.now l.new.carry l.result.state
     (found_by a.w.reader a.chunk.now a.carry.now l.result l.new.carry c.requires.0 l.ensures _ c.in-UsedUp.is)
 
 returns-4 : tie.Need-returns-in-Done
@@ -85,11 +83,13 @@ take_next_spec =
     add-to
     (λ c. search rules)
     (λ c. search rules)
-    part-hear-end
+    part-take-end
+    (λ c κs. search rules)
     (λ c κs. search rules)
     (λ c. search rules)
-    slice-reshare-prefix-hear
-    slice-aggregate-hear
+    slice-reshare-prefix-take
+    slice-aggregate-take
+    (λ c κs. search rules)
     (λ c κs. search rules)
     (λ c. search rules)
     (λ c. search rules)

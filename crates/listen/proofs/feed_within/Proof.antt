@@ -10,9 +10,9 @@ use lib.ListN.{length}
 use borrow.Author.Rules.{rules}
 use Rattle.steps.specs.declared.Loading.{Loading}
 use Rattle.window.specs.Window.{unfit}
-use Rattle.intake.specs.declared.Reply.{Reply}
-use Rattle.intake.specs.declared.Reply.TheVariants.{Decided}
-use Rattle.intake.specs.contracts.Reply.{the_type}
+use Rattle.intake_tail.specs.declared.Reply.{Reply}
+use Rattle.intake_tail.specs.declared.Reply.TheVariants.{Decided}
+use Rattle.intake_tail.specs.contracts.Reply.{the_type}
 use Rattle.listen.proofs.Testing.{feeds_fit, heard_bad, heard_decided, heard_else}
 use Rattle.listen.proofs.feed_within.Statement.{statement}
 use Rattle.listen.proofs.feed_within.Tie as tie

@@ -1,7 +1,7 @@
 -- `listen::pause_within` meets its contract: a tail is dropped, and a dump ends.
 -- Assumes nothing.
 use borrow.Author.Rules.{rules}
-use Rattle.intake.specs.declared.Ending.TheVariants.{Decided, CarryTooSmall}
+use Rattle.intake_tail.specs.declared.Ending.TheVariants.{Decided, CarryTooSmall}
 use Rattle.listen.proofs.Pausing.{pauses_tail, pauses_dump}
 use Rattle.listen.proofs.pause_within.Statement.{statement}
 use Rattle.listen.proofs.pause_within.Tie as tie

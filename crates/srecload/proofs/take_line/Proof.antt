@@ -38,13 +38,13 @@ returns c =
     take_closed a.line.now a.number a.seen a.first a.page.now a.marks.now
     (⊎_elim (λ w. closed_unfit a.seen a.first (length a.page.now) (length a.marks.now) (u ∙ w)) (λ (x, y). closed_full a.seen a.first (length a.page.now) (length a.marks.now) (u ∙ x) (omega (arith, y))) c.then-is_unfit.either)
 
-take-record-requires : tie.Need-take_record-requires
-take-record-requires c κs = let k = came c.before.before.before in ((k.lies, k.few), grows c.before.before.before.before.before.before.before, fit c.before.before.before.before.before.before.before)
+take-in-window-requires : tie.Need-take_in_window-requires
+take-in-window-requires c κs = let k = came c.before.before.before in ((k.lies, k.few), grows c.before.before.before.before.before.before.before, fit c.before.before.before.before.before.before.before)
 
 returns-2 : tie.Need-returns-in-Read
 returns-2 c =
     let a = c.args in
-    let t = c.take_record in
+    let t = c.take_in_window in
     let (ps, e, p) = t.ensures in
     take_open a.line.now a.number a.seen a.first a.page.now a.marks.now (may-go c.before.before.before.before.before.before.before.before.before.before.before.before) t.result ps _ _ (line_read (within a.first (length a.page.now)) a.number a.seen a.line.now _ _ (told_taken t.result ps) (came c.before.before.before.before.before.before.before.before) e) p
 
@@ -65,7 +65,7 @@ take_line_spec =
     (λ c κs. search rules)
     (λ c. search rules)
     (λ c. search rules)
-    take-record-requires
+    take-in-window-requires
     (λ c. search rules)
     (λ c. search rules)
     (λ c. search rules)
