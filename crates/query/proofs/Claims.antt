@@ -13,7 +13,6 @@ use Rattle.steps.specs.Steps.{Placement, Tally, nothing_yet, Verdict, accepted, 
 use Rattle.steps.specs.Source as source
 use Rattle.steps.specs.Sites.{last_at}
 use Rattle.steps.specs.Account.{AllPass, all_states, one_of}
-use Rattle.steps.specs.Puts as puts
 use Rattle.steps.specs.Ask.{anywhere, Asked, states, refuses, found, answered, ask_steps}
 use Rattle.steps.specs.Ask as steps
 use Rattle.steps.specs.declared.Loading.TheVariants.{Refused as LoadRefused}
@@ -30,7 +29,7 @@ use Rattle.record.proofs.Standing.{Stands, stands}
 use Rattle.intel.proofs.Claims.{fault_among, named_by}
 use Rattle.query.specs.declared.Asked.{Asked as CodeAsked}
 use Rattle.query.specs.declared.Asked.TheVariants.{States, NotStated, Refused}
-use Rattle.query.specs.Ask.{told_asked, ask}
+use Rattle.query.specs.Ask.{told_asked}
 use Rattle.query.specs.Claims.{PutsLast, this_byte, no_byte, AtLine, Why, no_end, bad_line, at_end, Reasons, OneReason, Among, Total, AskNamesTheOffender, RefusedEverywhere, NothingAfter, AskUnique, Examples}
 
 pub examples : Examples

@@ -11,7 +11,6 @@ use Rattle.reader.specs.Along.{unread}
 use Rattle.steps.specs.declared.Start.{Start as CodeStart}
 use Rattle.steps.specs.Steps.{Start}
 use Rattle.steps.specs.Sites.{last_at}
-use Rattle.steps.specs.Ask.{found}
 use Rattle.steps.specs.Told.{told_start}
 use Rattle.intel.specs.Placing.{Base, from_segment, from_linear, byte_address, placed}
 use Rattle.intel.specs.Records.{UnderWay}

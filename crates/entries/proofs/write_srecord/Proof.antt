@@ -1,7 +1,7 @@
 -- `entries::write_srecord` meets its contract: numbers that are an S-record are written as its line.
 -- Assumes nothing.
 use mathlib.Core.Path.{ap, subst}
-use mathlib.Core.Option.{Option, map}
+use mathlib.Core.Option.{map}
 use Rattle.srec.specs.declared.SType.{SType}
 use Rattle.srec.specs.declared.Named.{Named}
 use Rattle.srec.specs.declared.SRecord.{SRecord}
