@@ -7,7 +7,7 @@ use mathlib.Core.Bool.{true, false}
 use mathlib.Core.List.{List, ◌++◌, append-nil}
 use native.Mathlib.Omega.{arith}
 use lib.ListN.{length, get_or, take, drop, drop_of_length-le}
-use lib.Seq.{get_or-take, get_or-drop, take-length}
+use lib.Seq.{get_or-take, get_or-drop}
 use borrow.Author.Tests.{eq-eqb, ne_eqb}
 use Rattle.digits.proofs.Parts.{part_length}
 use Rattle.marks.specs.Marks.{row_length, mark_at, Marked, Unmarked, NextMarked, NextUnmarked}

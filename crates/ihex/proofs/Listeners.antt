@@ -1,6 +1,6 @@
 -- The claims of `specs/Listeners.antt`: what `listen` and `light` prove, in numbers.
 -- Assumes nothing.
-use Prim.Native.Nat.{ℕ, ◌+◌, ◌%◌, ◌≤◌, ◌<◌}
+use Prim.Native.Nat.{ℕ, ◌+◌, ◌%◌, ◌≤◌}
 use mathlib.Core.Path.{◌≡◌, refl, sym, ap, ap₂, subst, ◌∙◌}
 use mathlib.Core.Logic.{◌≢◌, ◌↔◌, ◌⊎◌, inl, inr}
 use mathlib.Core.Bool.{Bool, true, false, ◌&&◌}
@@ -11,10 +11,9 @@ use lib.Dec.{eqb}
 use lib.ListN.{length, take, drop}
 use borrow.Author.Tests.{ne_eqb, eqb-true}
 use Rattle.std.specs.Prelude.{if◌then◌else◌}
-use Rattle.record.specs.Refusals.{Refusal, refusal, number_of}
+use Rattle.record.specs.Refusals.{Refusal, refusal}
 use Rattle.reader.specs.declared.ReaderError.{ReaderError}
 use Rattle.reader.specs.declared.ReaderError.TheVariants.{MissingStartCode, RecordTooShort, RecordTooLong, RecordNotEvenLength, ContainsInvalidCharacters, ChecksumMismatch, PayloadLengthMismatch, UnsupportedRecordType, InvalidLengthForType, PoolFull}
-use Rattle.steps.specs.declared.LoaderError.{LoaderError}
 use Rattle.steps.specs.declared.LoaderError.TheVariants.{Line, MissingEndOfFileRecord, BadWindow, OutsideWindow, CountMismatch, StartConflict, BadTable}
 use Rattle.steps.specs.declared.Loading.{Loading}
 use Rattle.steps.specs.declared.Loading.TheVariants.{Accepted, Refused}
@@ -54,7 +53,7 @@ use Rattle.listen.proofs.Answers.{feed_unique, pause_unique, commit_unique}
 use Rattle.listen.proofs.Calls.{dump_decides, dump_commits, dump_ends, end_commits, tail_passes, pause_begins}
 use Rattle.listen.proofs.Waiting.{eighteen_exactly, dump_says, dump_waits, tail_says, tail_waits}
 use Rattle.codes.specs.declared.Stand.{Stand}
-use Rattle.codes.specs.Codes.{OK, DONE, USEDUP, CARRYTOOSMALL, refused_with, LoadNumbers, load_numbers}
+use Rattle.codes.specs.Codes.{OK, USEDUP, CARRYTOOSMALL, refused_with, LoadNumbers, load_numbers}
 use Rattle.codes.specs.Lights.{color_number, count_number}
 use Rattle.codes.specs.States.{bit}
 use Rattle.codes.specs.Listeners as codes

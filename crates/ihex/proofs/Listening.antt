@@ -1,7 +1,7 @@
 -- What a listener's functions return, as the entry points tell it in numbers.
 -- Assumes nothing.
 use Prim.Native.Nat.{ℕ}
-use mathlib.Core.Path.{◌≡◌, refl, sym, subst, ◌∙◌}
+use mathlib.Core.Path.{◌≡◌, refl, subst}
 use mathlib.Core.List.{List}
 use Rattle.steps.specs.declared.Loading.{Loading}
 use Rattle.light.specs.declared.Light.{Light}
@@ -9,7 +9,6 @@ use Rattle.light.specs.declared.Dumped.{Dumped}
 use Rattle.light.specs.Light.{told_color, told_count}
 use Rattle.light.specs.After.{After}
 use Rattle.listen.specs.declared.Listener.{Listener}
-use Rattle.listen.specs.declared.Said.{Said}
 use Rattle.listen.specs.declared.Step.{Step}
 use Rattle.listen.specs.declared.Committed.{Committed}
 use Rattle.listen.specs.Listener.{Hears, Pauses, Commits}
@@ -17,7 +16,7 @@ use Rattle.codes.specs.declared.Coded.{Coded}
 use Rattle.codes.specs.declared.Stand.{Stand}
 use Rattle.codes.specs.Codes.{LoadNumbers}
 use Rattle.codes.specs.Lights.{color_number, count_number}
-use Rattle.codes.specs.Listeners.{listener_of, stand, stands_for, StandOf, said_numbers, CodeSaid, commit_code, answer_of}
+use Rattle.codes.specs.Listeners.{listener_of, StandOf, said_numbers, CodeSaid, commit_code, answer_of}
 use Rattle.ihex.specs.Entries.{six}
 use Rattle.ihex.specs.Listening.{TellSaid, IhexFeed, IhexPause, flags_after, IhexCommit, IhexLightAfter}
 

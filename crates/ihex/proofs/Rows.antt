@@ -18,9 +18,8 @@ use Rattle.std.specs.Prelude.{if◌then◌else◌}
 use Rattle.record.specs.Refusals.{pool_full, carry_too_small}
 use Rattle.record.specs.Line.{judge}
 use Rattle.digits.proofs.Tests.{split}
-use Rattle.record.proofs.Standing.{stands}
 use Rattle.reader.specs.Told.{Told, refuses, done}
-use Rattle.reader.specs.Answer.{given, answered, poured}
+use Rattle.reader.specs.Answer.{answered, poured}
 use Rattle.reader.specs.Lines.{lines}
 use Rattle.chunks.specs.declared.Chunks.{Chunks}
 use Rattle.chunks.specs.declared.Place.{Place}

@@ -2,7 +2,7 @@
 -- Assumes nothing.
 use Prim.Native.Nat.{ℕ, ◌%◌}
 use mathlib.Core.Path.{◌≡◌, refl, sym, ap, subst, ◌∙◌}
-use mathlib.Core.Logic.{◌⊎◌, inl, inr}
+use mathlib.Core.Logic.{inl, inr}
 use mathlib.Core.Bool.{Bool, true, false}
 use mathlib.Core.List.{List, [], ◌∷◌, ◌++◌, map, map-append}
 use native.Mathlib.Omega.{arith}
@@ -10,7 +10,6 @@ use lib.Dec.{eqb}
 use lib.ListN.{drop}
 use Rattle.std.specs.Prelude.{if◌then◌else◌}
 use Rattle.steps.specs.declared.Loading.{Loading}
-use Rattle.steps.specs.Steps.{Verdict}
 use Rattle.steps.specs.Told.{told_loading}
 use Rattle.intake_tail.specs.declared.Kind.{Kind}
 use Rattle.intake_tail.specs.declared.Kind.TheVariants.{Hex, SRecords}
@@ -26,7 +25,7 @@ use Rattle.listen.proofs.Streams.{done_so, calls_listen}
 use Rattle.codes.specs.declared.Stand.{Stand}
 use Rattle.codes.specs.Codes.{OK, LoadNumbers, load_numbers}
 use Rattle.codes.specs.States.{bit}
-use Rattle.codes.specs.Listeners.{kind_of, kind_flag, intake_of, listener_of, stand, stands_for, commit_code}
+use Rattle.codes.specs.Listeners.{kind_of, kind_flag, intake_of, listener_of, stands_for, commit_code}
 use Rattle.ihex.specs.Listening.{IhexFeed, IhexCommit, flags_after}
 use Rattle.ihex.specs.Streams.{with_flags, IhexCalls, none_yet, going_on, deciding, committing, first_stand, IhexCallsListen}
 use Rattle.ihex.proofs.Listeners.{wants, passes, code_of, which, front_stands}

@@ -4,7 +4,7 @@ use Rattle.std.specs.Prelude.{◌≡◌, ℕ, ◌+◌, ◌%◌, ◌^◌, ◌<◌
 use Rattle.std.proofs.Math.Option.{none}
 use Rattle.std.specs.Prelude.{if◌then◌else◌}
 use Rattle.reader.specs.Text.{default_options}
-use Rattle.chunks.specs.Begun.{Kept, nothing, brief, stands_for}
+use Rattle.chunks.specs.Begun.{Kept, brief, stands_for}
 use Rattle.chunks.specs.Helpers.{refusal_in_line}
 use Rattle.chunks.specs.Next.{begun, too_small}
 use Rattle.chunks.specs.declared.Chunks.{Chunks}

@@ -19,7 +19,7 @@ use Rattle.window.proofs.Loads.{passed, turned_away, row, plain_sizes, fit_windo
 use Rattle.light.specs.declared.Color.TheVariants.{Broken}
 use Rattle.light.specs.declared.Light.{Light}
 use Rattle.light.specs.declared.Dumped.{Dumped}
-use Rattle.light.specs.Colors.{Outcome, refused_one, color}
+use Rattle.light.specs.Colors.{refused_one, color}
 use Rattle.light.specs.Light.{told_count, load_for, count_in, said_in, outcome, light_after}
 use Rattle.light.specs.After.{is_none, is_row, goes_with, taken, said_after, After, AfterUnique, AfterAlike, AfterLoad, AfterLoadWindow, Examples}
 use Rattle.light.specs.Helpers.{Held, Tells, GoesWith}

@@ -1,6 +1,6 @@
 -- What a text states is bytes, so a count has 16 bits.
 -- Assumes nothing.
-use Rattle.std.proofs.Common.{◌≡◌, ℕ, suc, ◌<◌, Bool, true, false, eqb, leb, List, [], ◌∷◌, map, length, refl, arith}
+use Rattle.std.proofs.Common.{◌≡◌, ℕ, suc, ◌<◌, Bool, true, false, eqb, leb, List, [], ◌∷◌, map, refl, arith}
 use mathlib.Core.Option.{Option, none, some}
 use Rattle.digits.specs.Common.{or_else, Every, Byte}
 use Rattle.std.specs.Prelude.{if◌then◌else◌}

@@ -27,7 +27,6 @@ use Rattle.intake_tail.proofs.Finishing as finishing
 use Rattle.listen.specs.declared.Listener.{Listener}
 use Rattle.listen.specs.declared.Listener.TheVariants.{Front, Within, Ready}
 use Rattle.listen.specs.declared.Said.{Said}
-use Rattle.listen.specs.declared.Said.TheVariants.{CarryTooSmall}
 use Rattle.listen.specs.declared.Step.{Step}
 use Rattle.listen.specs.declared.Committed.{Committed}
 use Rattle.listen.specs.Listener.{blanks, begun, step_by, decided_by, end_by, too_small, FedTo, FromFront, HearsSo, Unread, Tested, PausesWithin, PausesSo, commit_by, Commits}

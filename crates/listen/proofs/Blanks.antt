@@ -12,7 +12,7 @@ use lib.Seq.{drop-cons, drop-length}
 use borrow.Author.Tests.{eqb-false}
 use Rattle.std.specs.Prelude.{if◌then◌else◌}
 use Rattle.digits.proofs.Tests.{branch, if_true, if_false, split}
-use Rattle.reader.specs.Lines.{LF, CR}
+use Rattle.reader.specs.Lines.{CR}
 use Rattle.listen.specs.declared.Blank.{Blank}
 use Rattle.listen.specs.Listener.{is_blank, blanks, further}
 

@@ -1,7 +1,7 @@
 -- Rows of calls of a listener: where a row has come, and what the call after it decides.
 -- Assumes nothing.
 use Prim.Native.Nat.{ℕ, suc, ◌+◌, ◌^◌, ◌<◌, ◌≤◌}
-use mathlib.Core.Path.{◌≡◌, refl, sym, ap, ap₂, subst, ◌∙◌}
+use mathlib.Core.Path.{◌≡◌, refl, sym, ap, subst, ◌∙◌}
 use mathlib.Core.Bool.{Bool, true, false}
 use mathlib.Core.List.{List, [], ◌∷◌, ◌++◌, append-nil, append_assoc}
 use native.Mathlib.Omega.{arith}
@@ -31,7 +31,7 @@ use Rattle.intake_tail.specs.declared.Ending.TheVariants as ending
 use Rattle.intake_tail.specs.Ways.{way_of}
 use Rattle.intake_tail.specs.Intake.{Feeds, new_tail, spoilt}
 use Rattle.intake_tail.specs.Ending.{Finishes}
-use Rattle.intake_tail.specs.Rows.{Row, no_chunk, and_then, opened, cr_before, text_of, AsLoad, UsedThrough, PassedThrough}
+use Rattle.intake_tail.specs.Rows.{Row, no_chunk, and_then, cr_before, text_of, AsLoad, UsedThrough, PassedThrough}
 use Rattle.intake_tail.proofs.Before.{joined_one}
 use Rattle.intake_tail.proofs.Rows.{come_to, row_decides, row_ends}
 use Rattle.intake_tail.proofs.Tails.{tail_decides}

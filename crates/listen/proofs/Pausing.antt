@@ -16,7 +16,7 @@ use Rattle.listen.specs.declared.Said.TheVariants.{Quiet}
 use Rattle.listen.specs.declared.Step.{Step}
 use Rattle.listen.specs.declared.Committed.{Committed}
 use Rattle.listen.specs.declared.Committed.TheVariants as committed
-use Rattle.listen.specs.Listener.{step, end_by, PausesWithin, PausesSo, commit_by, Commits}
+use Rattle.listen.specs.Listener.{step, end_by, PausesWithin, commit_by, Commits}
 
 -- ---- a pause
 

@@ -1,7 +1,7 @@
 -- Call after call on a stream: what was decided is what listening says first of its lines.
 -- Assumes nothing.
 use Prim.Native.Nat.{ℕ, suc, ◌+◌, ◌^◌, ◌<◌, ◌≤◌}
-use mathlib.Core.Path.{◌≡◌, refl, sym, ap, ap₂, subst, ◌∙◌}
+use mathlib.Core.Path.{◌≡◌, refl, sym, ap, subst, ◌∙◌}
 use mathlib.Core.Bool.{Bool, true, false}
 use mathlib.Core.List.{List, [], ◌∷◌, ◌++◌, map, map-append, append_assoc}
 use native.Mathlib.Omega.{arith}
@@ -32,10 +32,9 @@ use Rattle.listen.specs.declared.Step.{Step}
 use Rattle.listen.specs.declared.Committed.TheVariants.{Done}
 use Rattle.listen.specs.declared.Blank.{Blank}
 use Rattle.listen.specs.Listen.{Mode, front, skipping, Saying, said, reaching, mode_after, Listened, first as saying-first, listen}
-use Rattle.listen.specs.Listener.{begins, is_blank, blanks, further, begun, step_by, decided_by, after, too_small, FedTo, FromFront, HearsSo, Hears, commit_by, Commits}
+use Rattle.listen.specs.Listener.{begins, is_blank, blanks, begun, step_by, decided_by, after, too_small, FromFront, HearsSo, Hears, commit_by, Commits}
 use Rattle.listen.specs.Calls.{Listens, BeginsText, dump_in, Calls, no_call, wanting, deciding, passing, committing, verdict_of, first_mode, CallsListen}
 use Rattle.listen.specs.Calls as calls
-use Rattle.listen.proofs.Blanks.{blanks_fit}
 use Rattle.listen.proofs.Calls.{wanted, Come, come, fit_there, Passing, dump_decides, tail_passes}
 use Rattle.listen.proofs.Calls as rows
 use Rattle.listen.proofs.Heard.{dump_is_heard, tail_is_heard}

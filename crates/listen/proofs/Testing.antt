@@ -23,7 +23,7 @@ use Rattle.listen.specs.declared.Listener.TheVariants.{Front, Within}
 use Rattle.listen.specs.declared.Said.TheVariants.{WantsMore, Decided, CarryTooSmall}
 use Rattle.listen.specs.declared.Step.{Step}
 use Rattle.listen.specs.declared.Blank.{Blank}
-use Rattle.listen.specs.Listener.{blanks, step, step_by, decided_by, FedTo, begun, FromFront, Unread, Tested, Hears}
+use Rattle.listen.specs.Listener.{blanks, step, step_by, decided_by, FedTo, begun, FromFront, Tested, Hears}
 use Rattle.listen.specs.Helpers.{Fits, Starts}
 
 -- ---- by the tests

@@ -3,7 +3,7 @@
 use Prim.Native.Nat.{ℕ, zero, suc, ◌+◌, ◌^◌, ◌≤◌, ◌<◌}
 use mathlib.Core.Path.{◌≡◌, refl, sym, ap, subst, ◌∙◌}
 use mathlib.Core.Logic.{◌⊎◌, inl, inr}
-use mathlib.Core.Bool.{Bool, true, false, ◌||◌}
+use mathlib.Core.Bool.{Bool, true, false}
 use mathlib.Core.Option.{Option, none, some}
 use mathlib.Core.List.{List, [], ◌++◌, append-nil, append_assoc}
 use native.Mathlib.Omega.{arith}
@@ -27,7 +27,7 @@ use Rattle.intake_tail.specs.declared.Ending.TheVariants as ending
 use Rattle.intake_tail.specs.Ways.{way_of}
 use Rattle.intake_tail.specs.Intake.{new_tail, spoilt, Feeds}
 use Rattle.intake_tail.specs.Ending.{Finishes}
-use Rattle.intake_tail.specs.Rows.{Row, no_chunk, cr_before, text_of, FirstEnd}
+use Rattle.intake_tail.specs.Rows.{no_chunk, cr_before, text_of, FirstEnd}
 use Rattle.intake_tail.proofs.Rows.{come_to, row_waits, row_carries}
 use Rattle.intake_tail.proofs.Tails as tails
 use Rattle.listen.specs.declared.Blank.{Blank}
@@ -35,7 +35,7 @@ use Rattle.listen.specs.declared.Listener.{Listener}
 use Rattle.listen.specs.declared.Listener.TheVariants.{Front, Within, Ready}
 use Rattle.listen.specs.declared.Said.TheVariants.{WantsMore, Decided, Passed, CarryTooSmall}
 use Rattle.listen.specs.declared.Step.{Step}
-use Rattle.listen.specs.Listener.{blanks, begun, step_by, decided_by, end_by, too_small, FedTo, FromFront, HearsSo, Tested, Hears, PausesSo}
+use Rattle.listen.specs.Listener.{blanks, begun, step_by, decided_by, end_by, too_small, FromFront, HearsSo, Tested, Hears, PausesSo}
 use Rattle.listen.specs.Calls.{dump_in}
 use Rattle.listen.specs.Waiting.{EighteenExactly, DumpSays, DumpWaits, TailSays, TailWaits}
 use Rattle.listen.proofs.Blanks.{blanks_on, blanks_begun}

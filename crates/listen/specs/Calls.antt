@@ -18,7 +18,6 @@ use Rattle.intake_tail.specs.Intake.{new_tail}
 use Rattle.intake_tail.specs.Rows.{cr_before, AsLoad, UsedThrough, PassedThrough}
 use Rattle.listen.specs.declared.Listener.{Listener}
 use Rattle.listen.specs.declared.Listener.TheVariants.{Front, Within, Ready}
-use Rattle.listen.specs.declared.Said.{Said}
 use Rattle.listen.specs.declared.Said.TheVariants.{WantsMore, Decided, Passed}
 use Rattle.listen.specs.declared.Step.{Step}
 use Rattle.listen.specs.declared.Committed.{Committed}

@@ -21,7 +21,6 @@ use Rattle.intel.specs.Placing.{Base, from_segment, from_linear, from_start, byt
 use Rattle.marks.specs.Marks.{flags}
 use Rattle.steps.specs.Packed.{repacked, load_packed}
 use Rattle.window.specs.Load.{room_of, load_window}
-use Rattle.loader.specs.Load.{load}
 use Rattle.loader.specs.Segments.{flat, flat_load, InSegment, InSegments, Outside, NeverBoth, SameOrOutside}
 use Rattle.intel.specs.Records.{left, does_on}
 use Rattle.intel.proofs.Rows.{by_row}

@@ -17,7 +17,7 @@ use Rattle.steps.specs.Sites.{load_steps}
 use Rattle.steps.proofs.Puts.{spread_at}
 use Rattle.marks.specs.Marks.{flags}
 use Rattle.steps.specs.Packed.{repacked, load_packed}
-use Rattle.intel.specs.Placing.{Base, from_segment, from_linear, segment, linear, from_start, byte_address, placed, stated_by, base_behind, does, act, base_after, along}
+use Rattle.intel.specs.Placing.{Base, from_segment, from_linear, from_start, byte_address, placed, stated_by, base_behind, does, act, base_after, along}
 use Rattle.window.specs.Load.{room_of, load_window}
 use Rattle.intel.specs.Records.{left, does_on}
 use Rattle.loader.specs.Segments.{flat, flat_load, InSegment, InSegments, RecordUnchanged, TextUnchanged, LoadByRow, LoadUnchanged, Examples}

@@ -6,8 +6,7 @@ use mathlib.Core.Logic.{◌≢◌}
 use native.Mathlib.Omega.{arith}
 use mathlib.Core.Bool.{Bool, true, false}
 use mathlib.Core.List.{List, [], ◌∷◌}
-use lib.Dec.{ltb}
-use lib.ListN.{length, length-append, length-drop, take, drop}
+use lib.ListN.{length, length-append, length-drop, drop}
 use lib.Seq.{length-take-le}
 use borrow.Author.Tests.{lt-ltb, le-ltb}
 use Rattle.record.specs.Meaning.{Meaning, end_of_file}
@@ -15,7 +14,7 @@ use Rattle.record.specs.Record.{meant, Inside}
 use Rattle.record.specs.Written.{line_of, payload_of}
 use Rattle.record.specs.declared.Record.{Record}
 use Rattle.record.specs.declared.Record.TheVariants.{Data}
-use Rattle.reader.specs.Lines.{LF, lines}
+use Rattle.reader.specs.Lines.{LF}
 use Rattle.reader.specs.Row.{row}
 use Rattle.reader.specs.Along.{unread}
 use Rattle.reader.specs.Text.{new_state}
@@ -28,7 +27,7 @@ use Rattle.salvage.specs.declared.Walk.{Walk}
 use Rattle.salvage.specs.declared.Turn.{Turn}
 use Rattle.salvage.specs.declared.Turn.TheVariants.{Keeps, Drops, Ends, Missing}
 use Rattle.salvage.specs.declared.Spare.{Spare}
-use Rattle.salvage.specs.Salvage.{Sorted, past_refusals, fates, records, Entry, entries, text_of, saved, clean, removed}
+use Rattle.salvage.specs.Salvage.{Sorted, past_refusals, fates, records, entries, text_of, saved, clean, removed}
 use Rattle.salvage.specs.Helpers.{left, UnderWay, KeptOn, DroppedOn, SortsNext, spare_after, WithLine, WithEntry, LineLength, Surveyed}
 
 -- ---- one more

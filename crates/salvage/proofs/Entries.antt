@@ -13,13 +13,12 @@ use Rattle.std.specs.Prelude.{if◌then◌else◌}
 use Rattle.digits.proofs.Hex.{spells_small}
 use Rattle.checksum.proofs.Laws.{negated_small}
 use Rattle.record.specs.Refusals.{Refusal, refusal, missing_end_of_file_record}
-use Rattle.record.specs.Line.{judge}
 use Rattle.record.specs.Faults.{Fault, no_colon, no_digit, short, long, odd, sum_differs, length_differs, type_unknown, size_differs}
 use Rattle.record.proofs.Standing.{Stands, stands}
 use Rattle.reader.specs.Lines.{lines}
 use Rattle.reader.proofs.Texts.{lines_few}
 use Rattle.steps.proofs.Firsts.{every_at}
-use Rattle.salvage.specs.Salvage.{Reason, refused, base_unknown, dropped, Entry, entry, end_added, removed}
+use Rattle.salvage.specs.Salvage.{Reason, refused, base_unknown, dropped, entry, end_added, removed}
 use Rattle.salvage.specs.Fates.{Fated, Becomes, not_a_record, data_lost}
 use Rattle.salvage.specs.Claims.{NoEnd}
 use Rattle.salvage.specs.Told.{low_first, reason_number, reason_value, ENTRY, entry_bytes, list_bytes, number_in, EntriesFit, ReadFrom, EntryReadsBack, EntriesApart, EntriesInOrder}

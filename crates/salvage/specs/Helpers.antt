@@ -16,7 +16,7 @@ use Rattle.salvage.specs.declared.Walk.{Walk}
 use Rattle.salvage.specs.declared.Turn.{Turn}
 use Rattle.salvage.specs.declared.Turn.TheVariants.{Keeps, Drops, Ends, Missing}
 use Rattle.salvage.specs.declared.Spare.{Spare}
-use Rattle.salvage.specs.Salvage.{Reason, base_unknown, kept, dropped, fate_of, still_known, Sorted, sorted, past_refusals, records, Entry, entry, end_added, entries, clean, removed}
+use Rattle.salvage.specs.Salvage.{Reason, base_unknown, kept, dropped, fate_of, still_known, Sorted, sorted, past_refusals, records, entry, end_added, entries, clean, removed}
 use Rattle.salvage.specs.Told.{reason_number, reason_value, ENTRY, entry_bytes, list_bytes}
 
 -- ---- one line

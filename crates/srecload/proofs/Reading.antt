@@ -1,12 +1,12 @@
 -- What a call of the record reader tells a load, which lends it a pool with room for every record: what the line says.
 -- Assumes nothing.
-use Rattle.std.proofs.Common.{◌≡◌, ℕ, ◌+◌, ◌≤◌, Bool, true, false, ◌||◌, eqb, ltb, List, [], ◌∷◌, ◌++◌, length, take, drop, sym, refl, ap, ◌∙◌, subst, zero-add, arith, length-append, length-drop, take_at, eqb-true, le-leb}
+use Rattle.std.proofs.Common.{◌≡◌, ℕ, ◌+◌, ◌≤◌, Bool, true, false, ◌||◌, eqb, ltb, List, [], ◌∷◌, length, take, drop, sym, refl, ap, ◌∙◌, subst, arith, length-append, length-drop, take_at, eqb-true, le-leb}
 use Rattle.digits.specs.Common.{pasted}
 use Rattle.std.specs.Prelude.{if◌then◌else◌}
 use Rattle.record.specs.Refusals.{pool_full}
 use Rattle.record.specs.Line.{Said, says, wrong}
 use Rattle.reader.specs.declared.ReaderError.{ReaderError}
-use Rattle.reader.specs.Told.{Told, gives, refuses, refusal_of}
+use Rattle.reader.specs.Told.{gives, refuses, refusal_of}
 use Rattle.reader.specs.Answer.{fits_pool}
 use Rattle.srec.specs.declared.SRecord.{SRecord}
 use Rattle.srec.specs.declared.SAnswer.TheVariants.{Read, Refused}

@@ -18,8 +18,7 @@ use Rattle.intake.proofs.take_srecord.Tie as tie
 returns : tie.Need-returns-in-On
 returns c =
     let a = c.args in
-    let t = c.take_line in
- (
+    let t = c.take_line in (
       turned s_records s_standing told_taken (Stop (Refused BadWindow 0)) refl a.line.now a.skipped a.number a.base a.tally tt (record { records = a.tally.records; start = none }) refl
           a.first a.page.now a.marks.now c.requires t.result _ _ (record { refused = t.ensures.refused; taken = t.ensures.taken }) (turn.On a.base (record { records = c.in-On.records; start = Unstated }))
           (λ ps. ap (λ (x : Taken). in_line a.skipped (told_taken x ps)) c.in-On.is),
@@ -29,8 +28,7 @@ returns c =
 returns-2 : tie.Need-returns-in-Stop
 returns-2 c =
     let a = c.args in
-    let t = c.take_line in
- (
+    let t = c.take_line in (
       turned s_records s_standing told_taken (Stop (Refused BadWindow 0)) refl a.line.now a.skipped a.number a.base a.tally tt (record { records = a.tally.records; start = none }) refl
           a.first a.page.now a.marks.now c.requires t.result _ _ (record { refused = t.ensures.refused; taken = t.ensures.taken }) (turn.Stop c.in_line.result)
           (λ ps. ap (λ (x : Taken). in_line a.skipped (told_taken x ps)) c.in-Stop.is ∙ stop_in_line a.skipped ps c.in-Stop.answer c.in_line.result c.in_line.ensures),

@@ -1,7 +1,6 @@
 -- `light::count_in` meets its contract: a count only where both places are marked, and a place that is marked lies in the page.
 -- Assumes nothing.
 use Rattle.std.proofs.Common.{◌≡◌, ◌<◌, true, eqb, length, rules, eqb-true}
-use borrow.Author.Tests.{not-true, not-false}
 use Rattle.marks.specs.Marks.{mark_at}
 use Rattle.light.proofs.Telling.{marked_true, marked_false, no_high, no_low, both_there}
 use Rattle.light.proofs.count_in.Statement.{statement}

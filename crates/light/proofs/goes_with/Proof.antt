@@ -1,7 +1,6 @@
 -- `light::goes_with` meets its contract: a refusal, marks of another size, and a row by its unused bits.
 -- Assumes nothing.
 use Rattle.std.proofs.Common.{◌≡◌, true, length, sym, ap, ◌∙◌, rules}
-use borrow.Author.Tests.{not-true, not-false}
 use Rattle.marks.specs.Marks.{row_length, told_unused}
 use Rattle.steps.specs.Told.{is_accepted}
 use Rattle.light.proofs.After.{goes_refused, goes_other_size, goes_by_unused}

@@ -1,7 +1,6 @@
 -- `light::tell` meets its contract: a refused load, a load without a count, and one with a count.
 -- Assumes nothing.
 use Rattle.std.proofs.Common.{◌≡◌, true, sym, ◌∙◌, subst, rules}
-use borrow.Author.Tests.{not-true, not-false}
 use Rattle.steps.specs.Told.{is_accepted}
 use Rattle.light.specs.declared.Count.{Count}
 use Rattle.light.specs.Helpers.{Counts}

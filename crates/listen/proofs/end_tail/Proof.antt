@@ -2,7 +2,6 @@
 -- Assumes nothing.
 use mathlib.Core.Path.{sym, ap, ◌∙◌}
 use borrow.Author.Rules.{rules}
-use Rattle.listen.specs.declared.Listener.{Listener}
 use Rattle.listen.specs.declared.Said.TheVariants.{Decided}
 use Rattle.listen.specs.Listener.{step}
 use Rattle.listen.proofs.Telling.{tail_passed, tail_refused}

@@ -6,7 +6,6 @@ use mathlib.Core.Bool.{Bool}
 use native.Mathlib.Omega.{arith}
 use lib.ListN.{length}
 use borrow.Author.Rules.{rules}
-use borrow.Author.Tests.{not-true, not-false}
 use Rattle.listen.proofs.Blanks.{Stands, stands_first, stands_next, stands_there, stands_last}
 use Rattle.listen.proofs.pass_blank.Statement.{statement}
 use Rattle.listen.proofs.pass_blank.Tie as tie

@@ -8,7 +8,7 @@ use Rattle.query.proofs.judge_next.Tie as tie
 
 -- the record that was read
 one : (c : tie.In-Read)
-    →    let n = c.next-step in
+    → let n = c.next-step in
     One c.args.w.state c.args.text.now c.args.pool.now n.result n.new.pool c.requires.0.options c.requires.0.countable c.requires.1 n.ensures c.in-Read.given
 one c =
     let n = c.next-step in

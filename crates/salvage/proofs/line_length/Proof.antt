@@ -15,7 +15,7 @@ add-result c = let short = subst Short c.in-Data.is c.requires in search rules
 
 returns : tie.Need-returns-in-Data
 returns c =
- length_of_data c.args.given c.in-Data.offset c.in-Data.at c.in-Data.len c.in-Data.is
+    length_of_data c.args.given c.in-Data.offset c.in-Data.at c.in-Data.len c.in-Data.is
 
 returns-2 : tie.Need-returns-in-EndOfFile
 returns-2 c = length_of c.args.given 11 (λ pool. rw c.in-EndOfFile.is)

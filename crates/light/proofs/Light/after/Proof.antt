@@ -1,7 +1,6 @@
 -- `Light::after` meets its contract: 16 for what no load of this light leaves, and else the load is told.
 -- Assumes nothing.
 use Rattle.std.proofs.Common.{◌≡◌, true, length, sym, ◌∙◌, subst, rules}
-use borrow.Author.Tests.{not-true, not-false}
 use Rattle.steps.specs.Told.{told_loading}
 use Rattle.light.specs.declared.Dumped.{Dumped}
 use Rattle.light.specs.After.{goes_with, After}

@@ -1,6 +1,6 @@
 -- `Listener::commit` meets its contract: where a dump is ready, what was staged is committed.
 -- Assumes nothing.
-use mathlib.Core.Path.{refl, sym}
+use mathlib.Core.Path.{sym}
 use borrow.Author.Rules.{rules}
 use Rattle.digits.proofs.Tests.{if_true, if_false}
 use Rattle.listen.proofs.Pausing.{committed_so, not_ready_front, not_ready_within}
