@@ -22,6 +22,8 @@ WORD = re.compile(NAME)
 USE = re.compile(r"\buse (Rattle\.(\w+)\.[^\s;{]+|[a-z]\w*\.[^\s;{]+|Prim\.[^\s;{]+)\.?(?:\{([^}]*)\})?(?: as (\S+))?")
 # What two names that would fall together are called instead.
 OTHERWISE = {"First-unused": "IsFirstUnused", "Not-ready": "IsNotReady", "Used-up": "IsUsedUp", "bit-or": "bit_or_lem"}
+# Lemmas and values that begin with a character's name.
+SNAKE = {"CR-added", "CR-waiting", "LF-at", "LF-before-rest", "LF-cut-off", "LF-from", "LF-of-cut"}
 # The module that Rattle makes has the name of this file.
 MOVED = {"crates/window/specs/Contracts.antt": "crates/window/specs/Promises.antt"}
 MODULES = {"window": ("Contracts", "Promises")}
@@ -35,6 +37,8 @@ def read(path):
 def spelled(name):
     if name in OTHERWISE:
         return OTHERWISE[name]
+    if re.fullmatch(r"[A-Z0-9]+(-[A-Z0-9]+)+", name) or name in SNAKE:
+        return name.replace("-", "_")
     if name[0].isupper():
         words = [w for w in re.split(r"[-_]", name) if w]
         return "".join(w[0].upper() + w[1:] for w in words)

@@ -13,7 +13,7 @@ use Rattle.chunks.specs.Begun.{Begun, nothing, brief, add, counted, ended, unend
 use Rattle.chunks.specs.Helpers.{seek_at}
 use Rattle.chunks.specs.First.{EndsAt}
 use Rattle.chunks.proofs.Pass.{step_over}
-use Rattle.chunks.proofs.InPlace.{has_LF, LFFrom, LFBeforeRest, line_in, ends_some, ends_none}
+use Rattle.chunks.proofs.InPlace.{has_LF, LF_from, LF_before_rest, line_in, ends_some, ends_none}
 use Rattle.digits.proofs.Parts.{none_left}
 use Rattle.chunks.proofs.Runs.{ended_has}
 
@@ -54,11 +54,11 @@ module _ (chunk : List ℕ) (from : ℕ) (h : has_LF (drop from chunk) ≡ true)
   before = length text - length (rest text) - 1
 
   last_is : from + before ≡ length chunk - length (rest text) - 1
-  last_is = omega (arith, (LFBeforeRest text h).shorter, length-drop from chunk)
+  last_is = omega (arith, (LF_before_rest text h).shorter, length-drop from chunk)
 
   pub feeds : Feeds chunk from
   feeds =
-      let b = LFBeforeRest text h in
+      let b = LF_before_rest text h in
       let s : length text ≡ length chunk - from = length-drop from chunk in
       let l : length (rest text) < length text = b.shorter in
       let j : from + (length text - length (rest text)) ≡ suc (length chunk - length (rest text) - 1) = omega arith in
@@ -115,8 +115,8 @@ some_length : (l : List ℕ) → l ≢ [] → 0 < length l
 some_length [] h = absurd (h refl)
 some_length (c ∷ l) h = omega arith
 
-LFOfCut : {text line rest : List ℕ} (c : Cut text line rest) → c.end ≢ [] → has_LF text ≡ true
-LFOfCut {text} {line} {rest} c h =
+LF_of_cut : {text line rest : List ℕ} (c : Cut text line rest) → c.end ≢ [] → has_LF text ≡ true
+LF_of_cut {text} {line} {rest} c h =
     ended_has c.whole c.ended
     (omega (arith, some_length c.end h, ap length c.whole, length-append line (c.end ++ rest), length-append c.end rest))
 
@@ -130,7 +130,7 @@ module _ (chunk : List ℕ) (from : ℕ) (cr : Bool) where
   pub ending : {line : List ℕ} {e : ℕ} → EndsAt chunk (ahead cr (drop from chunk)) line e → Ending line e
   ending {line} {e} x =
       let (l, r) = cut_unique x.cut in
-      let f = feeds chunk from (sym (has_ahead cr (drop from chunk)) ∙ LFOfCut x.cut x.by_LF) in
+      let f = feeds chunk from (sym (has_ahead cr (drop from chunk)) ∙ LF_of_cut x.cut x.by_LF) in
       let d : drop (suc e) chunk ≡ rest (drop from chunk) = r ∙ rest_ahead cr (drop from chunk) in
       let n : length chunk - suc e ≡ length chunk - suc f.e = sym (length-drop (suc e) chunk) ∙ ap length (d ∙ sym f.behind) ∙ length-drop (suc f.e) chunk in
       let same : f.e ≡ e = omega (arith, x.inside, f.at.inside) in
@@ -213,7 +213,7 @@ module _ (chunk : List ℕ) where
         record {
           no_own = λ e from line o.
               let f = own_feed o in
-              let t : ◌≡◌ {A = Bool} true false = sym (LFFrom chunk p e (omega (arith, from_after o.begins, f.after)) f.inside f.feed) ∙ h in
+              let t : ◌≡◌ {A = Bool} true false = sym (LF_from chunk p e (omega (arith, from_after o.begins, f.after)) f.inside f.feed) ∙ h in
               let z : ◌≡◌ {A = ℕ} 0 1 = cc in omega arith;
           empties = n;
           held = b;

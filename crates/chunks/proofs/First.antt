@@ -19,7 +19,7 @@ use Rattle.chunks.specs.declared.ChunkReply.TheVariants.{UsedUp}
 use Rattle.chunks.specs.declared.ChunkStep.{ChunkStep}
 use Rattle.chunks.specs.Begun.{Kept, is_empty, push, stands_for, with_CR, Sought}
 use Rattle.chunks.specs.Next.{Word, tells, word_of, is_record, kept_in, left_out, begun, place, at_place, Outcome, unchanged, answered_line, of_sought, too_small, finish_outcome, Meets}
-use Rattle.chunks.specs.First.{CRWaiting, BegunEarlier, by_used, by_CR, so_far, UsedSoFar, FirstLine, LastLine, last_line, Asking, ByLines, NextByLines, RepliesByLines, UsedUpExactly, ByLastLine, FinishByLastLine, RepliesByLastLine, Shows, gave_record, gave_none, used_up_shows, NextShows, FinishShows, ReplyShows, LastUnique, ShowsUnique}
+use Rattle.chunks.specs.First.{CR_waiting, BegunEarlier, by_used, by_CR, so_far, UsedSoFar, FirstLine, LastLine, last_line, Asking, ByLines, NextByLines, RepliesByLines, UsedUpExactly, ByLastLine, FinishByLastLine, RepliesByLastLine, Shows, gave_record, gave_none, used_up_shows, NextShows, FinishShows, ReplyShows, LastUnique, ShowsUnique}
 use Rattle.chunks.proofs.Moved.{short_stands}
 use Rattle.chunks.proofs.Waiting.{push_some, pushes_some}
 use Rattle.chunks.proofs.Outcomes.{record_short, full_no_record}
@@ -149,9 +149,9 @@ next_shows s chunk carry pool at =
 
 module _ (s : Chunks) (carry : List ℕ) where
   abbrev last : List ℕ
-  last = so_far s carry ++ CRWaiting s
+  last = so_far s carry ++ CR_waiting s
 
-  with_CR_is : with_CR (begun s carry) ≡ foldl push (begun s carry).kept (CRWaiting s)
+  with_CR_is : with_CR (begun s carry) ≡ foldl push (begun s carry).kept (CR_waiting s)
   unfolding with_CR
   with_CR_is = go s.cr
     where
@@ -161,19 +161,19 @@ module _ (s : Chunks) (carry : List ℕ) where
 
   module _ (big : 522 ≤ length carry) (few : s.used ≤ 522) where
     last_kept : AsKept (with_CR (begun s carry)) last
-    last_kept = rw with_CR_is (as_kept (begun s carry).kept (CRWaiting s) (sound_begun s carry big few))
+    last_kept = rw with_CR_is (as_kept (begun s carry).kept (CR_waiting s) (sound_begun s carry big few))
 
     -- it has a byte exactly where one was begun
-    begun_some : BegunEarlier s (CRWaiting s) → is_empty (with_CR (begun s carry)).bytes ≡ false
+    begun_some : BegunEarlier s (CR_waiting s) → is_empty (with_CR (begun s carry)).bytes ≡ false
     unfolding with_CR
-    begun_some (by_used h) = rw with_CR_is (pushes_some (CRWaiting s) (begun s carry).kept (some_line s.used carry (λ z. omega arith) (omega arith)))
+    begun_some (by_used h) = rw with_CR_is (pushes_some (CR_waiting s) (begun s carry).kept (some_line s.used carry (λ z. omega arith) (omega arith)))
     begun_some (by_CR c h) = rw c (push_some (begun s carry).kept CR)
 
-    some_begun : is_empty (with_CR (begun s carry)).bytes ≡ false → BegunEarlier s (CRWaiting s)
+    some_begun : is_empty (with_CR (begun s carry)).bytes ≡ false → BegunEarlier s (CR_waiting s)
     unfolding with_CR is_empty
     some_begun e = split s.used 0 (λ h. by_flag (omega arith) s.cr refl) (λ h. by_used h)
       where
-        by_flag : s.used ≡ 0 → (b : Bool) → s.cr ≡ b → BegunEarlier s (CRWaiting s)
+        by_flag : s.used ≡ 0 → (b : Bool) → s.cr ≡ b → BegunEarlier s (CR_waiting s)
         by_flag u true c = by_CR c (λ z. let x : CR ∷ [] ≡ [] = rw c at z in let y : ◌≡◌ {A = ℕ} 0 1 = cc in omega arith)
         by_flag u false c =
             let t : ◌≡◌ {A = Bool} true false = sym (ap (λ (n : ℕ). is_empty (take n carry)) u) ∙ (rw c at e) in
@@ -186,7 +186,7 @@ module _ (s : Chunks) (carry : List ℕ) where
       last_told : of_last.word ≡ tells (answered (judge last) (length pool) at)
       last_told = line_told s (take s.used carry) [] pool at none s.empties (with_CR (begun s carry)) 0 true last last_kept
 
-      last_lines : BegunEarlier s (CRWaiting s) → ByLastLine s carry pool at of_last.word
+      last_lines : BegunEarlier s (CR_waiting s) → ByLastLine s carry pool at of_last.word
       last_lines b =
           record {
             done_exactly = (λ w. absurd (never_done (judge last) (length pool) at (told_is (sym last_told ∙ w))), λ nothing. absurd (nothing last (InCarry (length last)) (last_line b)));
@@ -196,7 +196,7 @@ module _ (s : Chunks) (carry : List ℕ) where
           told : {line : List ℕ} {lies : Place} → LastLine s carry line lies → of_last.word ≡ tells (answered (judge line) (length pool) at)
           told (last_line c) = last_told
 
-      last_shows : BegunEarlier s (CRWaiting s) → Shows (LastLine s carry) of_last.word of_last.lies of_last.shows
+      last_shows : BegunEarlier s (CR_waiting s) → Shows (LastLine s carry) of_last.word of_last.lies of_last.shows
       unfolding place
       last_shows b =
           line_shows s (take s.used carry) [] pool at none s.empties (with_CR (begun s carry)) 0 true last last_kept (LastLine s carry) (InCarry (length last)) refl (last_line b)

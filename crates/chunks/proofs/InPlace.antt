@@ -18,28 +18,28 @@ unfoldable pub has_LF : List ℕ → Bool
 has_LF [] = false
 has_LF (c ∷ text) = eqb c LF || has_LF text
 
-LFAt : (text : List ℕ) (k : ℕ) → k < length text → get_or text k 0 ≡ LF → has_LF text ≡ true
+LF_at : (text : List ℕ) (k : ℕ) → k < length text → get_or text k 0 ≡ LF → has_LF text ≡ true
 unfolding has_LF
-LFAt [] k h e = absurd (omega arith)
-LFAt (c ∷ text) zero h e = rw (eq-eqb c LF e)
-LFAt (c ∷ text) (suc k) h e = rw (LFAt text k (omega arith) e) (or_true (eqb c LF))
+LF_at [] k h e = absurd (omega arith)
+LF_at (c ∷ text) zero h e = rw (eq-eqb c LF e)
+LF_at (c ∷ text) (suc k) h e = rw (LF_at text k (omega arith) e) (or_true (eqb c LF))
 
 -- in what is left of a text
-pub LFFrom : (text : List ℕ) (from k : ℕ) → from ≤ k → k < length text → get_or text k 0 ≡ LF → has_LF (drop from text) ≡ true
-LFFrom text from k h l e =
+pub LF_from : (text : List ℕ) (from k : ℕ) → from ≤ k → k < length text → get_or text k 0 ≡ LF → has_LF (drop from text) ≡ true
+LF_from text from k h l e =
     let is : from + (k - from) ≡ k = omega arith in
     let size : length (drop from text) ≡ length text - from = length-drop from text in
-    LFAt (drop from text) (k - from) (omega arith) (get_or-drop from text (k - from) 0 ∙ ap (λ (j : ℕ). get_or text j 0) is ∙ e)
+    LF_at (drop from text) (k - from) (omega arith) (get_or-drop from text (k - from) 0 ∙ ap (λ (j : ℕ). get_or text j 0) is ∙ e)
 
 -- it stands before the rest
 pub record EndsBeforeRest (text : List ℕ) : Type 0 where
   pub shorter : length (rest text) < length text
   pub feed : get_or text (length text - length (rest text) - 1) 0 ≡ LF
 
-pub LFBeforeRest : (text : List ℕ) → has_LF text ≡ true → EndsBeforeRest text
+pub LF_before_rest : (text : List ℕ) → has_LF text ≡ true → EndsBeforeRest text
 unfolding has_LF rest
-LFBeforeRest [] h = let z : ◌≡◌ {A = ℕ} 0 1 = cc in absurd (omega arith)
-LFBeforeRest (c ∷ text) h = go (eqb c LF) refl h (LFBeforeRest text)
+LF_before_rest [] h = let z : ◌≡◌ {A = ℕ} 0 1 = cc in absurd (omega arith)
+LF_before_rest (c ∷ text) h = go (eqb c LF) refl h (LF_before_rest text)
   where
     go : (b : Bool) → eqb c LF ≡ b → b || has_LF text ≡ true → (has_LF text ≡ true → EndsBeforeRest text) → EndsBeforeRest (c ∷ text)
     go true e h ih =
@@ -136,15 +136,15 @@ module _ (chunk : List ℕ) (position empties from passed : ℕ) (line : List �
   has_feed e =
       let m = turn_moves in
       let i = turn_inside in
-      LFFrom chunk from (from + n - 1) (omega arith) (omega arith) e
+      LF_from chunk from (from + n - 1) (omega arith) (omega arith) e
 
   turn_open : get_or chunk (from + n - 1) 0 ≢ LF → OpenLine chunk position empties from passed
   turn_open ne = record { goes_on = held; inside = omega arith; no_feed = no_feed }
     where
       no_feed : (k : ℕ) → from ≤ k → k < length chunk → get_or chunk k 0 ≢ LF
       no_feed k a b e =
-          let h = LFFrom chunk from k a b e in
-          ne (sym last_is ∙ ap (λ (j : ℕ). get_or (drop from chunk) (j - 1) 0) here.place ∙ (LFBeforeRest (drop from chunk) h).feed)
+          let h = LF_from chunk from k a b e in
+          ne (sym last_is ∙ ap (λ (j : ℕ). get_or (drop from chunk) (j - 1) 0) here.place ∙ (LF_before_rest (drop from chunk) h).feed)
 
   behind_is : rest (drop from chunk) ≡ drop (from + n) chunk
   behind_is = sym (rest_behind chunk from inside n here.place)

@@ -16,7 +16,7 @@ use Rattle.chunks.specs.First.{EndsAt, BeginsAt, at_front, after_LF, BegunEarlie
 use Rattle.chunks.proofs.Brief.{judged_full, brief_short, stands_itself, foldl_on, judge_brief}
 use Rattle.chunks.proofs.Moved.{short_stands}
 use Rattle.chunks.proofs.Waiting.{waiting, pushes_some, brief_empty}
-use Rattle.chunks.proofs.InPlace.{has_LF, LFFrom, settled, feed_in}
+use Rattle.chunks.proofs.InPlace.{has_LF, LF_from, settled, feed_in}
 use Rattle.chunks.proofs.Outcomes.{stood_short}
 use Rattle.chunks.proofs.Rows.{Sound, sound_begun, sound_nothing}
 use Rattle.chunks.proofs.FirstTests.{look_kept, look_cr, look_fresh, none_out, some_line}
@@ -185,7 +185,7 @@ module _ (s : Chunks) (chunk carry : List ℕ) where
       none_ends
       (λ i line lies l.
       let x = line_LF s chunk l in
-      let t : ◌≡◌ {A = Bool} true false = sym (LFFrom chunk s.position i x.left x.inside x.feed) ∙ h in
+      let t : ◌≡◌ {A = Bool} true false = sym (LF_from chunk s.position i x.left x.inside x.feed) ∙ h in
       let z : ◌≡◌ {A = ℕ} 0 1 = cc in omega arith)
       s.empties b e
 

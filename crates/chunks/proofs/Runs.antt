@@ -16,7 +16,7 @@ use Rattle.chunks.specs.Helpers.{held, Grown, UpToLF, ends_in_CR}
 use Rattle.chunks.proofs.Brief.{push_more, short_kept}
 use Rattle.chunks.proofs.Pass.{step_over}
 use Rattle.chunks.proofs.Waiting.{waiting, whole}
-use Rattle.chunks.proofs.InPlace.{has_LF, LFBeforeRest, settled, at_LF, feed_in}
+use Rattle.chunks.proofs.InPlace.{has_LF, LF_before_rest, settled, at_LF, feed_in}
 
 -- bytes that are no LF
 seek_run : (line : List ℕ) (start : Option (List ℕ)) (empties : ℕ) (b : Begun) → ¬ Memᴰ LF line → seek start empties b line ≡ seek start empties (foldl add b line) []
@@ -168,10 +168,10 @@ module _ (chunk : List ℕ) (position : ℕ) (carry : List ℕ) (used skipped : 
     at_feed : get_or chunk (position + n - 1) 0 ≡ LF
     at_feed =
         let j : position + (length text - length (rest text) - 1) ≡ position + n - 1 = omega (arith, here.place) in
-        ap (λ (k : ℕ). get_or chunk k 0) (sym j) ∙ sym (get_or-drop position chunk (length text - length (rest text) - 1) 0) ∙ (LFBeforeRest text has).feed
+        ap (λ (k : ℕ). get_or chunk k 0) (sym j) ∙ sym (get_or-drop position chunk (length text - length (rest text) - 1) 0) ∙ (LF_before_rest text has).feed
 
     ahead : position < length chunk
-    ahead = omega (arith, (LFBeforeRest text has).shorter, length-drop position chunk)
+    ahead = omega (arith, (LF_before_rest text has).shorter, length-drop position chunk)
 
     behind_chunk : drop (position + n - 1) chunk ≡ LF ∷ rest text
     behind_chunk =

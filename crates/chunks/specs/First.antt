@@ -32,8 +32,8 @@ pub data BeginsAt (s : Chunks) (chunk : List ℕ) : (from : ℕ) → Type 0 wher
   after_LF : {i : ℕ} → s.position ≤ i → slice_index chunk i ≡ LF → BeginsAt s chunk (suc i)
 
 -- the CR that waits
-abbrev pub CRWaiting : Chunks → List ℕ
-CRWaiting s = if s.cr then CR ∷ [] else []
+abbrev pub CR_waiting : Chunks → List ℕ
+CR_waiting s = if s.cr then CR ∷ [] else []
 
 -- A line was begun earlier: bytes of it are used, or the CR that waits is a byte of it. `more` is how it goes on, from that CR: it is
 -- empty where the CR belongs to the line's end.
@@ -53,7 +53,7 @@ UsedSoFar = (s : Chunks) (carry : List ℕ) → s.used < 522 → so_far s carry 
 pub data LineEnding (s : Chunks) (chunk carry : List ℕ) (e : ℕ) : (line : List ℕ) (lies : Place) → Type 0 where
   new_line : {from : ℕ} {line : List ℕ} → BeginsAt s chunk from → EndsAt chunk (drop from chunk) line e → line ≢ []
       → LineEnding s chunk carry e line (InChunk from (length line))
-  older_line : {more : List ℕ} → BegunEarlier s more → EndsAt chunk (CRWaiting s ++ drop s.position chunk) more e
+  older_line : {more : List ℕ} → BegunEarlier s more → EndsAt chunk (CR_waiting s ++ drop s.position chunk) more e
       → LineEnding s chunk carry e (so_far s carry ++ more) (InCarry (length (so_far s carry ++ more)))
 
 -- no line with a byte ends there
@@ -68,7 +68,7 @@ pub record FirstLine (s : Chunks) (chunk carry line : List ℕ) (lies : Place) :
 
 -- The last line of a text: what is begun, with the CR that waits, if that has a byte.
 pub data LastLine (s : Chunks) (carry : List ℕ) : (line : List ℕ) (lies : Place) → Type 0 where
-  last_line : BegunEarlier s (CRWaiting s) → LastLine s carry (so_far s carry ++ CRWaiting s) (InCarry (length (so_far s carry ++ CRWaiting s)))
+  last_line : BegunEarlier s (CR_waiting s) → LastLine s carry (so_far s carry ++ CR_waiting s) (InCarry (length (so_far s carry ++ CR_waiting s)))
 
 -- ---- which line is answered
 

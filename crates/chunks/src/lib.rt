@@ -452,7 +452,7 @@ fn answer_in_line(answer: Answer, skipped: u16) -> Answer
 // Reads the line of which these bytes are kept, with so many left out.
 fn read_kept(bytes: &[u8], skipped: u16, pool: &mut [u8], at: usize) -> Answer
     requires { length bytes.now ≤ 522 }
-    ensures { Reads (judge (stands_for (record { bytes = bytes.entry.now; skipped = skipped }))) pool.old at result pool.new }
+    ensures { Reads (judge (stands_for (record { bytes = bytes.now; skipped = skipped }))) pool.old at result pool.new }
 {
     answer_in_line(reader::read_record(bytes, pool, at), skipped)
 }

@@ -29,7 +29,7 @@ use Rattle.reader.specs.Text.{told_reply, is_full}
 use Rattle.writer.specs.Told.{ToldWritten, wrote, refuses as refuses-to-write}
 use Rattle.chunks.specs.Next.{Word, tells, used_up, is_record}
 use Rattle.steps.specs.Steps.{Tally, Verdict, accepted, refused}
-use Rattle.codes.specs.Codes.{OK, DONE, POOLFULL, CARRYTOOSMALL, value, reading, reading_chunk, writing, loading}
+use Rattle.codes.specs.Codes.{OK, DONE, POOL_FULL, CARRY_TOO_SMALL, value, reading, reading_chunk, writing, loading}
 
 -- ---- of a reader
 
@@ -56,13 +56,13 @@ few_numbers PoolFull = omega arith
 refusal_code : (r : Refusal) → (reading (refuses r)).code ≡ 256 + number_of r
 refusal_code (refusal n vs) = refl
 
-pub not_full : (t : Told) → (reading t).code ≢ POOLFULL → is_full t ≡ false
+pub not_full : (t : Told) → (reading t).code ≢ POOL_FULL → is_full t ≡ false
 unfolding is_full
 not_full (gives kind ns) h = refl
 not_full (refuses (refusal n vs)) h = ne_eqb n 10 (λ e. h (ap (λ (k : ℕ). 256 + k) e))
 not_full done h = refl
 
-pub no_full_code : (r : Reply) → is_full (told_reply r) ≡ false → (reading (told_reply r)).code ≢ POOLFULL
+pub no_full_code : (r : Reply) → is_full (told_reply r) ≡ false → (reading (told_reply r)).code ≢ POOL_FULL
 unfolding is_full
 no_full_code (Read r) f e = omega (arith, few_types r)
 no_full_code (Refused w) f e = eqb-false (number_of (refusal_of w)) 10 f (omega (arith, refusal_code (refusal_of w)))
@@ -78,8 +78,8 @@ done_code Done e = refl
 -- the word of a code over 265
 unfoldable pub word_at : (code : ℕ) → Word
 word_at code =
-    if eqb code POOLFULL then tells (refuses pool_full) else
-    if eqb code CARRYTOOSMALL then tells (refuses carry_too_small) else
+    if eqb code POOL_FULL then tells (refuses pool_full) else
+    if eqb code CARRY_TOO_SMALL then tells (refuses carry_too_small) else
     if eqb code DONE then tells done else used_up
 
 abbrev pub Clear : Word → Type 0

@@ -30,14 +30,14 @@ REFUSED = 256
 abbrev pub DONE : ℕ
 DONE = 512
 
-abbrev pub USEDUP : ℕ
-USEDUP = 513
+abbrev pub USED_UP : ℕ
+USED_UP = 513
 
-abbrev pub NOTSTATED : ℕ
-NOTSTATED = 514
+abbrev pub NOT_STATED : ℕ
+NOT_STATED = 514
 
-abbrev pub BADRECORD : ℕ
-BADRECORD = 1024
+abbrev pub BAD_RECORD : ℕ
+BAD_RECORD = 1024
 
 -- a value from the first on, 0 where there is none
 abbrev pub value : Message → (i : ℕ) → ℕ
@@ -47,20 +47,20 @@ abbrev pub refused_with : Refusal → Message
 refused_with (refusal number values) = message (REFUSED + number) values
 
 -- what is returned for a full pool: IHEX_REFUSED + IHEX_POOL_FULL
-abbrev pub POOLFULL : ℕ
-POOLFULL = (refused_with pool_full).code
+abbrev pub POOL_FULL : ℕ
+POOL_FULL = (refused_with pool_full).code
 
 -- and for refusal 18: IHEX_REFUSED + IHEX_CARRY_TOO_SMALL
-abbrev pub CARRYTOOSMALL : ℕ
-CARRYTOOSMALL = (refused_with carry_too_small).code
+abbrev pub CARRY_TOO_SMALL : ℕ
+CARRY_TOO_SMALL = (refused_with carry_too_small).code
 
 -- and for refusal 23: IHEX_REFUSED + IHEX_BAD_TABLE, which is 256 + 23
-abbrev pub BADTABLE : ℕ
-BADTABLE = (refused_with bad_table).code
+abbrev pub BAD_TABLE : ℕ
+BAD_TABLE = (refused_with bad_table).code
 
 -- the code of a table, if it is refused or not
 pub record CodeTable (bad : Bool) (r : ℕ) : Type 0 where
-  pub answer : r ≡ (if bad then BADTABLE else OK)
+  pub answer : r ≡ (if bad then BAD_TABLE else OK)
 
 -- a record's type as it is, and DONE for "done"
 abbrev pub reading : Told → Message
@@ -68,14 +68,14 @@ reading (gives kind numbers) = message kind numbers
 reading (refuses r) = refused_with r
 reading done = message DONE []
 
--- the same of a text in chunks, and USEDUP for "used up"
+-- the same of a text in chunks, and USED_UP for "used up"
 abbrev pub reading_chunk : Word → Message
 reading_chunk (tells t) = reading t
-reading_chunk used_up = message USEDUP []
+reading_chunk used_up = message USED_UP []
 
--- OK and the length, and BADRECORD where what is to be written is not a record
+-- OK and the length, and BAD_RECORD where what is to be written is not a record
 abbrev pub writing : Option ToldWritten → Message
-writing none = message BADRECORD []
+writing none = message BAD_RECORD []
 writing (some (wrote place)) = message OK (place ∷ [])
 writing (some (refuses-to-write r)) = refused_with r
 
@@ -95,10 +95,10 @@ abbrev pub salvaging : ToldSalvage → Message
 salvaging (saves length entries) = message OK (length ∷ entries ∷ [])
 salvaging (refuses-to-salvage r) = refused_with r
 
--- OK and the byte, or NOTSTATED
+-- OK and the byte, or NOT_STATED
 abbrev pub asking : Asked → Message
 asking (states byte) = message OK (byte ∷ [])
-asking not_stated = message NOTSTATED []
+asking not_stated = message NOT_STATED []
 asking (refuses-to-say r line) = refused_with r
 
 -- the number of the line that a refusal names, and 0 where it names none

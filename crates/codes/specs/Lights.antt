@@ -30,29 +30,29 @@ abbrev pub BROKEN : ℕ
 BROKEN = color_number broken
 
 -- IHEX_COUNT_UNKNOWN: no count is known
-abbrev pub COUNTUNKNOWN : ℕ
-COUNTUNKNOWN = 65536
+abbrev pub COUNT_UNKNOWN : ℕ
+COUNT_UNKNOWN = 65536
 
 abbrev pub count_number : Option ℕ → ℕ
-count_number none = COUNTUNKNOWN
+count_number none = COUNT_UNKNOWN
 count_number (some count) = count
 
 -- the count that a number stands for
 abbrev pub count_from : ℕ → Count
-count_from n = if leb COUNTUNKNOWN n then Unknown else Known n
+count_from n = if leb COUNT_UNKNOWN n then Unknown else Known n
 
 -- the light that stands in numbers
 abbrev pub light_of : (first length high low known : ℕ) → Light
 light_of first length high low known = record { first = first; length = length; high = high; low = low; known = count_from known }
 
 -- what is returned for refusal 24: IHEX_REFUSED + IHEX_BAD_PLACE
-abbrev pub BADPLACE : ℕ
-BADPLACE = (refused_with bad_place).code
+abbrev pub BAD_PLACE : ℕ
+BAD_PLACE = (refused_with bad_place).code
 
 -- what setting up a light returns
 abbrev pub making : Made → ℕ
 making (made.Light l) = OK
-making made.BadPlace = BADPLACE
+making made.BadPlace = BAD_PLACE
 
 -- the contracts of `color_number`, `count_number`, `light_from` and `code_made`
 pub record ColorNumber (color : CodeColor) (r : ℕ) : Type 0 where

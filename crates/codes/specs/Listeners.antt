@@ -22,7 +22,7 @@ use Rattle.listen.specs.declared.Committed.{Committed}
 use Rattle.listen.specs.declared.Committed.TheVariants as committed
 use Rattle.codes.specs.declared.Coded.{Coded}
 use Rattle.codes.specs.declared.Stand.{Stand}
-use Rattle.codes.specs.Codes.{OK, DONE, USEDUP, CARRYTOOSMALL, refused_with, LoadNumbers, load_numbers}
+use Rattle.codes.specs.Codes.{OK, DONE, USED_UP, CARRY_TOO_SMALL, refused_with, LoadNumbers, load_numbers}
 use Rattle.codes.specs.States.{bit}
 
 -- ---- the flags
@@ -151,12 +151,12 @@ pub record StandOf (l : Listener) (r : Stand) : Type 0 where
 abbrev pub PASSED : ℕ
 PASSED = 515
 
-abbrev pub NOTREADY : ℕ
-NOTREADY = 516
+abbrev pub NOT_READY : ℕ
+NOT_READY = 516
 
 -- and for refusal 16: IHEX_REFUSED + IHEX_BAD_WINDOW
-abbrev pub BADWINDOW : ℕ
-BADWINDOW = (refused_with bad_window).code
+abbrev pub BAD_WINDOW : ℕ
+BAD_WINDOW = (refused_with bad_window).code
 
 -- a code, and nothing else
 abbrev pub code_alone : ℕ → LoadNumbers
@@ -164,11 +164,11 @@ code_alone n = record { code = n; line = 0; start = 0; a = 0; b = 0; c = 0 }
 
 -- what is said in numbers: a dump that is decided as a load, and all else by its code
 abbrev pub said_numbers : Said → LoadNumbers
-said_numbers WantsMore = code_alone USEDUP
+said_numbers WantsMore = code_alone USED_UP
 said_numbers (Decided l) = load_numbers (told_loading l)
 said_numbers Passed = code_alone PASSED
 said_numbers Quiet = code_alone DONE
-said_numbers CarryTooSmall = code_alone CARRYTOOSMALL
+said_numbers CarryTooSmall = code_alone CARRY_TOO_SMALL
 
 -- the contracts of `code_said`, `said_line` and `said_start`
 pub record CodeSaid (said : Said) (r : Coded) : Type 0 where
@@ -187,8 +187,8 @@ pub record SaidStart (said : Said) (r : ℕ) : Type 0 where
 
 abbrev pub commit_code : Committed → ℕ
 commit_code (committed.Done l) = OK
-commit_code committed.NotReady = NOTREADY
-commit_code committed.BadWindow = BADWINDOW
+commit_code committed.NotReady = NOT_READY
+commit_code committed.BadWindow = BAD_WINDOW
 
 pub record CodeCommitted (c : Committed) (r : ℕ) : Type 0 where
   pub answer : r ≡ commit_code c

@@ -1,13 +1,20 @@
 #![tactic(auto)]
-// Bytes copied to the start of a place that has room for them.
-ghost use Rattle.std.specs.Prelude.{◌≡◌, ◌≤◌, ◌++◌, length, drop};
+// Bytes copied to the start of a place.
+ghost use Rattle.copying.specs.Copying.{Copies};
 
 // Copies all bytes of the source to the start of the target, and answers how many they are. What lies after them stays.
+// Where there is no room for all, nothing is copied, and it answers 0.
 pub fn copy(source: &[u8], target: &mut [u8]) -> usize
-    requires { length source.now ≤ length target.old }
-    ensures { (result ≡ length source.now) × (target.new ≡ source.now ++ drop (length source.now) target.old) }
+    ensures { Copies source.now target.old result target.new }
 {
     let n = source.len();
-    target[..n].copy_from_slice(source);
+    if n > target.len() {
+        return 0;
+    }
+    let mut i = 0;
+    while i < n {
+        target[i] = source[i];
+        i += 1;
+    }
     n
 }

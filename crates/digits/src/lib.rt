@@ -8,21 +8,27 @@ ghost use Rattle.digits.specs.Spelling.{CapitalDigit, Put, Spelt, Spell};
 // The last place that a refusal can name.
 const LAST_PLACE: usize = 65535;
 
+// How many decimal digits there are.
+const DECIMALS: u8 = 10;
+
+// Where the six letters begin among the differences from the letter after them.
+const LETTERS: u8 = 250;
+
 // The value of a hexadecimal digit, 0 to 15 in either letter case; 16 for any other byte. Differences wrap: what stands before `0` is beyond 9,
 // and the six letters before `G` or `g` are 250 to 255, whose lower four bits are the value.
 pub fn digit_value(c: u8) -> u8
     ensures { DigitValue c result }
 {
     let decimal = std::num::wrapping_sub_u8(c, b'0');
-    if decimal < 10 {
+    if decimal < DECIMALS {
         return decimal;
     }
     let capital = std::num::wrapping_sub_u8(c, b'G');
-    if capital >= 250 {
+    if capital >= LETTERS {
         return capital % 16;
     }
     let small = std::num::wrapping_sub_u8(c, b'g');
-    if small >= 250 {
+    if small >= LETTERS {
         return small % 16;
     }
     16

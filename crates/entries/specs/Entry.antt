@@ -85,8 +85,8 @@ entry_of Bad = none
 -- ---- a table in bytes
 
 -- the bytes of a window in a table
-abbrev pub WINDOWSIZE : ℕ
-WINDOWSIZE = 24
+abbrev pub WINDOW_SIZE : ℕ
+WINDOW_SIZE = 24
 
 -- a window of 24 bytes: owner (4), first address (4), length (8), place (8)
 abbrev pub window_at : List ℕ → (at : ℕ) → Row
@@ -95,7 +95,7 @@ window_at bytes at =
 
 -- window i of a table, the first is 0
 unfoldable pub row_at : List ℕ → (i : ℕ) → Row
-row_at table i = if ltb i (length table / WINDOWSIZE) then window_at table (WINDOWSIZE * i) else nobody
+row_at table i = if ltb i (length table / WINDOW_SIZE) then window_at table (WINDOW_SIZE * i) else nobody
 
 pub record RowAt (table : List ℕ) (i : ℕ) (r : Row) : Type 0 where
   pub answer : r ≡ row_at table i
@@ -109,4 +109,4 @@ rows_from table i (suc n) = row_at table i ∷ rows_from table (suc i) n
 -- the windows of a table; a rest of fewer than 24 bytes is none
 unfoldable pub rows_of : List ℕ → List Row
 unfolding rows_from
-rows_of table = rows_from table 0 (length table / WINDOWSIZE)
+rows_of table = rows_from table 0 (length table / WINDOW_SIZE)

@@ -26,7 +26,7 @@ use Rattle.codes.specs.Codes.{OK, LoadNumbers, loading, load_numbers, kind_of_st
 use Rattle.codes.proofs.Says.{was_accepted}
 use Rattle.ihex.specs.Entries.{six, IhexLoad}
 use Rattle.ihex.specs.Loads.{InNumbers, no_start, cs_ip, linear}
-use Rattle.ihex.specs.Joined.{StartsAgree, none_of_A, none_of_B, the_same, StartOfBoth, MeetsOtherStart, ReturnedAfter, JoinedReturns, as_for_B, other_start, IhexJoined, IhexJoinedAccepted, IhexJoinedWithOneStart, IhexOneUponAnother, IhexWhatAPanelSees, IhexEitherGrouping, IhexNothingStated, BADWINDOW, IhexEndAlone}
+use Rattle.ihex.specs.Joined.{StartsAgree, none_of_A, none_of_B, the_same, StartOfBoth, MeetsOtherStart, ReturnedAfter, JoinedReturns, as_for_B, other_start, IhexJoined, IhexJoinedAccepted, IhexJoinedWithOneStart, IhexOneUponAnother, IhexWhatAPanelSees, IhexEitherGrouping, IhexNothingStated, BAD_WINDOW, IhexEndAlone}
 use Rattle.ihex.proofs.Loads.{accepts, start_numbers}
 
 -- ---- the starts
@@ -236,7 +236,7 @@ module _ (text : List ℕ) (first : ℕ) (page marks : List ℕ) (r : LoadNumber
   in_numbers e = rw (x.numbers, x.page_is, x.marks_is, e) (refl, refl, refl)
 
   -- a window that is not refused is fit
-  unless_refused : {v : Verdict} → Why text first page marks v → v ≡ (load text first page marks).answer → r.code ≢ BADWINDOW → (text ≡ end_record) ⊎ (text ≡ end_record ++ (LF ∷ [])) → NothingDone
+  unless_refused : {v : Verdict} → Why text first page marks v → v ≡ (load text first page marks).answer → r.code ≢ BAD_WINDOW → (text ≡ end_record) ⊎ (text ≡ end_record ++ (LF ∷ [])) → NothingDone
   unless_refused (bad_one w) e h is = absurd (h (ap (λ (n : LoadNumbers). n.code) (x.numbers ∙ ap load_numbers (sym e))))
   unless_refused (no_end w all) e h (inl q) = in_numbers (ap (λ (t : List ℕ). load t first page marks) q ∙ (end_alone first page marks w).0)
   unless_refused (no_end w all) e h (inr q) = in_numbers (ap (λ (t : List ℕ). load t first page marks) q ∙ (end_alone first page marks w).1)

@@ -30,7 +30,7 @@ use Rattle.light.proofs.Places.{outcome_is_said}
 use Rattle.light.proofs.Sixteen.{said_sixteen}
 use Rattle.light.proofs.Claims.{bad_place_exactly, for_refused, outcome_refused, accepted_unbroken, for_bad_window, outside_uncounted, green_so, decided_alike}
 use Rattle.codes.specs.Codes.{OK, LoadNumbers, load_numbers}
-use Rattle.codes.specs.Lights.{color_number, BROKEN, count_number, COUNTUNKNOWN, count_from, light_of, making}
+use Rattle.codes.specs.Lights.{color_number, BROKEN, count_number, COUNT_UNKNOWN, count_from, light_of, making}
 use Rattle.codes.proofs.Lights.{color_returns}
 use Rattle.codes.proofs.Says.{was_accepted, was_refused}
 use Rattle.ihex.specs.Entries.{LightNumbers, IhexLightBy}
@@ -53,7 +53,7 @@ pub ihex_set_up_light_makes : IhexSetUpLightMakes
 ihex_set_up_light_makes first n high low r known x good = rw x.known_is (go (leb n high || leb n low) x.answer)
   where
     lamp : Made
-    lamp = made.Light (light_of first n high low COUNTUNKNOWN)
+    lamp = made.Light (light_of first n high low COUNT_UNKNOWN)
 
     go : (b : Bool) → r ≡ making (if b then made.BadPlace else lamp) → (r ≡ OK) × ((if b then made.BadPlace else lamp) ≡ lamp)
     go true e = absurd (good e)

@@ -53,11 +53,11 @@ use Rattle.listen.proofs.Answers.{feed_unique, pause_unique, commit_unique}
 use Rattle.listen.proofs.Calls.{dump_decides, dump_commits, dump_ends, end_commits, tail_passes, pause_begins}
 use Rattle.listen.proofs.Waiting.{eighteen_exactly, dump_says, dump_waits, tail_says, tail_waits}
 use Rattle.codes.specs.declared.Stand.{Stand}
-use Rattle.codes.specs.Codes.{OK, USEDUP, CARRYTOOSMALL, refused_with, LoadNumbers, load_numbers}
+use Rattle.codes.specs.Codes.{OK, USED_UP, CARRY_TOO_SMALL, refused_with, LoadNumbers, load_numbers}
 use Rattle.codes.specs.Lights.{color_number, count_number}
 use Rattle.codes.specs.States.{bit}
 use Rattle.codes.specs.Listeners as codes
-use Rattle.codes.specs.Listeners.{kind_flag, listener_of, stand, stands_for, PASSED, NOTREADY, said_numbers, commit_code, answer_of}
+use Rattle.codes.specs.Listeners.{kind_flag, listener_of, stand, stands_for, PASSED, NOT_READY, said_numbers, commit_code, answer_of}
 use Rattle.ihex.specs.Entries.{IhexLoadBy}
 use Rattle.ihex.specs.Listening.{TellSaid, flags_after, IhexCommit}
 use Rattle.ihex.specs.Listeners.{CarryFixed, IhexFeedUnique, IhexPauseUnique, IhexCommitUnique, IhexLightAfterUnique, IhexLightAfterAsLight, IhexLightAfterBroken, TestedFirst, IhexFeedTests, IhexPauseTests, IhexCommitKeeps, IhexListens, no_call, one_more, at_front, skipping, ready, IhexBegins, Decides, IhexLoadOf, DecidedAs, IhexDumpDecides, IhexDumpSays, IhexDumpWaits, IhexFedIsLoaded, IhexRefusedIsLoaded, IhexTailPasses, IhexTailSays, IhexTailWaits, IhexDumpEnds, IhexPausedIsLoaded, IhexPauseRefusedIsLoaded, IhexPauseBegins}
@@ -91,7 +91,7 @@ load_code (Refused BadTable line) = (omega arith, λ e. omega arith)
 refused_not_ok : (w : Refusal) → (refused_with w).code ≢ OK
 refused_not_ok (refusal n vs) e = omega arith
 
-pub wants : (said : Said) → (said_numbers said).code ≡ USEDUP → said ≡ WantsMore
+pub wants : (said : Said) → (said_numbers said).code ≡ USED_UP → said ≡ WantsMore
 wants WantsMore e = refl
 wants (Decided answer) e = let (few, _) = load_code answer in absurd (omega arith)
 wants Passed e = absurd (omega arith)
@@ -105,7 +105,7 @@ passes Passed e = refl
 passes Quiet e = absurd (omega arith)
 passes CarryTooSmall e = absurd (omega arith)
 
-is_small : (said : Said) → (said_numbers said).code ≡ CARRYTOOSMALL → said ≡ CarryTooSmall
+is_small : (said : Said) → (said_numbers said).code ≡ CARRY_TOO_SMALL → said ≡ CarryTooSmall
 is_small WantsMore e = absurd (omega arith)
 is_small (Decided answer) e = absurd ((load_code answer).1 e)
 is_small Passed e = absurd (omega arith)
@@ -248,11 +248,11 @@ code_of t = ap (λ (n : LoadNumbers). n.code) t.numbers
 module _ (s : Stand) (carry : List ℕ) (first : ℕ) (stage stated : List ℕ) (step : Step) (s' : Stand) (r : LoadNumbers) (carry' stage' stated' : List ℕ) (t : TellSaid step s' r) (W : Type 0)
     (h : Tested (too_small (stands_for s) (length carry)) (stands_for s) carry first stage stated step carry' stage' stated' W)
     (exactly : (step.said ≡ CarryTooSmall) ↔ (too_small (stands_for s) (length carry) ≡ true)) where
-  small_so : r.code ≡ CARRYTOOSMALL → too_small (stands_for s) (length carry) ≡ true
+  small_so : r.code ≡ CARRY_TOO_SMALL → too_small (stands_for s) (length carry) ≡ true
   small_so e = exactly.0 (is_small step.said (sym (code_of t) ∙ e))
 
   -- by which test it was
-  unread_so : (r.code ≡ CARRYTOOSMALL) ⊎ (unfit first (length stage) (length stated) ≡ true) → (said : Said) × Unread (stands_for s) said carry stage stated step carry' stage' stated'
+  unread_so : (r.code ≡ CARRY_TOO_SMALL) ⊎ (unfit first (length stage) (length stated) ≡ true) → (said : Said) × Unread (stands_for s) said carry stage stated step carry' stage' stated'
   unread_so (inl e) = (CarryTooSmall, h.small (small_so e))
   unread_so (inr u) = go (too_small (stands_for s) (length carry)) refl
     where
@@ -268,11 +268,11 @@ module _ (s : Stand) (carry : List ℕ) (first : ℕ) (stage stated : List ℕ) 
         keeps = λ e. let (said, x) = unread_so e in (t.returns ∙ ap (λ (z : Step). z.listener) x.answer, x.carry_is, x.stage_is, x.stated_is);
       }
     where
-      go : r.code ≢ CARRYTOOSMALL → unfit first (length stage) (length stated) ≡ true → (b : Bool) → too_small (stands_for s) (length carry) ≡ b → r ≡ load_numbers (told_loading (Refused BadWindow 0))
+      go : r.code ≢ CARRY_TOO_SMALL → unfit first (length stage) (length stated) ≡ true → (b : Bool) → too_small (stands_for s) (length carry) ≡ b → r ≡ load_numbers (told_loading (Refused BadWindow 0))
       go n u true e = absurd (n (code_of t ∙ ap (λ (x : Said). (said_numbers x).code) (exactly.1 e)))
       go n u false e = t.numbers ∙ ap (λ (z : Step). said_numbers z.said) (h.bad_window e u).answer
 
-  none_taken : (r.code ≡ CARRYTOOSMALL) ⊎ (unfit first (length stage) (length stated) ≡ true) → step.used ≡ 0
+  none_taken : (r.code ≡ CARRY_TOO_SMALL) ⊎ (unfit first (length stage) (length stated) ≡ true) → step.used ≡ 0
   none_taken e = let (said, x) = unread_so e in ap (λ (z : Step). z.used) x.answer
 
 pub ihex_feed_tests : IhexFeedTests
@@ -311,12 +311,12 @@ module _ (stage stated page marks : List ℕ) (c : Committed) (page' marks' : Li
       go a b false e p m = (p, m)
 
   -- and is refused so exactly if no dump is ready
-  unready : (l : Listener) → Commits l stage stated page marks c page' marks' → ((k : Kind) → l ≡ Ready k → ⊥) → commit_code c ≡ NOTREADY
+  unready : (l : Listener) → Commits l stage stated page marks c page' marks' → ((k : Kind) → l ≡ Ready k → ⊥) → commit_code c ≡ NOT_READY
   unready (Front kind cr) x n = ap commit_code x.answer
   unready (Within s) x n = ap commit_code x.answer
   unready (Ready kind) x n = absurd (n kind refl)
 
-  was_ready : (k : Kind) → Commits (Ready k) stage stated page marks c page' marks' → commit_code c ≢ NOTREADY
+  was_ready : (k : Kind) → Commits (Ready k) stage stated page marks c page' marks' → commit_code c ≢ NOT_READY
   was_ready k x e = go x.fits x.answer
     where
       go : (fits : Bool) → c ≡ commit_by k fits → ⊥
@@ -424,7 +424,7 @@ pub ihex_dump_says : IhexDumpSays
 ihex_dump_says kind cr first s₀ carry₀ stage₀ stated₀ b fit big bytes s carry stage stated row chunk taken s' r carry' stage' stated' f =
     go f.step.said (code_of f.tells) (dump_says kind cr first (stands_for s₀) carry₀ stage₀ stated₀ b fit big bytes (stands_for s) carry stage stated (listens row) chunk f.step carry' stage' stated' f.hears)
   where
-    go : (said : Said) → r.code ≡ (said_numbers said).code → (said ≡ WantsMore) ⊎ ((answer : Loading) × (said ≡ Decided answer)) → (r.code ≡ USEDUP) ⊎ Decides r.code
+    go : (said : Said) → r.code ≡ (said_numbers said).code → (said ≡ WantsMore) ⊎ ((answer : Loading) × (said ≡ Decided answer)) → (r.code ≡ USED_UP) ⊎ Decides r.code
     go said e (inl w) = inl (e ∙ ap (λ (x : Said). (said_numbers x).code) w)
     go said e (inr (answer, d)) = inr (subst Decides (sym (e ∙ ap (λ (x : Said). (said_numbers x).code) d)) (load_code answer))
 
@@ -517,7 +517,7 @@ pub ihex_tail_says : IhexTailSays
 ihex_tail_says kind first s₀ carry₀ stage₀ stated₀ e fit big bytes s carry stage stated row chunk taken s' r carry' stage' stated' f short =
     go f.step.said (code_of f.tells) (tail_says kind first carry₀ stage₀ stated₀ fit big bytes (stands_for s) carry stage stated (skipping_row kind e row) chunk f.step carry' stage' stated' f.hears short)
   where
-    go : (said : Said) → r.code ≡ (said_numbers said).code → (said ≡ WantsMore) ⊎ (said ≡ Passed) → (r.code ≡ USEDUP) ⊎ (r.code ≡ PASSED)
+    go : (said : Said) → r.code ≡ (said_numbers said).code → (said ≡ WantsMore) ⊎ (said ≡ Passed) → (r.code ≡ USED_UP) ⊎ (r.code ≡ PASSED)
     go said e (inl w) = inl (e ∙ ap (λ (x : Said). (said_numbers x).code) w)
     go said e (inr p) = inr (e ∙ ap (λ (x : Said). (said_numbers x).code) p)
 

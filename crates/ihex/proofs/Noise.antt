@@ -17,13 +17,13 @@ use Rattle.intel.specs.Placing.{intel}
 use Rattle.loader.specs.Load.{load}
 use Rattle.loader.specs.Noise.{RefusedOrSame, is_refused, is_the_same}
 use Rattle.loader.proofs.Noise.{load_noticed}
-use Rattle.codes.specs.Codes.{OK, POOLFULL, value, reading, loading, load_numbers}
+use Rattle.codes.specs.Codes.{OK, POOL_FULL, value, reading, loading, load_numbers}
 use Rattle.ihex.specs.Entries.{IhexReadRecord}
 use Rattle.ihex.specs.Noise.{ReturnedRecord, returned, refuse, IhexOneWrongCharacter, IhexDamageIsNoticed}
 use Rattle.ihex.proofs.Loads.{accepts}
 
 -- a record, or a full pool, is returned only for a line that says a record
-given_is_said : (line pool : List ℕ) (at r a b c : ℕ) (p : List ℕ) → IhexReadRecord line pool at r a b c p → (r < 6) ⊎ (r ≡ POOLFULL) → SaysARecord line
+given_is_said : (line pool : List ℕ) (at r a b c : ℕ) (p : List ℕ) → IhexReadRecord line pool at r a b c p → (r < 6) ⊎ (r ≡ POOL_FULL) → SaysARecord line
 given_is_said line pool at r a b c p x h = go (judge line) refl (stands line) x.answer.code_is
   where
     go : (said : Said) → judge line ≡ said → Stands line said → r ≡ (reading (answered said (length pool) at)).code → SaysARecord line

@@ -28,7 +28,7 @@ use Rattle.page.proofs.Room.{room_enough}
 use Rattle.codes.specs.Codes.{OK, value, writing, load_numbers}
 use Rattle.ihex.specs.Entries.{IhexWritePage}
 use Rattle.ihex.specs.Claims.{PageLoadsBack}
-use Rattle.ihex.specs.Pages.{OUTPUTFULL, BADMARK, IhexWritePageReasons, IhexNoBadMark, IhexLengthAsWritten, IhexPageRoom, IhexLengthOfLengths, IhexUnmarkedBytes}
+use Rattle.ihex.specs.Pages.{OUTPUT_FULL, BAD_MARK, IhexWritePageReasons, IhexNoBadMark, IhexLengthAsWritten, IhexPageRoom, IhexLengthOfLengths, IhexUnmarkedBytes}
 use Rattle.codes.proofs.Says.{wrote_it}
 
 was_written : (first : ℕ) (page marks out : List ℕ) (n : ℕ) (out' : List ℕ) → IhexWritePage first page marks out 0 n out' → WritePage first page marks out (Wrote n) out'
@@ -69,11 +69,11 @@ ihex_write_page_reasons first page marks out r v out' x =
 
 pub ihex_no_bad_mark : IhexNoBadMark
 ihex_no_bad_mark first page marks eighth e = (
-  λ r v x. text_cases first page marks (λ t. r ≡ (writing (some (place_behind t 0))).code → r ≢ BADMARK)
+  λ r v x. text_cases first page marks (λ t. r ≡ (writing (some (place_behind t 0))).code → r ≢ BAD_MARK)
       (λ w c b. omega (arith, c, b)) (λ place w f c b. none_to_name marks (length page) eighth place e f) (λ p c b. omega (arith, c, b)) x.code_is,
-  λ out r v out' x. text_cases first page marks (λ t. r ≡ (writing (some (if_room (place_behind t 0) (length out)))).code → r ≢ BADMARK)
+  λ out r v out' x. text_cases first page marks (λ t. r ≡ (writing (some (if_room (place_behind t 0) (length out)))).code → r ≢ BAD_MARK)
       (λ w c b. omega (arith, c, b)) (λ place w f c b. none_to_name marks (length page) eighth place e f)
-      (λ p. branch (λ (t : ToldWritten). r ≡ (writing (some t)).code → r ≢ BADMARK) (leb (0 + length (file first page marks)) (length out)) _ _ (λ h c b. omega (arith, c, b)) (λ h c b. omega (arith, c, b)))
+      (λ p. branch (λ (t : ToldWritten). r ≡ (writing (some t)).code → r ≢ BAD_MARK) (leb (0 + length (file first page marks)) (length out)) _ _ (λ h c b. omega (arith, c, b)) (λ h c b. omega (arith, c, b)))
       x.code_is,
 )
 
@@ -110,13 +110,13 @@ ihex_length_as_written first page marks out r v r' v' out' x y = go (page_text f
   where
     go : (t : Text) → r ≡ (writing (some (place_behind t 0))).code → v ≡ value (writing (some (place_behind t 0))) 0
         → r' ≡ (writing (some (if_room (place_behind t 0) (length out)))).code → v' ≡ value (writing (some (if_room (place_behind t 0) (length out)))) 0
-        → ((r ≡ r') × (v ≡ v')) ⊎ ((r ≡ OK) × (length out < v) × (r' ≡ OUTPUTFULL))
+        → ((r ≡ r') × (v ≡ v')) ⊎ ((r ≡ OK) × (length out < v) × (r' ≡ OUTPUT_FULL))
     go (refused w) p q p' q' = inl (cc, cc)
     go (chars cs) p q p' q' = fits (leb (0 + length cs) (length out)) refl p' q'
       where
         fits : (b : Bool) → leb (0 + length cs) (length out) ≡ b
             → r' ≡ (writing (some (if b then wrote (0 + length cs) else refuses output_full))).code
             → v' ≡ value (writing (some (if b then wrote (0 + length cs) else refuses output_full))) 0
-            → ((r ≡ r') × (v ≡ v')) ⊎ ((r ≡ OK) × (length out < v) × (r' ≡ OUTPUTFULL))
+            → ((r ≡ r') × (v ≡ v')) ⊎ ((r ≡ OK) × (length out < v) × (r' ≡ OUTPUT_FULL))
         fits true e p' q' = inl (cc, cc)
         fits false e p' q' = inr (p, omega (arith, leb-false (0 + length cs) (length out) e), p')

@@ -27,7 +27,7 @@ use Rattle.reader.proofs.Reading.{full_keeps, outcome_found}
 use Rattle.reader.proofs.Room.{ends_stops}
 use Rattle.reader.proofs.Stays.{ways, done_stays, room_is_enough, nothing_behind}
 use Rattle.reader.proofs.Texts.{rows, in_order}
-use Rattle.codes.specs.Codes.{POOLFULL, Numbers, reading}
+use Rattle.codes.specs.Codes.{POOL_FULL, Numbers, reading}
 use Rattle.codes.specs.States.{state_of, flags_of}
 use Rattle.ihex.specs.Calls.{Returned, all_in_numbers}
 use Rattle.ihex.specs.Readings.{FromTheBeginning, NoneFull, IhexRows, IhexInOrder, IhexRoomIsEnough, IhexNothingAfter, IhexNextAsReadRecord, IhexDoneStays, IhexFullKeeps, FlagsOfThree, IhexReadRecordKeeps, IhexNextKeeps}
@@ -124,7 +124,7 @@ module _ (s : State) (text pool : List ℕ) (at : ℕ) where
       branch (λ (o : Outcome). is_full o.told ≡ true → o.state ≡ s) (is_full (answered (judge line) (length pool) at)) _ _ (λ f e. refl)
       (λ f e. let z : true ≡ false = sym e ∙ f in let w : ◌≡◌ {A = ℕ} 0 1 = cc in absurd (omega arith)))
 
-  full_code : (reading (outcome s text pool at).told).code ≡ POOLFULL → is_full (outcome s text pool at).told ≡ true
+  full_code : (reading (outcome s text pool at).told).code ≡ POOL_FULL → is_full (outcome s text pool at).told ≡ true
   full_code e = let (r, t) = reply_for s text pool at in go (is_full (outcome s text pool at).told) refl r t
     where
       go : (b : Bool) → is_full (outcome s text pool at).told ≡ b → (r : Reply) → told_reply r ≡ (outcome s text pool at).told → b ≡ true

@@ -30,7 +30,7 @@ use Rattle.chunks.specs.Claims.{TooSmall, Eighteen, GivesThen, OnlyDone, givens_
 use Rattle.chunks.proofs.Kept.{ShownRight, every_told}
 use Rattle.chunks.proofs.Calls.{next_told, finish_told, finish_place, carry_first, Keeps, full_outcome, full_then_room, finish_ends, done_stays}
 use Rattle.chunks.proofs.Claims.{any_cuts_by, row_replies, row_shows, row_alike}
-use Rattle.codes.specs.Codes.{USEDUP, POOLFULL, CARRYTOOSMALL, value, Numbers, reading, reading_chunk}
+use Rattle.codes.specs.Codes.{USED_UP, POOL_FULL, CARRY_TOO_SMALL, value, Numbers, reading, reading_chunk}
 use Rattle.codes.specs.States.{lies_of, place_of}
 use Rattle.ihex.specs.Entries.{start_of}
 use Rattle.ihex.specs.Calls.{Returned, in_numbers, all_in_numbers}
@@ -90,15 +90,15 @@ hears o chunk h clear x =
     }
   where
     as_noted : (w : Word) → Clear w → (pool : List ℕ) (line : ℕ) (shown : List ℕ)
-        → (if eqb (reading_chunk w).code USEDUP then none else some (record { returned = record { code = (reading_chunk w).code; a = value (reading_chunk w) 0; b = value (reading_chunk w) 1; c = value (reading_chunk w) 2; line = line; pool = pool }; shown = shown }))
+        → (if eqb (reading_chunk w).code USED_UP then none else some (record { returned = record { code = (reading_chunk w).code; a = value (reading_chunk w) 0; b = value (reading_chunk w) 1; c = value (reading_chunk w) 2; line = line; pool = pool }; shown = shown }))
         ≡ Option.map noted (seen_with w pool line shown)
     as_noted used_up clear pool line shown = refl
-    as_noted (tells t) clear pool line shown = go (eqb (reading t).code USEDUP) refl
+    as_noted (tells t) clear pool line shown = go (eqb (reading t).code USED_UP) refl
       where
-        go : (b : Bool) → eqb (reading t).code USEDUP ≡ b
+        go : (b : Bool) → eqb (reading t).code USED_UP ≡ b
             → (if b then none else some (noted (record { given = record { told = t; pool = pool; line = line }; shown = shown }))) ≡ some (noted (record { given = record { told = t; pool = pool; line = line }; shown = shown }))
         go true e =
-            let c : (reading t).code ≡ USEDUP = eqb-true (reading t).code USEDUP e in
+            let c : (reading t).code ≡ USED_UP = eqb-true (reading t).code USED_UP e in
             let w : tells t ≡ used_up = clear (omega arith) ∙ ap word_at c in
             let z : ◌≡◌ {A = ℕ} 0 1 = cc in absurd (omega arith)
         go false e = refl
@@ -174,9 +174,9 @@ ihex_carry_first s chunk carry pool at x carry' pool' l m = go m
   where
     eighteen : (o : Outcome) (chunk₀ : List ℕ) → Eighteen s carry o pool → Clear o.word → ReadBack o chunk₀ x carry' pool' → IhexEighteen s carry pool x carry' pool'
     eighteen o chunk₀ e clear m =
-        let same : TooSmall s carry → (x.code ≡ CARRYTOOSMALL) × (state_back x ≡ s) × (carry' ≡ carry) × (pool' ≡ pool) =
+        let same : TooSmall s carry → (x.code ≡ CARRY_TOO_SMALL) × (state_back x ≡ s) × (carry' ≡ carry) × (pool' ≡ pool) =
         λ h. same_back o chunk₀ x carry' pool' m (tells (refuses carry_too_small)) s carry pool (e.first h) l in
-        let small : x.code ≡ CARRYTOOSMALL → TooSmall s carry = λ q. e.only (word_back o chunk₀ x carry' pool' m clear (omega arith) ∙ ap word_at q) in
+        let small : x.code ≡ CARRY_TOO_SMALL → TooSmall s carry = λ q. e.only (word_back o chunk₀ x carry' pool' m clear (omega arith) ∙ ap word_at q) in
         record { exactly = (small, λ h. (same h).0); keeps = λ q. let (c, st, k, p) = same (small q) in (st, k, p) }
 
     go : Either s chunk carry pool at x carry' pool' → IhexEighteen s carry pool x carry' pool'
@@ -184,7 +184,7 @@ ihex_carry_first s chunk carry pool at x carry' pool' l m = go m
     go (inr m) = eighteen (finish_outcome s carry pool at) [] (carry_first s chunk carry pool at).1 (finish_clear s carry pool at).0 m
 
 -- IHEX_POOL_FULL says the word
-full_back : (o : Outcome) (chunk : List ℕ) (x : Back) (carry' pool' : List ℕ) → Clear o.word → ReadBack o chunk x carry' pool' → x.code ≡ POOLFULL → o.word ≡ tells (refuses pool_full)
+full_back : (o : Outcome) (chunk : List ℕ) (x : Back) (carry' pool' : List ℕ) → Clear o.word → ReadBack o chunk x carry' pool' → x.code ≡ POOL_FULL → o.word ≡ tells (refuses pool_full)
 unfolding word_at
 full_back o chunk x carry' pool' clear m e = word_back o chunk x carry' pool' m clear (omega arith) ∙ ap word_at e
 

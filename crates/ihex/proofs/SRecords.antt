@@ -34,7 +34,7 @@ use Rattle.entries.specs.Entry.{type_named}
 use Rattle.entries.proofs.Types.{digit_again}
 use Rattle.codes.specs.Codes.{OK, value, refused_with}
 use Rattle.ihex.specs.Entries.{ReadLine, WroteText, IhexReadSrecord}
-use Rattle.ihex.specs.SRecords.{Gives, WhyRead, a_record, no_room, no_record, IhexReadSrecordReasons, INVALIDCHARACTERS, IhexReadSrecordOffender, IhexReadSrecordKeeps, IhexReadSrecordRoom, IhexToSrecordStringLine, IhexSrecordReadsBack}
+use Rattle.ihex.specs.SRecords.{Gives, WhyRead, a_record, no_room, no_record, IhexReadSrecordReasons, INVALID_CHARACTERS, IhexReadSrecordOffender, IhexReadSrecordKeeps, IhexReadSrecordRoom, IhexToSrecordStringLine, IhexSrecordReadsBack}
 use Rattle.ihex.proofs.Writes.{as_written, srecord_text_by}
 
 -- ---- the record reader
@@ -131,7 +131,7 @@ ihex_read_srecord_reasons line pool at r a b c pool' = (why line pool at r a b c
 pub ihex_read_srecord_offender : IhexReadSrecordOffender
 ihex_read_srecord_offender line pool at r a b c pool' x = (go ((ihex_read_srecord_reasons line pool at r a b c pool').0 x), back)
   where
-    go : WhyRead line pool at r a b c pool' → r ≡ INVALIDCHARACTERS → (place : ℕ) × FirstOffender line place × (a ≡ named place)
+    go : WhyRead line pool at r a b c pool' → r ≡ INVALID_CHARACTERS → (place : ℕ) × FirstOffender line place × (a ≡ named place)
     go (a_record kind address payload f room g) h = absurd (omega (arith, g.type_is, small line pool at r a b c pool' kind address payload f))
     go (no_room kind address payload f k l n e) h = absurd (omega (arith, n.code_is))
     go (no_record (refusal number values) f n e) h =
@@ -139,10 +139,10 @@ ihex_read_srecord_offender line pool at r a b c pool' x = (go ((ihex_read_srecor
         let (place, first, q) = (names_the_offender line (refusal number values)).0 ((refuses line (refusal number values)).1 f, two) in
         (place, first, n.a_is ∙ ap (λ (w : Refusal). value (refused_with w) 0) q)
 
-    back : (place : ℕ) × FirstOffender line place × (a ≡ named place) → r ≡ INVALIDCHARACTERS
+    back : (place : ℕ) × FirstOffender line place × (a ≡ named place) → r ≡ INVALID_CHARACTERS
     back (place, first, q) =
-        let told : IhexReadSrecord line pool at INVALIDCHARACTERS (named place) 0 0 pool =
-        because line pool at INVALIDCHARACTERS (named place) 0 0 pool
+        let told : IhexReadSrecord line pool at INVALID_CHARACTERS (named place) 0 0 pool =
+        because line pool at INVALID_CHARACTERS (named place) 0 0 pool
         (no_record (contains_invalid_characters (named place)) (no_digit place first) (record { code_is = refl; a_is = refl; b_is = refl; c_is = refl }) refl) in
         x.answer.code_is ∙ sym told.answer.code_is
 

@@ -36,7 +36,7 @@ use Rattle.entries.specs.Entry.{rows_of}
 use Rattle.table.specs.Load.{torn, load_bytes, IsBad}
 use Rattle.table.specs.Claims.{BadBytes}
 use Rattle.table.proofs.Claims.{whole_table_loads, torn_table_refused, bytes_non_interference, bad_for_both}
-use Rattle.codes.specs.Codes.{OK, BADTABLE, LoadNumbers, load_numbers}
+use Rattle.codes.specs.Codes.{OK, BAD_TABLE, LoadNumbers, load_numbers}
 use Rattle.codes.proofs.Says.{was_accepted, was_refused}
 use Rattle.ihex.proofs.Loads.{start_by_reason, s_start_by_reason}
 use Rattle.ihex.specs.Entries.{IhexLoadTableBy}
@@ -79,13 +79,13 @@ module _ {S : Type 0} (src : Source S) where
   -- a reason that gives 23 is the table's
   module _ (account : (inside : ℕ → Bool) → Account) (numbers : List ℕ) (not-23 : one_of numbers 23 ≡ false)
       (lines_give : (inside : ℕ → Bool) (ahead : List (List ℕ)) (line : List ℕ) (n : ℕ) (v : Verdict) → (account inside).stops ahead line n v → Among numbers v) (reasons : TableReasons src account) where
-    not_a_line : (v : Verdict) → Among numbers v → (load_numbers v).code ≡ BADTABLE → ⊥
+    not_a_line : (v : Verdict) → Among numbers v → (load_numbers v).code ≡ BAD_TABLE → ⊥
     not_a_line (accepted t) h e = omega arith
     not_a_line (refused (refusal n vs) line) h e =
         let q : n ≡ 23 = omega arith in
         let z : true ≡ false = sym (rw q at h) ∙ not-23 in true≢false z
 
-    only_bad : (text : List ℕ) (Good Bad : Type 0) (inside : ℕ → Bool) {v : Verdict} → WhyIn src account text Good Bad bad_table inside v → (load_numbers v).code ≡ BADTABLE → Bad × (v ≡ refused bad_table 0)
+    only_bad : (text : List ℕ) (Good Bad : Type 0) (inside : ℕ → Bool) {v : Verdict} → WhyIn src account text Good Bad bad_table inside v → (load_numbers v).code ≡ BAD_TABLE → Bad × (v ≡ refused bad_table 0)
     only_bad text Good Bad inside (bad_one w) e = (w, refl)
     only_bad text Good Bad inside (no_end w all) e = absurd (omega arith)
     only_bad text Good Bad inside (at_line n v w d) e = absurd (not_a_line v (lines_give inside d.ahead d.line n v d.stops) e)
@@ -96,7 +96,7 @@ module _ {S : Type 0} (src : Source S) where
         Bad : Type 0
         Bad = BadTable owner (length pool) (length marks) (rows_of table)
 
-        go : (b : Bool) → eqb (length table % 24) 0 ≡ b → ((r.code ≡ BADTABLE) ↔ BadBytes owner table (length pool) (length marks)) × (r.code ≡ BADTABLE → r.line ≡ 0)
+        go : (b : Bool) → eqb (length table % 24) 0 ≡ b → ((r.code ≡ BAD_TABLE) ↔ BadBytes owner table (length pool) (length marks)) × (r.code ≡ BAD_TABLE → r.line ≡ 0)
         go false q =
             let n = eqb-false (length table % 24) 0 q in
             let (c, l, k, j) = table_torn text owner table pool marks r p m x n in
@@ -105,12 +105,12 @@ module _ {S : Type 0} (src : Source S) where
             let w = eqb-true (length table % 24) 0 q in
             let a = as_windows text owner table pool marks r p m x w in
             let said : r ≡ load_numbers (load_table src owner (rows_of table) text pool marks).answer = x.numbers ∙ ap (λ (l : Loaded). load_numbers l.answer) a in
-            let found : r.code ≡ BADTABLE → Bad × ((load_table src owner (rows_of table) text pool marks).answer ≡ refused bad_table 0) = λ e. only_bad text (¬ Bad) Bad (inside_of owner (rows_of table)) (reasons owner (rows_of table) text pool marks) (ap (λ (k : LoadNumbers). k.code) (sym said) ∙ e) in (
+            let found : r.code ≡ BAD_TABLE → Bad × ((load_table src owner (rows_of table) text pool marks).answer ≡ refused bad_table 0) = λ e. only_bad text (¬ Bad) Bad (inside_of owner (rows_of table)) (reasons owner (rows_of table) text pool marks) (ap (λ (k : LoadNumbers). k.code) (sym said) ∙ e) in (
               (λ e. inr (found e).0, back w said),
               λ e. ap (λ (k : LoadNumbers). k.line) (said ∙ ap load_numbers (found e).1),
             )
           where
-            back : length table % 24 ≡ 0 → r ≡ load_numbers (load_table src owner (rows_of table) text pool marks).answer → BadBytes owner table (length pool) (length marks) → r.code ≡ BADTABLE
+            back : length table % 24 ≡ 0 → r ≡ load_numbers (load_table src owner (rows_of table) text pool marks).answer → BadBytes owner table (length pool) (length marks) → r.code ≡ BAD_TABLE
             back w said (inl n) = absurd (n w)
             back w said (inr bad) =
                 let l = load_bad_table src owner (rows_of table) text pool marks ((refused_exactly owner (length pool) (length marks) (rows_of table)).1 bad) in
@@ -296,9 +296,9 @@ ihex_check_table_exactly table pool marks r x = go (torn table || not (fits 1 po
     bad b e = record { answer = sym e }
 
     go : (b : Bool) → torn table || not (fits 1 pool marks (rows_of table)) ≡ b
-        → ((r ≡ OK) ⊎ (r ≡ BADTABLE)) × ((owner : ℕ) → IsOwner owner → (r ≡ BADTABLE) ↔ BadBytes owner table pool marks)
+        → ((r ≡ OK) ⊎ (r ≡ BAD_TABLE)) × ((owner : ℕ) → IsOwner owner → (r ≡ BAD_TABLE) ↔ BadBytes owner table pool marks)
     go true e =
-        let q : r ≡ BADTABLE = x.answer ∙ rw e in
+        let q : r ≡ BAD_TABLE = x.answer ∙ rw e in
         (inr q, λ owner o. let (there, back) = bad_for_both table pool marks true (bad true e) owner o in (λ _. there refl, λ _. q))
     go false e =
         let q : r ≡ OK = x.answer ∙ rw e in

@@ -30,7 +30,7 @@ use Rattle.srec.proofs.Naming.{unnamed_none, none_unnamed}
 use Rattle.srec.proofs.Reasons as srec-reasons
 use Rattle.entries.specs.Entry.{type_named}
 use Rattle.entries.proofs.Types.{by_none, none_named}
-use Rattle.codes.specs.Codes.{OK, BADRECORD, writing}
+use Rattle.codes.specs.Codes.{OK, BAD_RECORD, writing}
 use Rattle.codes.proofs.Says.{wrote_it}
 use Rattle.ihex.specs.Entries.{WroteText}
 use Rattle.ihex.specs.Writes.{NothingAfterTheLength, RefusalKeepsOutput, WriteReasoned, IhexToRecordStringReasons, IhexToSrecordStringReasons, IhexToSrecordStringBad, IhexCreateObjectReasons}
@@ -77,7 +77,7 @@ ihex_to_srecord_string_reasons kind address at len pool out r v out' w x e =
     (srec-reasons.line_reason x pool (length out)) (srec-reasons.one_reason x (length pool) (length out))
 
 -- no reason is one for IHEX_BAD_RECORD
-not_bad : (x : SRecord) (size room : ℕ) (t : ToldWritten) → srec.WhyLine x size room t → (writing (some t)).code ≢ BADRECORD
+not_bad : (x : SRecord) (size room : ℕ) (t : ToldWritten) → srec.WhyLine x size room t → (writing (some t)).code ≢ BAD_RECORD
 not_bad x size room _ (faulty _ (srec.outside h)) e = omega arith
 not_bad x size room _ (faulty _ (srec.holds_none h s)) e = omega arith
 not_bad x size room _ (faulty _ (srec.too_long n h s w l)) e = omega arith
@@ -93,13 +93,13 @@ srecord_text_by address at len pool o =
 pub ihex_to_srecord_string_bad : IhexToSrecordStringBad
 ihex_to_srecord_string_bad kind address at len pool out r v out' w = (go (type_named kind) refl w, back)
   where
-    go : (o : Option SType) → type_named kind ≡ o → WroteText (srecord_text_by address at len pool o) out r v out' → r ≡ BADRECORD → Unnamed kind
+    go : (o : Option SType) → type_named kind ≡ o → WroteText (srecord_text_by address at len pool o) out r v out' → r ≡ BAD_RECORD → Unnamed kind
     go none e w h = unnamed_none kind (none_named kind e)
     go (some t) e w h =
         let x : SRecord = record { kind = t; address = address; at = at; len = len } in
         absurd (not_bad x (length pool) (length out) _ (srec-reasons.line_reason x pool (length out)) (sym w.code_is ∙ h))
 
-    back : Unnamed kind → r ≡ BADRECORD
+    back : Unnamed kind → r ≡ BAD_RECORD
     back u = (subst (λ (o : Option SType). WroteText (srecord_text_by address at len pool o) out r v out') (by_none kind (none_unnamed kind u)) w).code_is
 
 pub ihex_create_object_reasons : IhexCreateObjectReasons

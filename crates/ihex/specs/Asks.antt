@@ -13,15 +13,15 @@ use Rattle.intel.specs.Placing.{steps_of}
 use Rattle.query.specs.Claims.{Why}
 use Rattle.entries.specs.Entry.{rows_of}
 use Rattle.table.specs.Claims.{BadBytes}
-use Rattle.codes.specs.Codes.{OK, NOTSTATED, LoadNumbers, AskNumbers, ask_numbers}
+use Rattle.codes.specs.Codes.{OK, NOT_STATED, LoadNumbers, AskNumbers, ask_numbers}
 use Rattle.ihex.specs.Entries.{IhexLoad, IhexLoadTable, asked_in, IhexAsk}
 
 -- ---- what is returned
 
--- a byte, with every other number 0; NOTSTATED, with every other number 0; or IHEX_REFUSED and one of these numbers
+-- a byte, with every other number 0; NOT_STATED, with every other number 0; or IHEX_REFUSED and one of these numbers
 pub data Returned (r : AskNumbers) : Type 0 where
   a_byte : (byte : ℕ) → r ≡ asked_in OK 0 byte 0 → Returned r
-  no_byte : r ≡ asked_in NOTSTATED 0 0 0 → Returned r
+  no_byte : r ≡ asked_in NOT_STATED 0 0 0 → Returned r
   a_refusal : (n : ℕ) → one_of (1 ∷ 2 ∷ 3 ∷ 4 ∷ 5 ∷ 6 ∷ 7 ∷ 8 ∷ 9 ∷ 13 ∷ 21 ∷ []) n ≡ true → r.code ≡ 256 + n → Returned r
 
 abbrev pub IhexAskReturns : Type 0
@@ -51,10 +51,10 @@ IhexAskUnique = (text : List ℕ) (address : ℕ) (r r' : AskNumbers) → IhexAs
 -- ---- beside a load
 
 -- what is returned, and a place after a load: it is marked and holds the byte that is returned; or it is not marked, keeps the byte that it had, and
--- NOTSTATED is returned
+-- NOT_STATED is returned
 pub data Agrees (r : AskNumbers) (old mark byte : ℕ) : Type 0 where
   both_state : mark ≡ 1 → r ≡ asked_in OK 0 byte 0 → Agrees r old mark byte
-  none_states : mark ≡ 0 → byte ≡ old → r ≡ asked_in NOTSTATED 0 0 0 → Agrees r old mark byte
+  none_states : mark ≡ 0 → byte ≡ old → r ≡ asked_in NOT_STATED 0 0 0 → Agrees r old mark byte
 
 -- of each text that `ihex_load` accepts, in every window, at every place
 abbrev pub IhexAskAgrees : Type 0
@@ -71,7 +71,7 @@ IhexAskAgreesByTable =
 
 -- a load's answer and that of a byte: both accept the text; both refuse it, with the same code, line and values; or the load is refused with 17
 pub data Alike (l : LoadNumbers) (r : AskNumbers) : Type 0 where
-  both_accept : l.code ≡ OK → (r.code ≡ OK) ⊎ (r.code ≡ NOTSTATED) → Alike l r
+  both_accept : l.code ≡ OK → (r.code ≡ OK) ⊎ (r.code ≡ NOT_STATED) → Alike l r
   both_refuse : l.code ≢ OK → r ≡ asked_in l.code l.line l.a l.b → Alike l r
   outside_only : l.code ≡ 256 + 17 → Alike l r
 

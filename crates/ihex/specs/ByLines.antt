@@ -9,7 +9,7 @@ use Rattle.chunks.specs.declared.Place.{Place}
 use Rattle.chunks.specs.declared.Place.TheVariants.{Nowhere}
 use Rattle.chunks.specs.Next.{at_place, next_outcome, finish_outcome}
 use Rattle.chunks.specs.First.{NoLine, FirstLine, LastLine, Asking}
-use Rattle.codes.specs.Codes.{DONE, USEDUP, POOLFULL, Numbers, reading}
+use Rattle.codes.specs.Codes.{DONE, USED_UP, POOL_FULL, Numbers, reading}
 use Rattle.ihex.specs.Rows.{Back, ReadBack, place_back}
 
 -- what came back is the answer to a line, with a pool of `size` bytes and a position in it
@@ -19,9 +19,9 @@ AnswersLine line size at x = Numbers (reading (answered (judge line) size at)) x
 -- `ihex_next_chunk` returns IHEX_USED_UP exactly where no line with a byte ends in what is left of the chunk. Otherwise it answers the first
 -- such line. The position is then directly after that line's LF, unless IHEX_POOL_FULL is returned.
 pub record IhexByLines (s : Chunks) (chunk carry : List ℕ) (size at : ℕ) (x : Back) : Type 0 where
-  pub used_up_exactly : (x.code ≡ USEDUP) ↔ NoLine s chunk carry
+  pub used_up_exactly : (x.code ≡ USED_UP) ↔ NoLine s chunk carry
   pub first_answered : (line : List ℕ) (lies : Place) → FirstLine s chunk carry line lies → AnswersLine line size at x
-  pub goes_on_after : (line : List ℕ) (lies : Place) (f : FirstLine s chunk carry line lies) → x.code ≢ POOLFULL → x.position ≡ suc f.ends
+  pub goes_on_after : (line : List ℕ) (lies : Place) (f : FirstLine s chunk carry line lies) → x.code ≢ POOL_FULL → x.position ≡ suc f.ends
 
 abbrev pub IhexNextByLines : Type 0
 IhexNextByLines =

@@ -34,8 +34,8 @@ use Rattle.light.specs.declared.Light.{Light}
 use Rattle.light.specs.declared.Dumped.{Dumped}
 use Rattle.light.specs.Colors.{color, known_after}
 use Rattle.light.specs.Light.{told_color, told_count, made_of, load_for, outcome as said_of}
-use Rattle.codes.specs.Lights.{color_number, count_number, making, COUNTUNKNOWN}
-use Rattle.codes.specs.Codes.{OK, BADTABLE, value, Numbers, LoadNumbers, AskNumbers, reading, reading_chunk, writing, load_numbers, ask_numbers, salvaging}
+use Rattle.codes.specs.Lights.{color_number, count_number, making, COUNT_UNKNOWN}
+use Rattle.codes.specs.Codes.{OK, BAD_TABLE, value, Numbers, LoadNumbers, AskNumbers, reading, reading_chunk, writing, load_numbers, ask_numbers, salvaging}
 use Rattle.codes.specs.States.{flags_of, chunk_flags_of, Spotted, place_of}
 
 -- what is returned for one line, in numbers, and the pool after it
@@ -153,7 +153,7 @@ IhexLoadSrecordsTable text owner table pool marks r pool' marks' = IhexLoadTable
 
 -- 23 for a table that every load refuses
 pub record IhexCheckTable (table : List ℕ) (pool marks r : ℕ) : Type 0 where
-  pub answer : r ≡ (if torn table || not (fits 1 pool marks (rows_of table)) then BADTABLE else OK)
+  pub answer : r ≡ (if torn table || not (fits 1 pool marks (rows_of table)) then BAD_TABLE else OK)
 
 abbrev pub IhexLoad : (text : List ℕ) (first : ℕ) (page marks : List ℕ) (r : LoadNumbers) (page' marks' : List ℕ) → Type 0
 IhexLoad text first page marks r page' marks' = IhexLoadBy intel text first page marks r page' marks'
@@ -188,7 +188,7 @@ pub record IhexAsk (text : List ℕ) (address : ℕ) (r : AskNumbers) : Type 0 w
 -- a light was set up: what was returned, and the count that is known
 pub record IhexSetUpLight (first length high low r known : ℕ) : Type 0 where
   pub answer : r ≡ making (made_of first length high low)
-  pub known_is : known ≡ COUNTUNKNOWN
+  pub known_is : known ≡ COUNT_UNKNOWN
 
 -- what a dump returned, in numbers: what its load returned, the color, and the count that is known after it
 pub record LightNumbers : Type 0 where

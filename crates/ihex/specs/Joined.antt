@@ -47,13 +47,13 @@ pub record ReturnedAfter (k : ℕ) (ra rb r : LoadNumbers) : Type 0 where
   pub refusal_is : rb.code ≢ OK → (r.start ≡ rb.start) × (r.a ≡ rb.a) × (r.b ≡ rb.b) × (r.c ≡ rb.c)
 
 -- IHEX_REFUSED + IHEX_START_CONFLICT
-abbrev pub STARTCONFLICT : ℕ
-STARTCONFLICT = (refused_with start_conflict).code
+abbrev pub START_CONFLICT : ℕ
+START_CONFLICT = (refused_with start_conflict).code
 
--- that is returned, unless B comes to a start other than A's: then STARTCONFLICT, at that line after those k, with no values
+-- that is returned, unless B comes to a start other than A's: then START_CONFLICT, at that line after those k, with no values
 pub data JoinedReturns (k : ℕ) (meets : (n : ℕ) → Type 0) (ra rb r : LoadNumbers) : Type 0 where
   as_for_B : ((n : ℕ) → ¬ meets n) → ReturnedAfter k ra rb r → JoinedReturns k meets ra rb r
-  other_start : (n : ℕ) → meets n → r ≡ six STARTCONFLICT (k + n) 0 0 0 0 → JoinedReturns k meets ra rb r
+  other_start : (n : ℕ) → meets n → r ≡ six START_CONFLICT (k + n) 0 0 0 0 → JoinedReturns k meets ra rb r
 
 -- if IHEX_OK is returned for A, then this is returned for the joined text, whatever the three pages and marks of the same lengths hold
 abbrev pub IhexJoined : Type 0
@@ -121,12 +121,12 @@ IhexNothingStated =
     → placements text ≡ [] → (p ≡ page) × (m ≡ replicate (length marks) 0)
 
 -- what is returned for a window that is refused: IHEX_REFUSED + IHEX_BAD_WINDOW
-abbrev pub BADWINDOW : ℕ
-BADWINDOW = (refused_with bad_window).code
+abbrev pub BAD_WINDOW : ℕ
+BAD_WINDOW = (refused_with bad_window).code
 
 -- the end record alone, without its LF or with it, unless the window is refused: IHEX_OK with no data record and no start
 abbrev pub IhexEndAlone : Type 0
 IhexEndAlone =
     (text : List ℕ) → (text ≡ end_record) ⊎ (text ≡ end_record ++ (LF ∷ []))
-    → (first : ℕ) (page marks : List ℕ) (r : LoadNumbers) (p m : List ℕ) → IhexLoad text first page marks r p m → r.code ≢ BADWINDOW
+    → (first : ℕ) (page marks : List ℕ) (r : LoadNumbers) (p m : List ℕ) → IhexLoad text first page marks r p m → r.code ≢ BAD_WINDOW
     → (r ≡ six OK 0 0 0 0 0) × (p ≡ page) × (m ≡ replicate (length marks) 0)

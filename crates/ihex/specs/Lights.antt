@@ -17,7 +17,7 @@ use Rattle.light.specs.Colors.{Color, no_count, Outcome, counted, forward, color
 use Rattle.light.specs.Light.{told_count, made_of}
 use Rattle.light.specs.Claims.{said, Kind, hex, srecords, steps_by, EachShows, StatesCount, MeansGreen, EachGreen, StatesBy}
 use Rattle.codes.specs.Codes.{OK, load_numbers}
-use Rattle.codes.specs.Lights.{color_number, GREEN, BROKEN, count_number, light_of, BADPLACE}
+use Rattle.codes.specs.Lights.{color_number, GREEN, BROKEN, count_number, light_of, BAD_PLACE}
 use Rattle.ihex.specs.Entries.{IhexLoadBy, IhexSetUpLight, LightNumbers, lit, IhexLightBy, IhexLight, IhexLightSrecords}
 
 -- ---- set-up
@@ -25,12 +25,12 @@ use Rattle.ihex.specs.Entries.{IhexLoadBy, IhexSetUpLight, LightNumbers, lit, Ih
 -- 24 exactly if a place lies outside the page
 abbrev pub IhexSetUpLightExactly : Type 0
 IhexSetUpLightExactly =
-    (first length high low r known : ℕ) → IhexSetUpLight first length high low r known → (r ≡ BADPLACE) ↔ ((length ≤ high) ⊎ (length ≤ low))
+    (first length high low r known : ℕ) → IhexSetUpLight first length high low r known → (r ≡ BAD_PLACE) ↔ ((length ≤ high) ⊎ (length ≤ low))
 
 -- else IHEX_OK, and the five numbers are the light that was set up
 abbrev pub IhexSetUpLightMakes : Type 0
 IhexSetUpLightMakes =
-    (first length high low r known : ℕ) → IhexSetUpLight first length high low r known → r ≢ BADPLACE
+    (first length high low r known : ℕ) → IhexSetUpLight first length high low r known → r ≢ BAD_PLACE
     → (r ≡ OK) × (made_of first length high low ≡ made.Light (light_of first length high low known))
 
 abbrev pub IhexSetUpLightUnique : Type 0

@@ -20,9 +20,9 @@ use Rattle.listen.specs.declared.Listener.{Listener}
 use Rattle.listen.specs.Listener.{too_small}
 use Rattle.listen.specs.Calls.{BeginsText, dump_in, kind_of}
 use Rattle.codes.specs.declared.Stand.{Stand}
-use Rattle.codes.specs.Codes.{OK, DONE, USEDUP, CARRYTOOSMALL, LoadNumbers, load_numbers}
+use Rattle.codes.specs.Codes.{OK, DONE, USED_UP, CARRY_TOO_SMALL, LoadNumbers, load_numbers}
 use Rattle.codes.specs.Lights.{BROKEN, count_number}
-use Rattle.codes.specs.Listeners.{kind_flag, bare, stands_for, PASSED, NOTREADY}
+use Rattle.codes.specs.Listeners.{kind_flag, bare, stands_for, PASSED, NOT_READY}
 use Rattle.ihex.specs.Entries.{IhexLoadBy, IhexLoad, IhexLoadSrecords, lit, IhexLightBy}
 use Rattle.ihex.specs.Listening.{IhexFeed, IhexPause, IhexCommit, IhexLightAfter}
 
@@ -31,10 +31,10 @@ use Rattle.ihex.specs.Listening.{IhexFeed, IhexPause, IhexCommit, IhexLightAfter
 -- of the carry: the bytes that are used, where the next chunk is wanted; all of it before a dump, with IHEX_DONE and with 18. Once a dump is decided or passed
 -- over it may hold anything; with 16 for the window it stays (`TestedFirst`)
 pub record CarryFixed (code : ℕ) (s : Stand) (carry carry' : List ℕ) : Type 0 where
-  pub wanted : code ≡ USEDUP → take s.used carry ≡ take s.used carry'
-  pub before_a_dump : code ≡ USEDUP → s.flags % 4 ≡ 0 → carry ≡ carry'
+  pub wanted : code ≡ USED_UP → take s.used carry ≡ take s.used carry'
+  pub before_a_dump : code ≡ USED_UP → s.flags % 4 ≡ 0 → carry ≡ carry'
   pub quiet : code ≡ DONE → carry ≡ carry'
-  pub too_small : code ≡ CARRYTOOSMALL → carry ≡ carry'
+  pub too_small : code ≡ CARRY_TOO_SMALL → carry ≡ carry'
 
 -- with marks that are bytes
 abbrev pub IhexFeedUnique : Type 0
@@ -82,16 +82,16 @@ IhexLightAfterBroken =
 -- 18 comes exactly if the carry is under 522 bytes or, in a dump and while skipping, `used` is over 522. Then 16 comes, for a window that is refused. With
 -- both nothing was read: the listener stands where it stood, and no byte changed
 pub record TestedFirst (s : Stand) (carry : List ℕ) (first : ℕ) (stage stated : List ℕ) (s' : Stand) (r : LoadNumbers) (carry' stage' stated' : List ℕ) : Type 0 where
-  pub eighteen : (r.code ≡ CARRYTOOSMALL) ↔ (too_small (stands_for s) (length carry) ≡ true)
-  pub sixteen : r.code ≢ CARRYTOOSMALL → unfit first (length stage) (length stated) ≡ true → r ≡ load_numbers (refused bad_window 0)
-  pub keeps : (r.code ≡ CARRYTOOSMALL) ⊎ (unfit first (length stage) (length stated) ≡ true)
+  pub eighteen : (r.code ≡ CARRY_TOO_SMALL) ↔ (too_small (stands_for s) (length carry) ≡ true)
+  pub sixteen : r.code ≢ CARRY_TOO_SMALL → unfit first (length stage) (length stated) ≡ true → r ≡ load_numbers (refused bad_window 0)
+  pub keeps : (r.code ≡ CARRY_TOO_SMALL) ⊎ (unfit first (length stage) (length stated) ≡ true)
       → (stands_for s' ≡ stands_for s) × (carry' ≡ carry) × (stage' ≡ stage) × (stated' ≡ stated)
 
 abbrev pub IhexFeedTests : Type 0
 IhexFeedTests =
     (s : Stand) (chunk carry : List ℕ) (first : ℕ) (stage stated : List ℕ) (taken : ℕ) (s' : Stand) (r : LoadNumbers) (carry' stage' stated' : List ℕ)
     → IhexFeed (stands_for s) chunk carry first stage stated taken s' r carry' stage' stated'
-    → TestedFirst s carry first stage stated s' r carry' stage' stated' × ((r.code ≡ CARRYTOOSMALL) ⊎ (unfit first (length stage) (length stated) ≡ true) → taken ≡ 0)
+    → TestedFirst s carry first stage stated s' r carry' stage' stated' × ((r.code ≡ CARRY_TOO_SMALL) ⊎ (unfit first (length stage) (length stated) ≡ true) → taken ≡ 0)
 
 abbrev pub IhexPauseTests : Type 0
 IhexPauseTests =
@@ -102,7 +102,7 @@ IhexPauseTests =
 abbrev pub IhexCommitKeeps : Type 0
 IhexCommitKeeps =
     (flags : ℕ) (stage stated page marks : List ℕ) (code flags' : ℕ) (page' marks' : List ℕ) → IhexCommit flags stage stated page marks code flags' page' marks'
-    → ((code ≡ NOTREADY) ↔ (flags % 4 ≢ 3)) × (code ≢ OK → (flags' ≡ flags) × (page' ≡ page) × (marks' ≡ marks))
+    → ((code ≡ NOT_READY) ↔ (flags % 4 ≢ 3)) × (code ≢ OK → (flags' ≡ flags) × (page' ≡ page) × (marks' ≡ marks))
 
 -- ---- rows of calls
 
@@ -112,7 +112,7 @@ pub data IhexListens (first : ℕ) (s₀ : Stand) (carry₀ stage₀ stated₀ :
   no_call : IhexListens first s₀ carry₀ stage₀ stated₀ [] s₀ carry₀ stage₀ stated₀
   one_more : {bytes : List ℕ} {s : Stand} {carry stage stated : List ℕ} (chunk : List ℕ) (taken : ℕ) (s' : Stand) (r : LoadNumbers) (carry' stage' stated' : List ℕ)
       → IhexListens first s₀ carry₀ stage₀ stated₀ bytes s carry stage stated → IhexFeed (stands_for s) chunk carry first stage stated taken s' r carry' stage' stated'
-      → r.code ≡ USEDUP → IhexListens first s₀ carry₀ stage₀ stated₀ (bytes ++ chunk) s' carry' stage' stated'
+      → r.code ≡ USED_UP → IhexListens first s₀ carry₀ stage₀ stated₀ (bytes ++ chunk) s' carry' stage' stated'
 
 -- a text of this kind begins: IHEX_FRONT or IHEX_READY, and the kind. Whether a CR waits before it is a flag too
 abbrev pub TextBegins : Stand → Kind → (cr : Bool) → Type 0
@@ -134,7 +134,7 @@ IhexBegins = (kind : Kind) (s : Stand) → (s.flags ≡ kind_flag kind) ⊎ (s.f
 
 -- a dump is decided: IHEX_OK, or a refusal other than 18
 abbrev pub Decides : (code : ℕ) → Type 0
-Decides code = (code < DONE) × (code ≢ CARRYTOOSMALL)
+Decides code = (code < DONE) × (code ≢ CARRY_TOO_SMALL)
 
 -- the load of a kind of text
 abbrev pub IhexLoadOf : Kind → (text : List ℕ) (first : ℕ) (page marks : List ℕ) (r : LoadNumbers) (page' marks' : List ℕ) → Type 0
@@ -174,7 +174,7 @@ IhexDumpSays =
     (kind : Kind) (cr : Bool) (first : ℕ) (s₀ : Stand) (carry₀ stage₀ stated₀ : List ℕ) → TextBegins s₀ kind cr → unfit first (length stage₀) (length stated₀) ≡ false
     → 522 ≤ length carry₀ → (bytes : List ℕ) (s : Stand) (carry stage stated : List ℕ) → IhexListens first s₀ carry₀ stage₀ stated₀ bytes s carry stage stated
     → (chunk : List ℕ) (taken : ℕ) (s' : Stand) (r : LoadNumbers) (carry' stage' stated' : List ℕ)
-    → IhexFeed (stands_for s) chunk carry first stage stated taken s' r carry' stage' stated' → (r.code ≡ USEDUP) ⊎ Decides r.code
+    → IhexFeed (stands_for s) chunk carry first stage stated taken s' r carry' stage' stated' → (r.code ≡ USED_UP) ⊎ Decides r.code
 
 -- and no call is late: while the next chunk is wanted, the line by which a load of the text stops has not come with its LF, whatever follows
 abbrev pub IhexDumpWaits : Type 0
@@ -230,7 +230,7 @@ IhexTailSays =
     (kind : Kind) (first : ℕ) (s₀ : Stand) (carry₀ stage₀ stated₀ : List ℕ) → s₀ ≡ skipping kind → unfit first (length stage₀) (length stated₀) ≡ false → 522 ≤ length carry₀
     → (bytes : List ℕ) (s : Stand) (carry stage stated : List ℕ) → IhexListens first s₀ carry₀ stage₀ stated₀ bytes s carry stage stated
     → (chunk : List ℕ) (taken : ℕ) (s' : Stand) (r : LoadNumbers) (carry' stage' stated' : List ℕ)
-    → IhexFeed (stands_for s) chunk carry first stage stated taken s' r carry' stage' stated' → suc (length (bytes ++ chunk)) < 2 ^ 64 → (r.code ≡ USEDUP) ⊎ (r.code ≡ PASSED)
+    → IhexFeed (stands_for s) chunk carry first stage stated taken s' r carry' stage' stated' → suc (length (bytes ++ chunk)) < 2 ^ 64 → (r.code ≡ USED_UP) ⊎ (r.code ≡ PASSED)
 
 -- and no call is late
 abbrev pub IhexTailWaits : Type 0
@@ -276,5 +276,5 @@ IhexPauseRefusedIsLoaded =
 abbrev pub IhexPauseBegins : Type 0
 IhexPauseBegins =
     (s : Stand) (carry : List ℕ) (first : ℕ) (stage stated : List ℕ) (s' : Stand) (r : LoadNumbers) (carry' stage' stated' : List ℕ)
-    → IhexPause (stands_for s) carry first stage stated s' r carry' stage' stated' → r.code ≢ CARRYTOOSMALL → unfit first (length stage) (length stated) ≡ false
+    → IhexPause (stands_for s) carry first stage stated s' r carry' stage' stated' → r.code ≢ CARRY_TOO_SMALL → unfit first (length stage) (length stated) ≡ false
     → TextBegins s' (kind_of (stands_for s)) false

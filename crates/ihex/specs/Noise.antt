@@ -4,7 +4,7 @@ use Rattle.std.specs.Prelude.{ℕ, ◌<◌, ◌≡◌, ◌≢◌, ◌⊎◌, Lis
 use Rattle.record.specs.Refusals.{Refusal}
 use Rattle.record.specs.Noise.{AnswerToWrong}
 use Rattle.loader.specs.Noise.{Damaged}
-use Rattle.codes.specs.Codes.{OK, POOLFULL, LoadNumbers, value, refused_with}
+use Rattle.codes.specs.Codes.{OK, POOL_FULL, LoadNumbers, value, refused_with}
 use Rattle.ihex.specs.Entries.{IhexReadRecord, IhexLoad}
 
 -- what `ihex_read_record` returns, and what the pool holds then
@@ -27,7 +27,7 @@ refuse pool r = let m = refused_with r in returned m.code (value m 0) (value m 1
 abbrev pub IhexOneWrongCharacter : Type 0
 IhexOneWrongCharacter =
     (before : List ℕ) (x y : ℕ) (after pool : List ℕ) (at r a b c : ℕ) (p : List ℕ) (r' a' b' c' : ℕ) (p' : List ℕ) → x ≢ y
-    → IhexReadRecord (before ++ (x ∷ after)) pool at r a b c p → (r < 6) ⊎ (r ≡ POOLFULL)
+    → IhexReadRecord (before ++ (x ∷ after)) pool at r a b c p → (r < 6) ⊎ (r ≡ POOL_FULL)
     → IhexReadRecord (before ++ (y ∷ after)) pool at r' a' b' c' p'
     → AnswerToWrong (refuse pool) (returned r a b c p) (length before) x y (before ++ (y ∷ after)) (returned r' a' b' c' p')
 

@@ -9,8 +9,8 @@ use Rattle.ihex.specs.Entries.{IhexPageFileLength, IhexWritePage}
 use Rattle.ihex.specs.Writes.{WriteReasoned}
 
 -- IHEX_REFUSED + IHEX_OUTPUT_FULL
-abbrev pub OUTPUTFULL : ℕ
-OUTPUTFULL = (refused_with output_full).code
+abbrev pub OUTPUT_FULL : ℕ
+OUTPUT_FULL = (refused_with output_full).code
 
 -- what `ihex_write_page` returns has a reason in the window, the marks and the room, and nothing else has one
 abbrev pub IhexWritePageReasons : Type 0
@@ -19,22 +19,22 @@ IhexWritePageReasons =
     → WriteReasoned (Why first page marks (length out)) r v
 
 -- IHEX_REFUSED + IHEX_BAD_MARK
-abbrev pub BADMARK : ℕ
-BADMARK = (refused_with (bad_mark 0)).code
+abbrev pub BAD_MARK : ℕ
+BAD_MARK = (refused_with (bad_mark 0)).code
 
 -- where the number of places is a multiple of 8 neither returns refusal 19
 abbrev pub IhexNoBadMark : Type 0
 IhexNoBadMark =
     (first : ℕ) (page marks : List ℕ) (eighth : ℕ) → length page ≡ 8 * eighth
-    → ((r v : ℕ) → IhexPageFileLength first page marks r v → r ≢ BADMARK)
-    × ((out : List ℕ) (r v : ℕ) (out' : List ℕ) → IhexWritePage first page marks out r v out' → r ≢ BADMARK)
+    → ((r v : ℕ) → IhexPageFileLength first page marks r v → r ≢ BAD_MARK)
+    × ((out : List ℕ) (r v : ℕ) (out' : List ℕ) → IhexWritePage first page marks out r v out' → r ≢ BAD_MARK)
 
 -- `ihex_page_file_length` returns the same, except where the file is longer than the output
 abbrev pub IhexLengthAsWritten : Type 0
 IhexLengthAsWritten =
     (first : ℕ) (page marks out : List ℕ) (r v r' v' : ℕ) (out' : List ℕ)
     → IhexPageFileLength first page marks r v → IhexWritePage first page marks out r' v' out'
-    → ((r ≡ r') × (v ≡ v')) ⊎ ((r ≡ OK) × (length out < v) × (r' ≡ OUTPUTFULL))
+    → ((r ≡ r') × (v ≡ v')) ⊎ ((r ≡ OK) × (length out < v) × (r' ≡ OUTPUT_FULL))
 
 -- a file has at most 7 bytes for each place and 58 more, and so at most IHEX_MAX_PAGE_FILE
 abbrev pub IhexPageRoom : Type 0

@@ -9,7 +9,7 @@ use Rattle.reader.specs.Lines.{lines, through, a_line, next_line}
 use Rattle.reader.specs.Row.{sayings, stopped, row}
 use Rattle.reader.specs.Text.{new_state}
 use Rattle.reader.specs.Calls.{Call, replies, one_by_one}
-use Rattle.codes.specs.Codes.{DONE, POOLFULL}
+use Rattle.codes.specs.Codes.{DONE, POOL_FULL}
 use Rattle.codes.specs.States.{state_of, flags_of}
 use Rattle.codes.specs.Claims.{ThreeFlagsRead}
 use Rattle.ihex.specs.Entries.{IhexReadRecord, IhexNext}
@@ -23,7 +23,7 @@ FromTheBeginning options text calls returns = IhexCalls text 0 0 (flags_of (new_
 
 -- no call returns IHEX_POOL_FULL
 abbrev pub NoneFull : List Returned → Type 0
-NoneFull returns = Every (λ (g : Returned). g.code ≢ POOLFULL) returns
+NoneFull returns = Every (λ (g : Returned). g.code ≢ POOL_FULL) returns
 
 -- they return what the lines of the text say, in order, each with its line's number
 abbrev pub IhexRows : Type 0
@@ -73,7 +73,7 @@ IhexDoneStays =
 abbrev pub IhexFullKeeps : Type 0
 IhexFullKeeps =
     (position line flags : ℕ) (text pool : List ℕ) (at i l f a b c : ℕ) (pool' : List ℕ)
-    → IhexNext (state_of position line flags) text pool at POOLFULL i l f a b c pool'
+    → IhexNext (state_of position line flags) text pool at POOL_FULL i l f a b c pool'
     → (i ≡ position) × (l ≡ line) × (state_of i l f ≡ state_of position line flags)
 
 -- of the flags only the first three bits are read, and the others are 0 at exit

@@ -13,7 +13,7 @@ use Rattle.chunks.specs.declared.Place.{Place}
 use Rattle.chunks.specs.Next.{new_chunks, Outcome, next_outcome, finish_outcome}
 use Rattle.chunks.specs.Rows.{joined, Seen, Heard, FedBy, numbered, showing}
 use Rattle.chunks.specs.Claims.{TooSmall, Alike, nth_line}
-use Rattle.codes.specs.Codes.{DONE, USEDUP, POOLFULL, CARRYTOOSMALL}
+use Rattle.codes.specs.Codes.{DONE, USED_UP, POOL_FULL, CARRY_TOO_SMALL}
 use Rattle.codes.specs.States.{chunks_of, chunk_flags_of, place_of}
 use Rattle.codes.specs.Claims.{FourFlagsRead}
 use Rattle.ihex.specs.Entries.{buffer_of, ChunkRead, IhexShown}
@@ -68,7 +68,7 @@ noted x = record { returned = in_numbers x.given; shown = x.shown }
 -- IHEX_USED_UP is not taken down
 abbrev pub note_of : Back → (pool shown : List ℕ) → Option Noted
 note_of x pool shown =
-    if eqb x.code USEDUP then none else
+    if eqb x.code USED_UP then none else
     some (record { returned = record { code = x.code; a = x.a; b = x.b; c = x.c; line = x.line; pool = pool }; shown = shown })
 
 -- A call of `ihex_next_chunk` or `ihex_finish`, and one of `ihex_shown` at the place that came back: all that is known of them is their
@@ -132,7 +132,7 @@ IhexNothingElse =
 abbrev pub IhexFinishAnswers : Type 0
 IhexFinishAnswers =
     (s : Chunks) (carry pool : List ℕ) (at : ℕ) (x : Back) (carry' pool' : List ℕ) → ReadBack (finish_outcome s carry pool at) [] x carry' pool'
-    → (x.code ≢ USEDUP) × (x.lies ≢ 1)
+    → (x.code ≢ USED_UP) × (x.lies ≢ 1)
 
 -- only a data record, whose code is 0, changes the pool: no refusal does
 abbrev pub IhexChunkKeeps : Type 0
@@ -141,8 +141,8 @@ IhexChunkKeeps =
 
 -- refusal 18 comes before all else and for nothing else, and changes neither the state nor a byte
 pub record IhexEighteen (s : Chunks) (carry pool : List ℕ) (x : Back) (carry' pool' : List ℕ) : Type 0 where
-  pub exactly : (x.code ≡ CARRYTOOSMALL) ↔ TooSmall s carry
-  pub keeps : x.code ≡ CARRYTOOSMALL → (state_back x ≡ s) × (carry' ≡ carry) × (pool' ≡ pool)
+  pub exactly : (x.code ≡ CARRY_TOO_SMALL) ↔ TooSmall s carry
+  pub keeps : x.code ≡ CARRY_TOO_SMALL → (state_back x ≡ s) × (carry' ≡ carry) × (pool' ≡ pool)
 
 abbrev pub IhexCarryFirst : Type 0
 IhexCarryFirst =
@@ -152,7 +152,7 @@ IhexCarryFirst =
 -- IHEX_POOL_FULL keeps the state, five numbers and four flags, the used bytes of the carry and the pool
 abbrev pub IhexChunkFullKeeps : Type 0
 IhexChunkFullKeeps =
-    (s : Chunks) (chunk carry pool : List ℕ) (at : ℕ) (x : Back) (carry' pool' : List ℕ) → Either s chunk carry pool at x carry' pool' → x.code ≡ POOLFULL
+    (s : Chunks) (chunk carry pool : List ℕ) (at : ℕ) (x : Back) (carry' pool' : List ℕ) → Either s chunk carry pool at x carry' pool' → x.code ≡ POOL_FULL
     → (state_back x ≡ s) × (take s.used carry' ≡ take s.used carry) × (pool' ≡ pool)
 
 -- the same call with room then gives the record: 0, its offset, the position in the pool and the payload's length, with the payload there
@@ -166,7 +166,7 @@ pub record IhexGivesThen (s : Chunks) (chunk carry : List ℕ) (call : (carry po
 
 abbrev pub IhexChunkFullThenRoom : Type 0
 IhexChunkFullThenRoom =
-    (s : Chunks) (chunk carry pool : List ℕ) (at : ℕ) (x : Back) (carry' pool' : List ℕ) → x.code ≡ POOLFULL
+    (s : Chunks) (chunk carry pool : List ℕ) (at : ℕ) (x : Back) (carry' pool' : List ℕ) → x.code ≡ POOL_FULL
     → (ReadBack (next_outcome s chunk carry pool at) chunk x carry' pool' → IhexGivesThen s chunk carry (next_outcome s chunk))
     × (ReadBack (finish_outcome s carry pool at) [] x carry' pool' → IhexGivesThen s [] carry (finish_outcome s))
 
@@ -180,7 +180,7 @@ IhexChunkOnlyDone s =
 abbrev pub IhexFinishEnds : Type 0
 IhexFinishEnds =
     (s : Chunks) (carry pool : List ℕ) (at : ℕ) (x : Back) (carry' pool' : List ℕ) → ReadBack (finish_outcome s carry pool at) [] x carry' pool'
-    → x.code ≢ CARRYTOOSMALL → x.code ≢ POOLFULL → IhexChunkOnlyDone (state_back x)
+    → x.code ≢ CARRY_TOO_SMALL → x.code ≢ POOL_FULL → IhexChunkOnlyDone (state_back x)
 
 -- once IHEX_DONE, always IHEX_DONE
 abbrev pub IhexChunkDoneStays : Type 0

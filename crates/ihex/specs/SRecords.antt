@@ -8,7 +8,7 @@ use Rattle.record.specs.Refusals.{Refusal, contains_invalid_characters, pool_ful
 use Rattle.srec.specs.Format.{Format}
 use Rattle.srec.specs.Faults.{FirstOffender, Fault}
 use Rattle.srec.specs.Written.{InCapitals}
-use Rattle.codes.specs.Codes.{OK, POOLFULL, Numbers, refused_with}
+use Rattle.codes.specs.Codes.{OK, POOL_FULL, Numbers, refused_with}
 use Rattle.ihex.specs.Entries.{IhexReadSrecord, IhexToSrecordString}
 
 -- ---- the record reader
@@ -36,14 +36,14 @@ IhexReadSrecordReasons =
     (line pool : List ℕ) (at r a b c : ℕ) (pool' : List ℕ) → IhexReadSrecord line pool at r a b c pool' ↔ WhyRead line pool at r a b c pool'
 
 -- IHEX_REFUSED + IHEX_CONTAINS_INVALID_CHARACTERS
-abbrev pub INVALIDCHARACTERS : ℕ
-INVALIDCHARACTERS = (refused_with (contains_invalid_characters 0)).code
+abbrev pub INVALID_CHARACTERS : ℕ
+INVALID_CHARACTERS = (refused_with (contains_invalid_characters 0)).code
 
 -- it is returned exactly for a line that has an offender, and a is the first one's place, the S being 0
 abbrev pub IhexReadSrecordOffender : Type 0
 IhexReadSrecordOffender =
     (line pool : List ℕ) (at r a b c : ℕ) (pool' : List ℕ) → IhexReadSrecord line pool at r a b c pool'
-    → (r ≡ INVALIDCHARACTERS) ↔ ((place : ℕ) × FirstOffender line place × (a ≡ named place))
+    → (r ≡ INVALID_CHARACTERS) ↔ ((place : ℕ) × FirstOffender line place × (a ≡ named place))
 
 -- only a header and a data record change the pool: no refusal does, and no other record
 abbrev pub IhexReadSrecordKeeps : Type 0
@@ -53,7 +53,7 @@ IhexReadSrecordKeeps =
 -- with room for 252 bytes IHEX_POOL_FULL is not returned
 abbrev pub IhexReadSrecordRoom : Type 0
 IhexReadSrecordRoom =
-    (line pool : List ℕ) (at r a b c : ℕ) (pool' : List ℕ) → at + 252 ≤ length pool → IhexReadSrecord line pool at r a b c pool' → r ≢ POOLFULL
+    (line pool : List ℕ) (at r a b c : ℕ) (pool' : List ℕ) → at + 252 ≤ length pool → IhexReadSrecord line pool at r a b c pool' → r ≢ POOL_FULL
 
 -- ---- what was written
 

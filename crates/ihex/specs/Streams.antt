@@ -9,7 +9,7 @@ use Rattle.intake_tail.specs.Ways.{way_of}
 use Rattle.listen.specs.Listen.{Mode, Saying, first as saying-first, listen}
 use Rattle.listen.specs.Calls.{verdict_of, first_mode}
 use Rattle.codes.specs.declared.Stand.{Stand}
-use Rattle.codes.specs.Codes.{OK, USEDUP, LoadNumbers, load_numbers}
+use Rattle.codes.specs.Codes.{OK, USED_UP, LoadNumbers, load_numbers}
 use Rattle.codes.specs.Listeners.{stands_for, PASSED}
 use Rattle.ihex.specs.Listening.{seven, IhexFeed, IhexCommit}
 use Rattle.ihex.specs.Listeners.{at_front, skipping, Decides}
@@ -25,7 +25,7 @@ pub data IhexCalls (first : ℕ) (s₀ : Stand) (carry₀ stage₀ stated₀ str
   going_on : {decided : List LoadNumbers} {left : List ℕ} {s : Stand} {carry stage stated : List ℕ}
       (chunk more : List ℕ) (taken : ℕ) (s' : Stand) (r : LoadNumbers) (carry' stage' stated' : List ℕ)
       → IhexCalls first s₀ carry₀ stage₀ stated₀ stream decided left s carry stage stated → left ≡ chunk ++ more
-      → IhexFeed (stands_for s) chunk carry first stage stated taken s' r carry' stage' stated' → (r.code ≡ USEDUP) ⊎ (r.code ≡ PASSED)
+      → IhexFeed (stands_for s) chunk carry first stage stated taken s' r carry' stage' stated' → (r.code ≡ USED_UP) ⊎ (r.code ≡ PASSED)
       → IhexCalls first s₀ carry₀ stage₀ stated₀ stream decided (drop taken chunk ++ more) s' carry' stage' stated'
   deciding : {decided : List LoadNumbers} {left : List ℕ} {s : Stand} {carry stage stated : List ℕ}
       (chunk more : List ℕ) (taken : ℕ) (s' : Stand) (r : LoadNumbers) (carry' stage' stated' : List ℕ)

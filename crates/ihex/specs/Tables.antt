@@ -17,9 +17,9 @@ use Rattle.intel.specs.Placing.{intel}
 use Rattle.intel.specs.Lines.{account, line_refusals}
 use Rattle.srecload.specs.Placing.{s_records}
 use Rattle.srecload.specs.Claims.{account as s-account, line_refusals as s-line-refusals}
-use Rattle.entries.specs.Entry.{WINDOWSIZE, rows_of}
+use Rattle.entries.specs.Entry.{WINDOW_SIZE, rows_of}
 use Rattle.table.specs.Claims.{BadBytes}
-use Rattle.codes.specs.Codes.{OK, BADTABLE, LoadNumbers}
+use Rattle.codes.specs.Codes.{OK, BAD_TABLE, LoadNumbers}
 use Rattle.ihex.specs.Entries.{IhexLoadBy, IhexLoadTableBy, IhexCheckTable}
 use Rattle.ihex.specs.Loads.{Reasoned, StartTold, SStartTold}
 
@@ -29,13 +29,13 @@ use Rattle.ihex.specs.Loads.{Reasoned, StartTold, SStartTold}
 abbrev pub IhexCheckTableExactly : Type 0
 IhexCheckTableExactly =
     (table : List ℕ) (pool marks r : ℕ) → IhexCheckTable table pool marks r
-    → ((r ≡ OK) ⊎ (r ≡ BADTABLE)) × ((owner : ℕ) → IsOwner owner → (r ≡ BADTABLE) ↔ BadBytes owner table pool marks)
+    → ((r ≡ OK) ⊎ (r ≡ BAD_TABLE)) × ((owner : ℕ) → IsOwner owner → (r ≡ BAD_TABLE) ↔ BadBytes owner table pool marks)
 
 -- bytes whose number is not a multiple of 24: 23 at line 0, and nothing changes
 abbrev pub TableTorn : {S : Type 0} → Source S → Type 0
 TableTorn src =
-    (text : List ℕ) (owner : ℕ) (table pool marks : List ℕ) (r : LoadNumbers) (p m : List ℕ) → IhexLoadTableBy src text owner table pool marks r p m → length table % WINDOWSIZE ≢ 0
-    → (r.code ≡ BADTABLE) × (r.line ≡ 0) × (p ≡ pool) × (m ≡ marks)
+    (text : List ℕ) (owner : ℕ) (table pool marks : List ℕ) (r : LoadNumbers) (p m : List ℕ) → IhexLoadTableBy src text owner table pool marks r p m → length table % WINDOW_SIZE ≢ 0
+    → (r.code ≡ BAD_TABLE) × (r.line ≡ 0) × (p ≡ pool) × (m ≡ marks)
 
 abbrev pub IhexLoadTableTorn : Type 0
 IhexLoadTableTorn = TableTorn intel
@@ -47,7 +47,7 @@ IhexLoadSrecordsTableTorn = TableTorn s_records
 abbrev pub TableRefusedExactly : {S : Type 0} → Source S → Type 0
 TableRefusedExactly src =
     (text : List ℕ) (owner : ℕ) (table pool marks : List ℕ) (r : LoadNumbers) (p m : List ℕ) → IhexLoadTableBy src text owner table pool marks r p m
-    → ((r.code ≡ BADTABLE) ↔ BadBytes owner table (length pool) (length marks)) × (r.code ≡ BADTABLE → r.line ≡ 0)
+    → ((r.code ≡ BAD_TABLE) ↔ BadBytes owner table (length pool) (length marks)) × (r.code ≡ BAD_TABLE → r.line ≡ 0)
 
 abbrev pub IhexLoadTableRefusedExactly : Type 0
 IhexLoadTableRefusedExactly = TableRefusedExactly intel
@@ -70,7 +70,7 @@ IhexLoadSrecordsTableReturns = TableReturns s_records (13 ∷ 23 ∷ s-line-refu
 -- of any other bytes, what is returned has a reason, and nothing else has one: 23 exactly where a limit is broken, and else as in the lines
 abbrev pub TableReasoned : {S : Type 0} → Source S → (account : (inside : ℕ → Bool) → Account) → Type 0
 TableReasoned src account =
-    (text : List ℕ) (owner : ℕ) (table pool marks : List ℕ) (r : LoadNumbers) (p m : List ℕ) → IhexLoadTableBy src text owner table pool marks r p m → length table % WINDOWSIZE ≡ 0
+    (text : List ℕ) (owner : ℕ) (table pool marks : List ℕ) (r : LoadNumbers) (p m : List ℕ) → IhexLoadTableBy src text owner table pool marks r p m → length table % WINDOW_SIZE ≡ 0
     → Reasoned (WhyTable src account owner (rows_of table) text pool marks) r
 
 abbrev pub IhexLoadTableReasons : Type 0

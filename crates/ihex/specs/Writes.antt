@@ -10,7 +10,7 @@ use Rattle.writer.specs.Reasons.{WhyLine, WhyObject}
 use Rattle.srec.specs.declared.SRecord.{SRecord}
 use Rattle.srec.specs.Faults.{Unnamed}
 use Rattle.srec.specs.Reasons as srec
-use Rattle.codes.specs.Codes.{OK, BADRECORD, value, writing}
+use Rattle.codes.specs.Codes.{OK, BAD_RECORD, value, writing}
 use Rattle.entries.specs.Entry.{record_of, srecord_of, records_of}
 use Rattle.ihex.specs.Entries.{WroteText, IhexToRecordString, IhexToSrecordString, IhexCreateObjectFileRepresentation}
 
@@ -50,7 +50,7 @@ IhexToSrecordStringReasons =
 abbrev pub IhexToSrecordStringBad : Type 0
 IhexToSrecordStringBad =
     (kind address at len : ℕ) (pool out : List ℕ) (r v : ℕ) (out' : List ℕ) → IhexToSrecordString kind address at len pool out r v out'
-    → (r ≡ BADRECORD) ↔ Unnamed kind
+    → (r ≡ BAD_RECORD) ↔ Unnamed kind
 
 -- a list, where the bytes are one: 13, 14, the first record with 11 or 12, then 15
 abbrev pub IhexCreateObjectReasons : Type 0

@@ -250,4 +250,4 @@ damage_is_noticed text text' d first page marks r p m tally l e r' p' m' l' =
 
 pub examples : Examples
 unfolding load_window intel_by judge meaning number_after
-examples = record { small_letter = refl; other_digit = refl; joined = refl; CRAdded = refl; swapped = refl; LFCutOff = refl; digit_cut_off = refl }
+examples = record { small_letter = refl; other_digit = refl; joined = refl; CR_added = refl; swapped = refl; LF_cut_off = refl; digit_cut_off = refl }

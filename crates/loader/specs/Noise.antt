@@ -62,9 +62,9 @@ pub record Examples : Type 0 where
   -- CR in place of the first LF: two lines become one
   pub joined : (example_load (slice_set example 15 CR)).answer ≡ refused (contains_invalid_characters 15) 1
   -- CR before it
-  pub CRAdded : example_load (take 15 example ++ (CR ∷ drop 15 example)) ≡ example_load example
+  pub CR_added : example_load (take 15 example ++ (CR ∷ drop 15 example)) ≡ example_load example
   -- the two digits of a checksum swapped
   pub swapped : (example_load (slice_set (slice_set example 27 51) 28 56)).answer ≡ refused (checksum_mismatch 0x83 0x38) 2
   -- the last LF cut off, and one digit more
-  pub LFCutOff : example_load (take 41 example) ≡ example_load example
+  pub LF_cut_off : example_load (take 41 example) ≡ example_load example
   pub digit_cut_off : (example_load (take 40 example)).answer ≡ refused record_too_short 3

@@ -9,6 +9,9 @@ const A_BYTE: usize = 8;
 // A byte whose marks are all set.
 const ALL: u8 = 255;
 
+// A byte without a gap: each place that it holds is marked.
+const NO_GAP: u8 = 0;
+
 // The lowest unused bit that is set, by the place that it would have.
 #[derive(Clone, Copy)]
 pub enum Unused {
@@ -182,7 +185,7 @@ pub fn next_unmarked(marks: &[u8], places: usize, from: usize) -> usize
     let mut at = first + 1;
     while at < end {
         let free = !marks[at];
-        if free != 0 {
+        if free != NO_GAP {
             return lowest_place(places, A_BYTE * at, free);
         }
         at += 1;

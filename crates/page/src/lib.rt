@@ -103,7 +103,8 @@ fn next_record(w: FileWalk, first: u32, places: usize, marks: &[u8]) -> FileStep
     }
     let address = first + (start as u32);
     let upper = address / 65536;
-    if upper != w.latest {
+    let changes = upper != w.latest;
+    if changes {
         return FileStep {
             given: Record::ExtendedLinearAddress(upper as u16),
             walk: FileWalk {

@@ -1,4 +1,4 @@
--- The claims of `specs/Held.antt`: a call of a reader that holds its text is a call of the by_value reader with that text, since the text stays the same, so the by_value reader's claims are carried over.
+-- The claims of `specs/Held.antt`: a call of a reader that holds its text is a call of the by-value reader with that text, since the text stays the same, so the by-value reader's claims are carried over.
 -- Assumes nothing.
 use Rattle.std.proofs.Common.{◌≡◌, ℕ, List, ◌∷◌, sym, refl, ap, ◌∙◌, subst, ap₂, Bor}
 use Rattle.reader.specs.declared.State.{State}

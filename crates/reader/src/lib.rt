@@ -235,7 +235,8 @@ fn read_with(buf: &mut [u8], line: &[u8], pool: &mut [u8], at: usize) -> Answer
     requires { 260 ≤ length buf.old }
     ensures { ReadRecord line.now pool.old at result pool.new }
 {
-    if line.len() == 0 {
+    let empty = line.len() == 0;
+    if empty {
         return Answer::Refused(ReaderError::MissingStartCode);
     }
     if line[0] != chars::COLON {

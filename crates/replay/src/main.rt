@@ -45,7 +45,7 @@
 // ` @`. After a refusal of M, N or Q stand ` @` and the number of its line.
 //
 // The answer of K is `! 24` alone if the light is not set up. Otherwise it is what each dump comes to, with
-// `; ` between them: the color, which is broken, no_count, first, green, stale or restarted; the count that
+// `; ` between them: the color, which is broken, no-count, first, green, stale or restarted; the count that
 // is known after the dump, in four digits, or `-` if none is; and the answer of its load, as in M.
 //
 // The number of a refusal is in decimal, and every other number in hexadecimal with capitals. A

@@ -39,7 +39,7 @@ abbrev pub Undamaged : (text : List ℕ) → Type 0
 Undamaged text = (n : ℕ) (r : Refusal) → ¬ Memᴰ (on n (wrong r)) (row default_options text)
 
 -- the first list, in order, among the second
-pub data Among {A : Type 0} : (Some-of all : List A) → Type 0 where
+pub data Among {A : Type 0} : (some_of all : List A) → Type 0 where
   none : {ys : List A} → Among [] ys
   this : {x : A} {xs ys : List A} → Among xs ys → Among (x ∷ xs) (x ∷ ys)
   over : {xs : List A} (y : A) {ys : List A} → Among xs ys → Among xs (y ∷ ys)

@@ -11,22 +11,22 @@ use Rattle.window.specs.Table.{IsOwner, BadTable}
 use Rattle.window.specs.Tables.{stopping_by_table, load_table, AlikeFor}
 use Rattle.intel.specs.Placing.{intel}
 use Rattle.srecload.specs.Placing.{s_records}
-use Rattle.entries.specs.Entry.{WINDOWSIZE, rows_of}
+use Rattle.entries.specs.Entry.{WINDOW_SIZE, rows_of}
 use Rattle.table.specs.Load.{load_bytes, LoadBytes, IsBad}
 
 -- bytes are refused as a table: a part of a window is left over, or a limit is broken
 abbrev pub BadBytes : (owner : ℕ) (table : List ℕ) (pool marks : ℕ) → Type 0
-BadBytes owner table pool marks = (length table % WINDOWSIZE ≢ 0) ⊎ BadTable owner pool marks (rows_of table)
+BadBytes owner table pool marks = (length table % WINDOW_SIZE ≢ 0) ⊎ BadTable owner pool marks (rows_of table)
 
 -- where no part is left over the load is that of the windows, and else it is refused and changes nothing
 abbrev pub WholeTableLoads : Type 1
 WholeTableLoads =
-    (S : Type 0) (src : Source S) (text : List ℕ) (owner : ℕ) (table pool marks : List ℕ) → length table % WINDOWSIZE ≡ 0
+    (S : Type 0) (src : Source S) (text : List ℕ) (owner : ℕ) (table pool marks : List ℕ) → length table % WINDOW_SIZE ≡ 0
     → load_bytes src text owner table pool marks ≡ load_table src owner (rows_of table) text pool marks
 
 abbrev pub TornTableRefused : Type 1
 TornTableRefused =
-    (S : Type 0) (src : Source S) (text : List ℕ) (owner : ℕ) (table pool marks : List ℕ) → length table % WINDOWSIZE ≢ 0
+    (S : Type 0) (src : Source S) (text : List ℕ) (owner : ℕ) (table pool marks : List ℕ) → length table % WINDOW_SIZE ≢ 0
     → load_bytes src text owner table pool marks ≡ record { answer = refused bad_table 0; page = pool; marks = marks }
 
 -- `is_bad` returns true exactly where every load through the table is refused with 23, whichever owner it is for

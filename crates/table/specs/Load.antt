@@ -11,19 +11,19 @@ use Rattle.steps.specs.Told.{told_loading}
 use Rattle.window.specs.declared.Row.{Row}
 use Rattle.window.specs.Table.{fits}
 use Rattle.window.specs.Tables.{load_table}
-use Rattle.entries.specs.Entry.{WINDOWSIZE, row_at, rows_of}
+use Rattle.entries.specs.Entry.{WINDOW_SIZE, row_at, rows_of}
 
 -- the bytes of 16 windows
-abbrev pub MOSTBYTES : ℕ
-MOSTBYTES = 384
+abbrev pub MOST_BYTES : ℕ
+MOST_BYTES = 384
 
 -- a part of a window is left over
 abbrev pub torn : List ℕ → Bool
-torn table = not (eqb (length table % WINDOWSIZE) 0)
+torn table = not (eqb (length table % WINDOW_SIZE) 0)
 
 -- or there are more than 16 windows
 abbrev pub torn_or_long : List ℕ → Bool
-torn_or_long table = torn table || ltb MOSTBYTES (length table)
+torn_or_long table = torn table || ltb MOST_BYTES (length table)
 
 -- a text loaded through a table in bytes
 unfoldable pub load_bytes : {S : Type 0} → Source S → (text : List ℕ) (owner : ℕ) (table pool marks : List ℕ) → Loaded
@@ -53,10 +53,10 @@ unfolding field row_at
 number_of table k = field (row_at table (k / 4)) (k % 4)
 
 -- the numbers of 16 windows
-abbrev pub MOSTNUMBERS : ℕ
-MOSTNUMBERS = 64
+abbrev pub MOST_NUMBERS : ℕ
+MOST_NUMBERS = 64
 
 -- the contract of `numbers_of`
 pub record NumbersOf (table numbers : List ℕ) : Type 0 where
-  pub as_many : length numbers ≡ MOSTNUMBERS
-  pub each : (k : ℕ) → k < MOSTNUMBERS → get_or numbers k 0 ≡ number_of table k
+  pub as_many : length numbers ≡ MOST_NUMBERS
+  pub each : (k : ℕ) → k < MOST_NUMBERS → get_or numbers k 0 ≡ number_of table k

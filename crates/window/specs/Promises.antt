@@ -14,7 +14,7 @@ use Rattle.window.specs.declared.Reach.TheVariants.{Inside, Outside}
 use Rattle.window.specs.declared.Part.{Part}
 use Rattle.window.specs.declared.Row.{Row}
 use Rattle.window.specs.Window.{within, window, unfit}
-use Rattle.window.specs.Table.{MOSTWINDOWS, MOSTPLACES, is_owner, fits, site_of, inside_of}
+use Rattle.window.specs.Table.{MOST_WINDOWS, MOST_PLACES, is_owner, fits, site_of, inside_of}
 
 -- the contract of `is_unfit`
 pub record IsUnfit (first page marks : ℕ) (r : Bool) : Type 0 where
@@ -22,7 +22,7 @@ pub record IsUnfit (first page marks : ℕ) (r : Bool) : Type 0 where
 
 -- owner, number of windows, pool and marks keep within the limits
 abbrev pub call_fits : (owner windows pool marks : ℕ) → Bool
-call_fits owner windows pool marks = is_owner owner && (leb windows MOSTWINDOWS && (leb pool MOSTPLACES && eqb marks (row_length pool)))
+call_fits owner windows pool marks = is_owner owner && (leb windows MOST_WINDOWS && (leb pool MOST_PLACES && eqb marks (row_length pool)))
 
 -- the contract of `is_bad_table`
 pub record IsBadTable (owner : ℕ) (rows : List Row) (pool marks : ℕ) (r : Bool) : Type 0 where

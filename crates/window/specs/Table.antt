@@ -52,11 +52,11 @@ inside_of owner (r ∷ rows) address = takes owner address r || inside_of owner 
 -- ---- the limits
 
 -- the most windows, and the most bytes of a pool
-abbrev pub MOSTWINDOWS : ℕ
-MOSTWINDOWS = 16
+abbrev pub MOST_WINDOWS : ℕ
+MOST_WINDOWS = 16
 
-abbrev pub MOSTPLACES : ℕ
-MOSTPLACES = 65536
+abbrev pub MOST_PLACES : ℕ
+MOST_PLACES = 65536
 
 -- a number lies in both stretches. An empty stretch has none
 abbrev pub overlap : (start size start' size' : ℕ) → Bool
@@ -94,7 +94,7 @@ Sound pool rows = (good_rows pool rows ≡ true) × (any_clash rows ≡ false)
 unfoldable pub fits : (owner pool marks : ℕ) → List Row → Bool
 unfolding row_length
 fits owner pool marks rows =
-    is_owner owner && (leb (length rows) MOSTWINDOWS && (leb pool MOSTPLACES && (eqb marks (row_length pool) && (good_rows pool rows && not (any_clash rows)))))
+    is_owner owner && (leb (length rows) MOST_WINDOWS && (leb pool MOST_PLACES && (eqb marks (row_length pool) && (good_rows pool rows && not (any_clash rows)))))
 
 -- an owner's room, with 23 for a table that is refused
 unfoldable pub owned : (owner pool marks : ℕ) → List Row → Room
@@ -120,10 +120,10 @@ pub record TwoOf (rows : List Row) (r r' : Row) : Type 0 where
 
 -- what document 02 lists
 pub data BadTable (owner pool marks : ℕ) (rows : List Row) : Type 0 where
-  too_many : MOSTWINDOWS < length rows → BadTable owner pool marks rows
+  too_many : MOST_WINDOWS < length rows → BadTable owner pool marks rows
   call_of_nobody : ¬ IsOwner owner → BadTable owner pool marks rows
   window_of_nobody : (r : Row) → Memᴰ r rows → ¬ IsOwner r.owner → BadTable owner pool marks rows
-  pool_too_long : MOSTPLACES < pool → BadTable owner pool marks rows
+  pool_too_long : MOST_PLACES < pool → BadTable owner pool marks rows
   marks_differ : marks ≢ row_length pool → BadTable owner pool marks rows
   beyond_addresses : (r : Row) → Memᴰ r rows → 2 ^ 32 < r.first + r.size → BadTable owner pool marks rows
   beyond_pool : (r : Row) → Memᴰ r rows → pool < r.place + r.size → BadTable owner pool marks rows

@@ -88,7 +88,7 @@ LoadTableUnique =
     (S : Type 0) (src : Source S) (owner : ℕ) (rows : List Row) (text pool marks : List ℕ) (r r' : Loading) (p p' m m' : List ℕ)
     → LoadTable src owner rows text pool marks r p m → LoadTable src owner rows text pool marks r' p' m' → (r ≡ r') × (p ≡ p') × (m ≡ m')
 
--- a table with one window, which is the owner's and fills the pool, loads as that window does. Unused bits stay, where the one_window load makes them 0
+-- a table with one window, which is the owner's and fills the pool, loads as that window does. Unused bits stay, where the one-window load makes them 0
 abbrev pub TableAsWindow : Type 1
 TableAsWindow =
     (S : Type 0) (src : Source S) (owner first : ℕ) (text pool marks : List ℕ) → is_owner owner ≡ true → unfit first (length pool) (length marks) ≡ false

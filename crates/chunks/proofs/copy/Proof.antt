@@ -11,7 +11,7 @@ returns c =
     let a = c.args in
     let carry : List ℕ = a.carry.now in
     let line : List ℕ = a.line.now in
-    ap (λ (l : List ℕ). take a.used carry ++ (l ++ drop (length carry - a.used) (drop a.used carry))) c.copy.ensures.1
+    ap (λ (l : List ℕ). take a.used carry ++ (l ++ drop (length carry - a.used) (drop a.used carry))) (c.copy.ensures.all (search rules)).1
     ∙ rest_copied carry a.used line ∙ ap (λ (l : List ℕ). take a.used carry ++ l ++ drop (a.used + length line) carry) (sym (take-length line))
 
 pub copy_spec : {M : Type 1} → statement M

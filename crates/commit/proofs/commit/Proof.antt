@@ -21,7 +21,7 @@ returns-4 : tie.Need-returns
 returns-4 c =
     let s = c.args in
     all_copied s.stage.now s.stated.now s.page.now s.marks.now c.if-stage-page.false c.if-stated-marks.false (c.if-marks-row_length.false ∙ c.row_length.ensures.answer) _ _
-    c.copy_marked.ensures c.copy.ensures.1
+    c.copy_marked.ensures (c.copy.ensures.all (search rules)).1
 
 pub commit_spec : {M : Type 1} → statement M
 commit_spec =

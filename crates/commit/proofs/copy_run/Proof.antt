@@ -7,7 +7,7 @@ use Rattle.commit.proofs.copy_run.Tie as tie
 
 returns : tie.Need-returns
 returns c =
-    run_copied c.args.stage.now c.args.page.now c.args.start c.args.end c.requires.0 c.requires.1 c.requires.2 _ c.copy.ensures.1
+    run_copied c.args.stage.now c.args.page.now c.args.start c.args.end c.requires.0 c.requires.1 c.requires.2 _ (c.copy.ensures.all (search rules)).1
 
 pub copy_run_spec : {M : Type 1} → statement M
 copy_run_spec =

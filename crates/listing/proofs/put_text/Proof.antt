@@ -15,9 +15,9 @@ returns c =
     let k = c.copy-n in
     let out : List ℕ = a.out.now in
     record {
-      place = ap (λ (n : ℕ). a.at + n) k.ensures.0;
+      place = ap (λ (n : ℕ). a.at + n) (k.ensures.all (search rules)).0;
       left =
-          ap (λ (l : List ℕ). take a.at out ++ (l ++ drop (length out - a.at) (drop a.at out))) k.ensures.1
+          ap (λ (l : List ℕ). take a.at out ++ (l ++ drop (length out - a.at) (drop a.at out))) (k.ensures.all (search rules)).1
           ∙ rest_copied out a.at a.s.now;
     }
 

@@ -72,11 +72,11 @@ mul-lowest-place : tie.Need-overflow_mul-at invariant-loop decreases-loop
 unfolding row_length
 mul-lowest-place c = record { fits = omega (arith, c.loop-at.invariant.0, c.loop-at.invariant.1, c.loop-at-test.true, c.ranges.places.fits) }
 
-lowest-place-requires-2 : tie.Need-lowest_place-requires-then-free-ne0 invariant-loop decreases-loop
+lowest-place-requires-2 : tie.Need-lowest_place-requires-then-free-ne-NO_GAP invariant-loop decreases-loop
 unfolding row_length
-lowest-place-requires-2 c κs = (positive _ c.if-free-ne0.true, omega (arith, c.loop-at.invariant.0, c.loop-at.invariant.1, c.loop-at-test.true))
+lowest-place-requires-2 c κs = (positive _ c.if-free-ne-NO_GAP.true, omega (arith, c.loop-at.invariant.0, c.loop-at.invariant.1, c.loop-at-test.true))
 
-returns-4 : tie.Need-returns-then-free-ne0 invariant-loop decreases-loop
+returns-4 : tie.Need-returns-then-free-ne-NO_GAP invariant-loop decreases-loop
 returns-4 c =
     let s = c.args in
     let l = c.loop-at in
@@ -84,7 +84,7 @@ returns-4 c =
     let small : get_or m l.at 0 < 256 = omega (arith, c.shared_slice_known-in-loop-at-1.given l.at) in
     seen_unmarked m s.places s.from _
     (found (gap_at m) s.places s.from (8 * l.at) _ _ l.invariant.2 l.invariant.3 (its_gaps m l.at small)
-    (bits_small (255 - get_or m l.at 0) (8 * l.at) _ (whole_byte (255 - get_or m l.at 0) l.at) (omega arith)) c.lowest_place-then-free-ne0.ensures)
+    (bits_small (255 - get_or m l.at 0) (8 * l.at) _ (whole_byte (255 - get_or m l.at 0) l.at) (omega arith)) c.lowest_place-then-free-ne-NO_GAP.ensures)
 
 loop-again : tie.Need-loop-at-preserved invariant-loop decreases-loop
 loop-again c =
@@ -95,7 +95,7 @@ loop-again c =
       l.invariant.1,
       omega (arith, l.invariant.2),
       further (λ j. gap_at m j ≡ 0) _ (8 * l.at) (8 * (l.at + 1)) l.invariant.3
-          (λ j k h. none_left (gap_at m) (8 * l.at) _ (its_gaps m l.at small) c.if-free-ne0.false j k (omega arith)),
+          (λ j k h. none_left (gap_at m) (8 * l.at) _ (its_gaps m l.at small) c.if-free-ne-NO_GAP.false j k (omega arith)),
     )
 
 mul-result : tie.Need-overflow_mul-result invariant-loop decreases-loop

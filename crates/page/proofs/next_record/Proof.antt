@@ -44,11 +44,11 @@ add-address c = omega (arith, inside c, below c)
 cast-t13 : tie.Need-overflow_cast-result
 cast-t13 c = omega (arith, inside c.before.before, below c.before.before)
 
-returns-2 : tie.Need-returns-then-upper-w
+returns-2 : tie.Need-returns-then-changes
 returns-2 c =
     let shown = flags c.args.places c.args.marks.now in
     let t = there c.before.before in
-    at_other_bits c.args.first shown c.args.w _ c.requires (next c.before.before.before) t.0 t.1 (omega (arith, c.if-upper-w.true))
+    at_other_bits c.args.first shown c.args.w _ c.requires (next c.before.before.before) t.0 t.1 (omega (arith, c.if-changes.true))
 
 piece-end-requires : tie.Need-piece_end-end-requires
 piece-end-requires c κs = (inside c.before.before, below c.before.before)
@@ -60,7 +60,7 @@ returns-3 : tie.Need-returns
 returns-3 c =
     let shown = flags c.args.places c.args.marks.now in
     let t = there c.before.before.before in
-    at_a_piece c.args.first shown c.args.w _ c.requires (next c.before.before.before.before) t.0 t.1 (omega (arith, c.if-upper-w.false)) c.piece_end-end.result c.piece_end-end.ensures
+    at_a_piece c.args.first shown c.args.w _ c.requires (next c.before.before.before.before) t.0 t.1 (omega (arith, c.if-changes.false)) c.piece_end-end.result c.piece_end-end.ensures
 
 pub next_record_spec : {M : Type 1} → statement M
 next_record_spec =

@@ -44,7 +44,7 @@ spelt c =
     let x = decoded_all (decoded c.before.before.before) (all_good c) in
     (ap (λ (n : ℕ). take (n / 2) c.decode-scan.new.buf) (sym (length-drop 1 l)) ∙ x.0, x.1)
 
-returns : tie.Need-returns-then-line-eq0
+returns : tie.Need-returns-then-empty
 returns c =
     refused (said c.before.before.before.before) c.args.pool.now c.args.at MissingStartCode
     (judge_none (line_of c.before.before.before.before) (omega arith))

@@ -11,7 +11,7 @@ returns c =
     let a = c.args in
     let pool : List ℕ = a.pool.now in
     let bytes : List ℕ = take (a.«from» + a.n - a.«from») (drop a.«from» a.buf.now) in
-    ap (λ (l : List ℕ). take a.at pool ++ (l ++ drop (length pool - a.at) (drop a.at pool))) c.copy.ensures.1
+    ap (λ (l : List ℕ). take a.at pool ++ (l ++ drop (length pool - a.at) (drop a.at pool))) (c.copy.ensures.all (search rules)).1
     ∙ rest_copied pool a.at bytes ∙ ap (pasted pool a.at) (part_is a.buf.now a.«from» a.n)
 
 pub pour_spec : {M : Type 1} → statement M
