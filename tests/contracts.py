@@ -1,7 +1,6 @@
 #!/usr/bin/env python3
 """Holds each public function of the crates to what its contract must have: no `requires`, an `ensures`, and a lemma
-that no second answer meets it, or else a row of docs/EXCEPTIONS.md that says why not. A `requires` has its row in a table of its own there, by
-the names of the crate and of the function. The lemma of `f` is `f_unique`, that of
+that no second answer meets it, or else a row of docs/EXCEPTIONS.md that says why not. The lemma of `f` is `f_unique`, that of
 a method `T::f` is `f_unique` or `t_f_unique`; no lemma serves two functions of a crate. Its type is a claim of the crate's specs/,
 `..Unique`, which says "if two answers meet the contract they are the same", or names such a claim."""
 import pathlib
@@ -35,10 +34,10 @@ def public_functions(source):
             yield source.count('\n', 0, found.start()) + 1, holder, found['name'], contract(source, found.start())
 
 
-def lacks(holder, name, head, lemmas, excepted, asking):
+def lacks(holder, name, head, lemmas, excepted):
     """What the contract of a public function lacks. A lemma that it has is taken out of the set."""
-    if bool(re.search(r'\brequires\b', head)) != (name in asking):
-        yield 'it has no requires, and a row in docs/EXCEPTIONS.md says so' if name in asking else 'it has a requires'
+    if re.search(r'\brequires\b', head):
+        yield 'it has a requires'
     if not re.search(r'\bensures\b', head):
         yield 'it has no ensures'
     wanted = [small(holder) + '_' + small(name) + '_unique'] * bool(holder) + [small(name) + '_unique']
@@ -54,13 +53,13 @@ def claims(specs):
     return {name for name, said in found if re.fullmatch(r'\S+Unique', said.strip()) or said.count('→') > 1 and '≡' in said or re.search(r'\bOne[A-Z]', said)}
 
 
-def of_crate(sources, proofs, specs, excepted, asking):
+def of_crate(sources, proofs, specs, excepted):
     """What each public function of a crate lacks. Those with a lemma of their type's name take theirs first."""
     stated = claims(specs)
     lemmas = {name for name, claim in re.findall(r'^pub (\S+_unique) : (\S+)$', proofs, re.M) if claim in stated}
     found = [(path, item) for path, source in sources for item in public_functions(source)]
     found.sort(key=lambda x: small(x[1][1]) + '_' + small(x[1][2]) + '_unique' not in lemmas)
-    return [(path, line, name, list(lacks(holder, name, head, lemmas, excepted, asking))) for path, (line, holder, name, head) in found]
+    return [(path, line, name, list(lacks(holder, name, head, lemmas, excepted))) for path, (line, holder, name, head) in found]
 
 
 def finds_what_is_wrong():
@@ -110,22 +109,19 @@ pub fn g(n: u8) -> u8
         ('a', 'XUnique'), ('b', 'XUnique'), ('c', 'YUnique'), ('low_top_d', 'XUnique'), ('f', 'ZUnique'), ('g', 'XUnique')))
     specs = ("abbrev pub XUnique : Type 0\nXUnique = (n r r' : ℕ) → X n r → X n r' → r ≡ r'\n\n"
              'abbrev pub YUnique : Type 0\nYUnique = XUnique\n\nabbrev pub ZUnique : Type 0\nZUnique = Unit\n')
-    found = lambda asking: sorted((name, len(why)) for _, _, name, why in of_crate([('', wrong)], proofs, specs, set(), asking))
-    return (found(set()) == [('a', 1), ('b', 1), ('c', 0), ('c', 1), ('d', 0), ('e', 1), ('f', 1), ('g', 1)]
-            and found({'d', 'g'}) == [('a', 1), ('b', 1), ('c', 0), ('c', 1), ('d', 1), ('e', 1), ('f', 1), ('g', 0)])
+    return sorted((name, len(why)) for _, _, name, why in of_crate([('', wrong)], proofs, specs, set())) == [
+        ('a', 1), ('b', 1), ('c', 0), ('c', 1), ('d', 0), ('e', 1), ('f', 1), ('g', 1)]
 
 
 def main():
-    answers, _, requires = (repo / 'docs' / 'EXCEPTIONS.md').read_text(encoding='utf-8').partition('\n## Public functions with a `requires`\n')
-    excepted, asking = ({name for row in table.split('\n') if row.startswith('| `') for name in re.findall(r'`([^`]+)`', row.split('|')[1])}
-                        for table in (answers, requires))
+    rows = [row.split('|')[1] for row in (repo / 'docs' / 'EXCEPTIONS.md').read_text(encoding='utf-8').split('\n') if row.startswith('| `')]
+    excepted = {name for row in rows for name in re.findall(r'`([^`]+)`', row)}
     count = bad = 0
     for crate in sorted((repo / 'crates').iterdir()):
         proofs = '\n'.join(p.read_text(encoding='utf-8') for p in sorted((crate / 'proofs').rglob('*.antt')))
         specs = '\n'.join(p.read_text(encoding='utf-8') for p in sorted((crate / 'specs').rglob('*.antt')))
         sources = [(p, p.read_text(encoding='utf-8')) for p in sorted((crate / 'src').rglob('*.rt'))]
-        here = {name.partition('::')[2] for name in asking if name.startswith(crate.name + '::')}
-        for path, line, name, why in of_crate(sources, proofs, specs, excepted, here):
+        for path, line, name, why in of_crate(sources, proofs, specs, excepted):
             count += 1
             bad += bool(why)
             if why:
