@@ -1,5 +1,5 @@
 #![tactic(auto)]
-// A load that is fed: a text that comes in chunks is taken line by line into a staging page, and decided as soon as a line decides it.
+// A load that is fed, or a tail that is passed over: a text that comes in chunks is taken line by line, and decided as soon as a line decides it.
 ghost use Rattle.std.specs.Prelude.{◌≡◌, false, length, nat_lt};
 ghost use Rattle.std.specs.Prelude.{if◌then◌else◌};
 ghost use Rattle.window.specs.Window.{unfit};
