@@ -213,7 +213,8 @@ fn add(carry: &mut [u8], used: usize, skipped: u16, cr: bool, c: u8) -> Held
     ensures cr_value { result.cr ≡ (added (held carry.old used skipped cr) c).cr }
 {
     let n = with_cr(carry, used, skipped, cr);
-    if c == chars::CR {
+    let is_cr = c == chars::CR;
+    if is_cr {
         return Held {
             used: n.used,
             skipped: n.skipped,
@@ -229,6 +230,7 @@ fn add(carry: &mut [u8], used: usize, skipped: u16, cr: bool, c: u8) -> Held
 }
 
 // Takes the chunk's bytes from a position into the carry one by one, up to a LF or the chunk's end.
+#[inline(never)]
 fn gather_bytes(
     chunk: &[u8],
     position: usize,
