@@ -3,7 +3,7 @@
 
 In a cell of a table of docs/CLAIMS.md each file in backquotes is there, and each name in backquotes after a file stands in
 that file, outside its comments. A claim is a name of a crate's specs/ that is a statement by itself: `abbrev pub X : Type n`,
-or a record without parameters each of whose fields is a statement. It stands in docs/CLAIMS.md after its file, and has a proof of exactly its type: `pub x : X` in the
+or a record without parameters each of whose fields is a statement. A name for an Option, a Result or a ControlFlow of values states nothing. It stands in docs/CLAIMS.md after its file, and has a proof of exactly its type: `pub x : X` in the
 crate's proofs/, in a file that has X from the file of specs/ that states it. That the proof holds is the check's to say.
 Files and names of docs/GLOSSARY.md are looked up in the same way. Each text that an edit of a must-fail folder changes stands once in
 the file that it names, as the edit's changes before it leave that, and the edit has a row in docs/CLAIMS.md."""
@@ -12,6 +12,7 @@ import re
 import sys
 
 repo = pathlib.Path(__file__).resolve().parent.parent
+ALIAS = re.compile(r'(?m)^abbrev pub (\S+) : Type 0\n\1 = (?:Option|Result|ControlFlow) [^→↔≡≢≤<⊎¬×]*$')
 CLAIM = re.compile(r'^(?:abbrev|unfoldable) pub (?P<name>\S+) : Type \d+$|^pub record (?P<record>\S+) : Type \d+ where\n(?P<fields>(?: .*\n|\n)*)', re.M)
 
 
@@ -43,7 +44,7 @@ def is_statement(field):
 
 
 def claims(spec):
-    for found in CLAIM.finditer(spec + '\n'):
+    for found in CLAIM.finditer(ALIAS.sub('', spec) + '\n'):
         fields = re.split(r'(?m)^  pub ', found['fields'] or '')[1:]
         if found['name'] or fields and all(map(is_statement, fields)):
             yield found['name'] or found['record']
@@ -59,7 +60,7 @@ def proves(proof, crate, stem, claim):
 
 def finds_what_is_wrong():
     """A claim with its proof; and texts that do not prove it: of another type, of another file's name, stated anew, in a comment."""
-    spec = ('abbrev pub Holds : Type 0\nHolds = Unit\n\nabbrev pub Takes : ℕ → Type 0\n\npub record Cell : Type 0 where\n  pub place : ℕ\n\n'
+    spec = ('abbrev pub Holds : Type 0\nHolds = Unit\n\nabbrev pub Answer : Type 0\nAnswer = Result ℕ Error\n\nabbrev pub Takes : ℕ → Type 0\n\npub record Cell : Type 0 where\n  pub place : ℕ\n\n'
             'pub record Given : Type 1 where\n  pub holds : (n : ℕ) → Type 0\n\n'
             'pub record Examples : Type 0 where\n  -- one\n  pub one : 1 ≤ 1\n\n  pub all : (n : ℕ)\n      → n ≡ n\n')
     use, lemma = 'use Rattle.a.specs.B.{Other, Holds}\n', 'pub holds : Holds\n'

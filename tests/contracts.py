@@ -49,7 +49,7 @@ def lacks(holder, name, head, lemmas, excepted):
 
 def claims(specs):
     """The claims that say of two answers, or of two contents of a buffer, that they are the same, or that name such a claim."""
-    found = re.findall(r'^abbrev pub (\S+Unique) : Type 0\n\S+ =\s+(\S(?:.|\n(?! *\n))*)', specs, re.M)
+    found = re.findall(r'^abbrev pub (\S+Unique) : Type \d+\n\S+ =\s+(\S(?:.|\n(?! *\n))*)', specs, re.M)
     return {name for name, said in found if re.fullmatch(r'\S+Unique', said.strip()) or said.count('→') > 1 and '≡' in said or re.search(r'\bOne[A-Z]', said)}
 
 

@@ -7,10 +7,8 @@ pub fn checksum(bytes: &[u8]) -> u8
     ensures { Checksum bytes.now result }
 {
     let mut sum: u8 = 0;
-    let mut i = 0;
-    while i < bytes.len() {
-        sum = std::num::wrapping_add_u8(sum, bytes[i]);
-        i += 1;
+    for byte in bytes {
+        sum = sum.wrapping_add(*byte);
     }
-    std::num::wrapping_sub_u8(0, sum)
+    sum.wrapping_neg()
 }

@@ -1,11 +1,10 @@
 -- The carry, as bytes come in: what it holds grows by what the definition pushes, and its front stays until it is full.
 -- Assumes nothing.
-use Rattle.std.proofs.Common.{◌≡◌, ℕ, suc, ◌+◌, ◌-◌, ◌<◌, ◌≤◌, Bool, true, false, List, [], ◌∷◌, ◌++◌, length, get_or, take, drop, set, sym, refl, ap, ◌∙◌, ap₂, add-one, arith, length-drop, drop_of_length-le, length-take-le, take_all, get_or-take, take-take, take-suc-set, eq-eqb, ne_eqb}
-use lib.Seq.{take-set-le, take-nil}
+use Rattle.std.proofs.Common.{◌≡◌, ℕ, suc, ◌+◌, ◌<◌, ◌≤◌, Bool, true, false, List, [], ◌∷◌, ◌++◌, length, get_or, take, set, sym, refl, ap, ◌∙◌, ap₂, add-one, arith, length-take-le, get_or-take, take-take, take-suc-set, eq-eqb, ne_eqb}
+use lib.Seq.{take-set-le}
 use Rattle.std.specs.Prelude.{if◌then◌else◌}
 use Rattle.digits.specs.Digits.{is_digit}
 use Rattle.digits.specs.Reading.{named}
-use Rattle.reader.proofs.Searching.{tail_is}
 use Rattle.chunks.specs.Begun.{Kept, Begun, push, with_CR, add}
 use Rattle.chunks.specs.Next.{kept_in}
 use Rattle.chunks.specs.Helpers.{held, Grown}
@@ -75,11 +74,3 @@ added_CR b c e = rw (eq-eqb c 13 e)
 pub added : (b : Begun) (c : ℕ) → (c ≡ 13 → ⊥) → add b c ≡ record { kept = push (with_CR b) c; cr = false }
 unfolding add
 added b c e = rw (ne_eqb c 13 e)
-
--- ---- a part of a buffer, as much of it as there is
-
-pub no_part : (l : List ℕ) (from len : ℕ) → length l < from → [] ≡ take len (drop from l)
-no_part l from len h = let e : drop from l ≡ [] = drop_of_length-le l {i = from} (omega arith) in sym (ap (take len) e ∙ take-nil len)
-
-pub whole_part : (l : List ℕ) (from len : ℕ) → from ≤ length l → length l - from < len → take (length l - from) (drop from l) ≡ take len (drop from l)
-whole_part l from len h g = tail_is l from ∙ sym (take_all len (drop from l) (omega (arith, length-drop from l)))

@@ -10,8 +10,7 @@ use Rattle.record.specs.Refusals.{number_of}
 use Rattle.reader.specs.declared.ReaderOptions.{ReaderOptions}
 use Rattle.reader.specs.declared.ReaderError.{ReaderError}
 use Rattle.reader.specs.declared.ReaderError.TheVariants.{MissingStartCode, RecordTooShort, RecordTooLong, RecordNotEvenLength, ContainsInvalidCharacters, ChecksumMismatch, PayloadLengthMismatch, UnsupportedRecordType, InvalidLengthForType, PoolFull}
-use Rattle.reader.specs.declared.Answer.{Answer}
-use Rattle.reader.specs.declared.Answer.TheVariants as answer
+use Rattle.reader.specs.Aliases.{Answer}
 use Rattle.reader.specs.Told.{Told, gives, refuses, done}
 use Rattle.reader.specs.Lines.{lines, through}
 use Rattle.reader.specs.Row.{Numbered, sayings, stopped}
@@ -36,6 +35,7 @@ use Rattle.chunks.proofs.Pieces.{pieces, pieces_lines}
 use Rattle.chunks.proofs.Rows.{from_place, unseen, rows_met}
 use Rattle.chunks.proofs.Kept.{kept_rows, showing_replies, said_numbered, lines_stand, shows_right, ShownRight}
 use Rattle.chunks.proofs.Stops.{alike_rows, behind_stop}
+use Rattle.std.specs.Prelude.{Err, Ok}
 
 pub examples : Examples
 unfolding look
@@ -123,8 +123,8 @@ reads_what_is_found s chunk carry pool at step r carry' pool' = (next_reads s ch
 -- ---- one outcome each
 
 as_reply : Answer → ChunkReply
-as_reply (answer.Read r) = Read r
-as_reply (answer.Refused e) = Refused e
+as_reply (Ok r) = Read r
+as_reply (Err e) = Refused e
 
 -- the reply of a word
 unword : Word → ChunkReply
@@ -149,8 +149,8 @@ unword_error PoolFull = refl
 
 unword_word : (r : ChunkReply) → unword (word_of r) ≡ r
 unfolding unword as_reply
-unword_word (Read r) = ap as_reply (untold_told (answer.Read r))
-unword_word (Refused e) = unword_error e ∙ ap as_reply (untold_told (answer.Refused e))
+unword_word (Read r) = ap as_reply (untold_told (Ok r))
+unword_word (Refused e) = unword_error e ∙ ap as_reply (untold_told (Err e))
 unword_word UsedUp = refl
 unword_word Done = refl
 unword_word CarryTooSmall = refl
@@ -198,4 +198,4 @@ shown_unique (InChunk from len) chunk carry line line' x y = (x.begins ∙ sym y
 shown_unique (InCarry len) chunk carry line line' x y = (x.begins ∙ sym y.begins, x.holds ∙ sym y.holds)
 
 pub refusal_in_line_unique : RefusalInLineUnique
-refusal_in_line_unique e skipped r r' x y = let h : answer.Refused r ≡ answer.Refused r' = told_apart (answer.Refused r) (answer.Refused r') (ap refuses (x ∙ sym y)) in cc
+refusal_in_line_unique e skipped r r' x y = let h : Err r ≡ Err r' = told_apart (Err r) (Err r') (ap refuses (x ∙ sym y)) in cc

@@ -1,6 +1,6 @@
 -- The outcomes of `next`, `finish`, `next_line` and `last_line` by their first tests.
 -- Assumes nothing.
-use Rattle.std.proofs.Common.{◌≡◌, ℕ, zero, suc, ◌<◌, ◌≤◌, Bool, true, false, ◌||◌, ltb, ◌≢◌, List, [], ◌∷◌, length, take, drop, sym, refl, ap, ◌∙◌, arith, drop_of_length-le, length-take-le, ltb-false, ltb-true, le-ltb, lt-ltb}
+use Rattle.std.proofs.Common.{◌≡◌, ℕ, zero, suc, ◌<◌, ◌≤◌, Bool, true, false, ◌||◌, ltb, ◌≢◌, List, [], ◌∷◌, length, take, drop, sym, refl, ap, ◌∙◌, min, arith, drop_of_length-le, length-take-le, ltb-false, ltb-true, le-ltb, lt-ltb}
 use mathlib.Core.Option.{none, some}
 use lib.Seq.{take-length}
 use Rattle.std.specs.Prelude.{if◌then◌else◌}
@@ -16,7 +16,7 @@ use Rattle.chunks.specs.declared.LineStep.{LineStep}
 use Rattle.chunks.specs.Begun.{Kept, none_kept, nothing, is_empty, with_CR, Sought, seek, look}
 use Rattle.chunks.specs.Next.{tells, left_out, begun, past_line, over, number_behind, in_carry, Outcome, unchanged, answered_line, of_sought, too_small, next_outcome, finish_outcome}
 use Rattle.chunks.specs.Line.{kept_at, Inside, line_place, LineOutcome, idle, found_line, of_found, next_line_outcome, last_line_outcome, Finds, NextLine, LastLine}
-use Rattle.chunks.specs.Helpers.{held, has_line, Grown, seek_at, Within}
+use Rattle.chunks.specs.Helpers.{held, has_line, Grown, seek_at}
 use Rattle.chunks.proofs.Waiting.{push_some}
 
 -- ---- the first tests
@@ -131,14 +131,14 @@ module _ (s : Chunks) (carry : List ℕ) where
 
 -- ---- what is looked for
 
-within_drop : (chunk : List ℕ) (position r : ℕ) → Within position (length chunk) r → drop r chunk ≡ drop position chunk
+within_drop : (chunk : List ℕ) (position r : ℕ) → r ≡ min position (length chunk) → drop r chunk ≡ drop position chunk
 within_drop chunk position r w = go (ltb (length chunk) position) refl
   where
     go : (t : Bool) → ltb (length chunk) position ≡ t → drop r chunk ≡ drop position chunk
     go true e =
         let l : length chunk < position = ltb-true (length chunk) position e in
-        drop_of_length-le chunk {i = r} (omega (arith, w.last l)) ∙ sym (drop_of_length-le chunk {i = position} (omega arith))
-    go false e = ap (λ (n : ℕ). drop n chunk) (w.same (ltb-false (length chunk) position e))
+        drop_of_length-le chunk {i = r} (omega arith) ∙ sym (drop_of_length-le chunk {i = position} (omega arith))
+    go false e = let l : position ≤ length chunk = ltb-false (length chunk) position e in let same : r ≡ position = omega arith in ap (λ (n : ℕ). drop n chunk) same
 
 pub look_kept : (empties n k : ℕ) (cr : Bool) (carry text : List ℕ) → 0 < n → 0 < length carry → look empties (held carry n k cr) text ≡ seek none empties (held carry n k cr) text
 unfolding look is_empty with_CR
@@ -159,7 +159,7 @@ pub none_out : (s : Chunks) → s.used ≡ 0 → left_out s ≡ 0
 none_out s z = rw (lt-ltb s.used 522 (omega arith))
 
 module _ (s : Chunks) (chunk carry : List ℕ) (position : ℕ) (r : LineStep) (carry' : List ℕ)
-    (big : 522 ≤ length carry) (small : s.used ≤ 522) (on : s.finished ≡ false) (w : Within s.position (length chunk) position) where
+    (big : 522 ≤ length carry) (small : s.used ≤ 522) (on : s.finished ≡ false) (w : position ≡ min s.position (length chunk)) where
   goes : (f : Sought) → look s.empties (begun s carry) (drop position chunk) ≡ f → Finds (of_found s chunk f) chunk r carry' → NextLine s chunk carry r carry'
   goes f e m =
       rw (line_on s chunk carry (big_enough s carry big small) on

@@ -10,7 +10,7 @@ use Rattle.record.specs.Meaning.{Meaning, data_at, end_of_file, extended_segment
 use Rattle.digits.proofs.Tests.{both_ways, split}
 use Rattle.digits.proofs.Leading.{leads, leading_on, leading_in}
 use Rattle.record.proofs.Claims.{names_the_offender}
-use Rattle.reader.specs.declared.Answer.{Answer}
+use Rattle.reader.specs.Aliases.{Answer}
 use Rattle.reader.specs.Told.{Told, gives, refuses, told}
 use Rattle.reader.specs.Answer.{Reads, fits_pool, given, answered, poured}
 use Rattle.chunks.specs.Begun.{Kept, behind_digits, stands_for}

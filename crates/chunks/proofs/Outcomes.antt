@@ -9,8 +9,7 @@ use Rattle.record.specs.Line.{wrong, judge}
 use Rattle.digits.specs.Reading.{named}
 use Rattle.record.specs.declared.Record.{Record}
 use Rattle.digits.proofs.Tests.{split}
-use Rattle.reader.specs.declared.Answer.{Answer}
-use Rattle.reader.specs.declared.Answer.TheVariants.{Read, Refused}
+use Rattle.reader.specs.Aliases.{Answer}
 use Rattle.reader.specs.declared.ReaderError.{ReaderError}
 use Rattle.reader.specs.Told.{Told, gives, refuses, done, told, is_pool_full}
 use Rattle.reader.specs.Answer.{Reads, answered, poured}
@@ -26,23 +25,24 @@ use Rattle.chunks.specs.Next.{tells, word_of, is_record, past_line, number_behin
 use Rattle.chunks.specs.Helpers.{Settles, Plain}
 use Rattle.chunks.proofs.Brief.{judge_over}
 use Rattle.chunks.proofs.Moved.{short_stands}
+use Rattle.std.specs.Prelude.{Err, Ok}
 
 -- ---- one answer
 
 module _ (s : Chunks) (answer : Answer) (position line : ℕ) (last : Bool) (lies : Place) where
-  pub settle_read : (r : Record) (state : Chunks) (finished : Bool) → answer ≡ Read r → state ≡ past_line s position line finished
-      → finished ≡ (last || ends_row s.options (told (Read r)))
+  pub settle_read : (r : Record) (state : Chunks) (finished : Bool) → answer ≡ Ok r → state ≡ past_line s position line finished
+      → finished ≡ (last || ends_row s.options (told (Ok r)))
       → Settles s (told answer) position line last lies (record { reply = reply.Read r; state = state; lies = lies })
   unfolding is_full is_record
   settle_read r state finished e f g = rw (e, f, g) (record { answer = refl; state = refl; place = refl })
 
-  pub settle_full : (e : ReaderError) (r : ChunkStep) → answer ≡ Refused e → is_pool_full e ≡ true → Plain (reply.Refused e) s r
+  pub settle_full : (e : ReaderError) (r : ChunkStep) → answer ≡ Err e → is_pool_full e ≡ true → Plain (reply.Refused e) s r
       → Settles s (told answer) position line last lies r
   unfolding is_full is_record
   settle_full e r a n p =
       rw a (record { answer = ap word_of p.reply_is; state = p.state_is ∙ rw (sym (full_by_number e) ∙ n); place = p.lies_is })
 
-  pub settle_refused : (e : ReaderError) (state : Chunks) (finished : Bool) (r : ChunkStep) → answer ≡ Refused e → is_pool_full e ≡ false
+  pub settle_refused : (e : ReaderError) (state : Chunks) (finished : Bool) (r : ChunkStep) → answer ≡ Err e → is_pool_full e ≡ false
       → state ≡ past_line s position line finished → finished ≡ (last || s.options.stop_after_first_error) → Plain (reply.Refused e) state r
       → Settles s (told answer) position line last lies r
   unfolding is_full is_record ends_row

@@ -4,7 +4,7 @@ use Rattle.std.proofs.Common.{◌≡◌, ℕ, ◌+◌, ◌-◌, ◌<◌, ◌≤�
 use mathlib.Core.Option.{Option, none, some}
 use Rattle.record.specs.Line.{judge}
 use Rattle.digits.proofs.Parts.{part_length}
-use Rattle.reader.specs.declared.Answer.{Answer}
+use Rattle.reader.specs.Aliases.{Answer}
 use Rattle.reader.specs.Told.{told}
 use Rattle.reader.specs.Answer.{Reads, answered}
 use Rattle.reader.specs.Lines.{first_line}

@@ -6,7 +6,7 @@ use Rattle.std.specs.Prelude.{if◌then◌else◌}
 use Rattle.record.specs.Refusals.{Refusal, refusal, contains_invalid_characters}
 use Rattle.digits.specs.Reading.{named}
 use Rattle.record.specs.Line.{judge}
-use Rattle.reader.specs.declared.Answer.{Answer}
+use Rattle.reader.specs.Aliases.{Answer}
 use Rattle.reader.specs.Told.{Told, gives, refuses, done, told}
 use Rattle.reader.specs.Answer.{Reads}
 use Rattle.reader.specs.Lines.{LF, CR, first_line}
@@ -105,9 +105,3 @@ ReadsLine s (found.InCarry len skipped) state chunk carry pool at last r pool' =
 ReadsLine s found.UsedUp state chunk carry pool at last r pool' = Plain UsedUp state r × (pool' ≡ pool)
 ReadsLine s found.Done state chunk carry pool at last r pool' = Plain Done state r × (pool' ≡ pool)
 ReadsLine s found.CarryTooSmall state chunk carry pool at last r pool' = Plain CarryTooSmall state r × (pool' ≡ pool)
-
--- a place of n, or behind the last
-pub record Within (place n r : ℕ) : Type 0 where
-  pub inside : r ≤ n
-  pub same : place ≤ n → r ≡ place
-  pub last : n < place → r ≡ n

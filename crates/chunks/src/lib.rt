@@ -1,30 +1,29 @@
 #![tactic(auto)]
 // A text that comes in chunks, read to the answers of the whole text.
-ghost use Rattle.std.specs.Prelude.{◌≡◌, suc, ◌+◌, ◌≤◌, false, ◌||◌, length, drop};
+ghost use Rattle.std.specs.Prelude.{◌≡◌, ◌+◌, ◌≤◌, false, length, drop};
 ghost use Rattle.std.proofs.Math.Option.{none};
 ghost use Rattle.std.proofs.Math.Seq.{paste};
 ghost use Rattle.digits.specs.Digits.{is_digit};
 ghost use Rattle.record.specs.Line.{judge};
-ghost use Rattle.digits.specs.Reading.{named};
 ghost use Rattle.reader.specs.Told.{refusal_of, told};
 ghost use Rattle.reader.specs.Answer.{Reads};
 ghost use Rattle.reader.specs.Text.{default_options};
 ghost use Rattle.chunks.specs.Begun.{seek, stands_for, push as pushed, with_CR, add as added};
-ghost use Rattle.chunks.specs.Next.{kept_in, left_out, begun, past_line, over, number_behind, NextChunk, Finish, NewChunks, PartOf, Shown};
+ghost use Rattle.chunks.specs.Next.{kept_in, left_out, begun, past_line, number_behind, NextChunk, Finish, NewChunks, PartOf, Shown};
 ghost use Rattle.chunks.specs.Line.{of_found, Finds, NextLine, LastLine};
-ghost use Rattle.chunks.specs.Helpers.{held, has_line, Grown, UpToLF, ends_in_CR, seek_at, CutAt, place_in_line, refusal_in_line, told_in_line, Settles, Plain, Within};
+ghost use Rattle.chunks.specs.Helpers.{held, has_line, Grown, UpToLF, ends_in_CR, seek_at, CutAt, place_in_line, refusal_in_line, told_in_line, Settles, Plain};
 
 use reader::{Answer, ReaderError, ReaderOptions};
 use record::char_counts::MOST_KEPT;
 use record::{Record, chars};
 
 // The last place of the carry that a line uses, and the same as a refusal names it.
-const LAST_KEPT: usize = 521;
+const LAST_KEPT: usize = MOST_KEPT - 1;
 
-const LAST_KEPT_NAMED: u16 = 521;
+const LAST_KEPT_NAMED: u16 = LAST_KEPT as u16;
 
-// The last place that a refusal can name.
-const LAST_NAMED: u16 = 65535;
+// From so many bytes of the chunk on it pays to copy a line in one go.
+const LEAST_COPIED: usize = 16;
 
 // Where a reader of chunks stands.
 #[derive(Clone, Copy)]
@@ -45,7 +44,7 @@ pub struct Chunks {
     pub options: ReaderOptions,
 }
 
-// What a call answers.
+// What a call answers. Five ways on, of which a `Result` of an `Option` would name three alone.
 #[derive(Clone, Copy)]
 pub enum ChunkReply {
     Read(Record),
@@ -92,6 +91,7 @@ pub struct LineStep {
 }
 
 // How much of a line the carry holds, and how much was left out.
+// Functions take these numbers one by one: with one struct of them all, passed by value, the code is some 260 bytes longer.
 #[derive(Clone, Copy)]
 struct Taken {
     used: usize,
@@ -137,11 +137,9 @@ fn part<'a>(s: &'a [u8], from: usize, len: usize) -> &'a [u8]
     if from > s.len() {
         return &s[..0];
     }
-    if len > s.len() - from {
-        return &s[from..];
-    }
-    let to = from + len;
-    &s[from..to]
+    let rest = &s[from..];
+    let n = len.min(rest.len());
+    &rest[..n]
 }
 
 // The line that gave a record, in the buffer where it lies; nothing after any other answer.
@@ -162,18 +160,8 @@ fn is_digit(c: u8) -> bool
     digits::digit_value(c) < 16
 }
 
-// One more, but 65,535 at most.
-fn one_more(n: u16) -> u16
-    ensures { result ≡ named (suc n) }
-{
-    if n == LAST_NAMED {
-        return n;
-    }
-    n + 1
-}
-
 // One byte more of the line in the carry. Behind 521 only one is kept: the first that is no digit, or the last. The digits that it
-// replaces are counted.
+// replaces are counted, up to 65,535.
 fn push(carry: &mut [u8], used: usize, skipped: u16, c: u8) -> Taken
     requires { (used ≤ 522) × (522 ≤ length carry.old) }
     ensures { Grown carry.old used (pushed (kept_in carry.old used skipped) c) result.used result.skipped carry.new }
@@ -189,7 +177,7 @@ fn push(carry: &mut [u8], used: usize, skipped: u16, c: u8) -> Taken
         carry[LAST_KEPT] = c;
         return Taken {
             used,
-            skipped: one_more(skipped),
+            skipped: skipped.saturating_add(1),
         };
     }
     Taken { used, skipped }
@@ -243,11 +231,10 @@ fn gather_bytes(
     ensures up_to_lf { UpToLF chunk.now position (held carry.old used skipped cr) result.position (held carry.new result.used result.skipped result.cr) }
     ensures grown { Grown carry.old used (kept_in carry.new result.used result.skipped) result.used result.skipped carry.new }
 {
-    let mut i = position;
     let mut n = used;
     let mut k = skipped;
     let mut w = cr;
-    while i < chunk.len() {
+    for i in position..chunk.len() {
         let c = chunk[i];
         if c == chars::LF {
             return Gathered {
@@ -261,10 +248,9 @@ fn gather_bytes(
         n = h.used;
         k = h.skipped;
         w = h.cr;
-        i += 1;
     }
     Gathered {
-        position: i,
+        position: chunk.len(),
         used: n,
         skipped: k,
         cr: w,
@@ -282,10 +268,7 @@ fn copy(line: &[u8], carry: &mut [u8], used: usize)
 fn ends_in_cr(line: &[u8]) -> bool
     ensures { result ≡ ends_in_CR line.now }
 {
-    if line.len() == 0 {
-        return false;
-    }
-    line[line.len() - 1] == chars::CR
+    matches!(line, [.., chars::CR])
 }
 
 // The same as `gather_bytes`, but in one go where no CR waits, the line fits, and the chunk has bytes enough that it pays.
@@ -301,10 +284,7 @@ fn gather(
     ensures up_to_lf { UpToLF chunk.now position (held carry.old used skipped cr) result.position (held carry.new result.used result.skipped result.cr) }
     ensures grown { Grown carry.old used (kept_in carry.new result.used result.skipped) result.used result.skipped carry.new }
 {
-    if cr {
-        return gather_bytes(chunk, position, carry, used, skipped, cr);
-    }
-    if chunk.len() - position < 16 {
+    if cr || chunk.len() - position < LEAST_COPIED {
         return gather_bytes(chunk, position, carry, used, skipped, cr);
     }
     let mut n = 0;
@@ -346,6 +326,7 @@ fn find(chunk: &[u8], position: usize, empties: usize) -> Cut
 {
     let mut from = position;
     let mut passed = empties;
+    // A while: each turn passes a whole line, so there is no index to count.
     while from < chunk.len() {
         let mut n = 0;
         let line = reader::first_line(&chunk[from..], &mut n);
@@ -366,7 +347,7 @@ fn find(chunk: &[u8], position: usize, empties: usize) -> Cut
             };
         }
         from = next;
-        passed = std::num::wrapping_add_usize(passed, 1);
+        passed = passed.wrapping_add(1);
     }
     Cut::Open {
         from,
@@ -374,36 +355,22 @@ fn find(chunk: &[u8], position: usize, empties: usize) -> Cut
     }
 }
 
-fn either(a: bool, b: bool) -> bool
-    ensures { result ≡ (a || b) }
-{
-    if a {
-        return true;
-    }
-    b
-}
-
 // The number of a line, with so many empty lines ahead of it since the last one that was answered.
 fn number_behind(s: Chunks, empties: usize) -> usize
     ensures { result ≡ number_behind s empties }
 {
-    std::num::wrapping_add_usize(s.line, std::num::wrapping_add_usize(empties, 1))
+    s.line.wrapping_add(empties.wrapping_add(1))
 }
 
 // The state behind a line that was answered.
 fn past_line(s: Chunks, position: usize, line: usize, finished: bool) -> Chunks
     ensures { result ≡ past_line s position line finished }
 {
-    let options = s.options;
     Chunks {
         position,
         line,
-        empties: 0,
-        used: 0,
-        skipped: 0,
-        cr: false,
         finished,
-        options,
+        ..Chunks::new_with_options(s.options)
     }
 }
 
@@ -425,10 +392,7 @@ fn place_in_line(place: u16, skipped: u16) -> u16
     if place != LAST_KEPT_NAMED {
         return place;
     }
-    if skipped > LAST_NAMED - LAST_KEPT_NAMED {
-        return LAST_NAMED;
-    }
-    LAST_KEPT_NAMED + skipped
+    place.saturating_add(skipped)
 }
 
 // A refusal of what a carry holds, as one of its line: one that names the carry's last byte names its place there.
@@ -445,10 +409,7 @@ pub fn refusal_in_line(e: ReaderError, skipped: u16) -> ReaderError
 fn answer_in_line(answer: Answer, skipped: u16) -> Answer
     ensures { told result ≡ told_in_line skipped (told answer) }
 {
-    if let Answer::Refused(e) = answer {
-        return Answer::Refused(refusal_in_line(e, skipped));
-    }
-    answer
+    answer.map_err(|e| refusal_in_line(e, skipped))
 }
 
 // Reads the line of which these bytes are kept, with so many left out.
@@ -466,35 +427,26 @@ fn idle(reply: LineReply, state: Chunks) -> LineStep
     LineStep { reply, state }
 }
 
-// The reply to a line that was answered, and the state behind it; PoolFull does not use the line up.
-fn settle(
-    s: Chunks,
-    answer: Answer,
-    position: usize,
-    line: usize,
-    last: bool,
-    lies: Place,
-) -> ChunkStep
-    ensures { Settles s (told answer) position line last lies result }
+// The reply to a line that was answered, and the state behind it; PoolFull does not use the line up. `found` is the state behind the
+// line as the search for it left it.
+fn settle(s: Chunks, answer: Answer, found: Chunks, last: bool, lies: Place) -> ChunkStep
+    ensures { Settles s (told answer) found.position found.line last lies result }
 {
-    let options = s.options;
     match answer {
-        Answer::Read(r) => {
-            let finished = either(last, options.ends(r));
+        Ok(r) => {
+            let finished = last || s.options.ends(r);
             ChunkStep {
                 reply: ChunkReply::Read(r),
-                state: past_line(s, position, line, finished),
+                state: past_line(s, found.position, found.line, finished),
                 lies,
             }
         }
-        Answer::Refused(e) => {
-            if e.is_pool_full() {
-                return plain(ChunkReply::Refused(e), s);
-            }
-            let finished = either(last, options.stop_after_first_error);
+        Err(e) if e.is_pool_full() => plain(ChunkReply::Refused(e), s),
+        Err(e) => {
+            let finished = last || s.options.stop_after_first_error;
             plain(
                 ChunkReply::Refused(e),
-                past_line(s, position, line, finished),
+                past_line(s, found.position, found.line, finished),
             )
         }
     }
@@ -504,20 +456,17 @@ fn settle(
 fn used_up(s: Chunks, empties: usize, used: usize, skipped: u16, cr: bool) -> LineStep
     ensures { result ≡ record { reply = LineReply.UsedUp; state = record { position = 0; line = s.line; empties = empties; used = used; skipped = skipped; cr = cr; finished = false; options = s.options } } }
 {
-    let options = s.options;
-    let state = Chunks {
-        position: 0,
-        line: s.line,
-        empties,
-        used,
-        skipped,
-        cr,
-        finished: false,
-        options,
-    };
     LineStep {
         reply: LineReply::UsedUp,
-        state,
+        state: Chunks {
+            position: 0,
+            empties,
+            used,
+            skipped,
+            cr,
+            finished: false,
+            ..s
+        },
     }
 }
 
@@ -554,10 +503,7 @@ fn fresh(s: Chunks, chunk: &[u8], position: usize, empties: usize, carry: &mut [
 fn left_out(s: Chunks) -> u16
     ensures { result ≡ left_out s }
 {
-    if s.used < MOST_KEPT {
-        return 0;
-    }
-    s.skipped
+    if s.used < MOST_KEPT { 0 } else { s.skipped }
 }
 
 // A line is begun: it is gathered in the carry and found there. An empty one, whose CR was cut from its LF, is passed.
@@ -566,18 +512,15 @@ fn older(s: Chunks, chunk: &[u8], position: usize, carry: &mut [u8]) -> LineStep
     ensures { Finds (of_found s chunk.now (seek none s.empties (begun s carry.old) (drop position chunk.now))) chunk.now result carry.new }
 {
     let g = gather(chunk, position, carry, s.used, left_out(s), s.cr);
-    let feed = g.position;
-    let used = g.used;
-    if feed == chunk.len() {
-        return used_up(s, s.empties, used, g.skipped, g.cr);
+    if g.position == chunk.len() {
+        return used_up(s, s.empties, g.used, g.skipped, g.cr);
     }
-    let next = feed + 1;
-    if used == 0 {
-        let empties = std::num::wrapping_add_usize(s.empties, 1);
-        return fresh(s, chunk, next, empties, carry);
+    let next = g.position + 1;
+    if g.used == 0 {
+        return fresh(s, chunk, next, s.empties.wrapping_add(1), carry);
     }
     let reply = LineReply::InCarry {
-        len: used,
+        len: g.used,
         skipped: g.skipped,
     };
     found(s, reply, next, s.empties, false)
@@ -587,37 +530,7 @@ fn older(s: Chunks, chunk: &[u8], position: usize, carry: &mut [u8]) -> LineStep
 fn has_line(s: Chunks) -> bool
     ensures { result ≡ has_line s }
 {
-    if s.used > 0 {
-        return true;
-    }
-    s.cr
-}
-
-// A place of n bytes, or behind the last.
-fn within(place: usize, n: usize) -> usize
-    ensures { Within place n result }
-{
-    if place > n {
-        return n;
-    }
-    place
-}
-
-// The state at the text's end.
-fn over(s: Chunks) -> Chunks
-    ensures { result ≡ over s }
-{
-    let options = s.options;
-    Chunks {
-        position: s.position,
-        line: s.line,
-        empties: s.empties,
-        used: s.used,
-        skipped: s.skipped,
-        cr: s.cr,
-        finished: true,
-        options,
-    }
+    s.used > 0 || s.cr
 }
 
 impl Chunks {
@@ -649,16 +562,13 @@ impl Chunks {
     pub fn next_line(self, chunk: &[u8], carry: &mut [u8]) -> LineStep
         ensures { NextLine self chunk.now carry.old result carry.new }
     {
-        if carry.len() < MOST_KEPT {
-            return idle(LineReply::CarryTooSmall, self);
-        }
-        if self.used > MOST_KEPT {
+        if carry.len() < MOST_KEPT || self.used > MOST_KEPT {
             return idle(LineReply::CarryTooSmall, self);
         }
         if self.finished {
             return idle(LineReply::Done, self);
         }
-        let position = within(self.position, chunk.len());
+        let position = self.position.min(chunk.len());
         if has_line(self) {
             return older(self, chunk, position, carry);
         }
@@ -669,22 +579,22 @@ impl Chunks {
     pub fn last_line(self, carry: &mut [u8]) -> LineStep
         ensures { LastLine self carry.old result carry.new }
     {
-        if carry.len() < MOST_KEPT {
-            return idle(LineReply::CarryTooSmall, self);
-        }
-        if self.used > MOST_KEPT {
+        if carry.len() < MOST_KEPT || self.used > MOST_KEPT {
             return idle(LineReply::CarryTooSmall, self);
         }
         if self.finished {
             return idle(LineReply::Done, self);
         }
         let taken = with_cr(carry, self.used, left_out(self), self.cr);
-        let used = taken.used;
-        if used == 0 {
-            return idle(LineReply::Done, over(self));
+        if taken.used == 0 {
+            let over = Chunks {
+                finished: true,
+                ..self
+            };
+            return idle(LineReply::Done, over);
         }
         let reply = LineReply::InCarry {
-            len: used,
+            len: taken.used,
             skipped: taken.skipped,
         };
         found(self, reply, 0, self.empties, true)
@@ -695,31 +605,15 @@ impl Chunks {
         ensures { NextChunk self chunk.now carry.old pool.old at result carry.new pool.new }
     {
         let step = self.next_line(chunk, carry);
-        let reply = step.reply;
         let state = step.state;
-        match reply {
+        match step.reply {
             LineReply::InChunk { from, len } => {
-                let to = from + len;
-                let answer = reader::read_record(&chunk[from..to], pool, at);
-                settle(
-                    self,
-                    answer,
-                    state.position,
-                    state.line,
-                    false,
-                    Place::InChunk { from, len },
-                )
+                let answer = reader::read_record(&chunk[from..from + len], pool, at);
+                settle(self, answer, state, false, Place::InChunk { from, len })
             }
             LineReply::InCarry { len, skipped } => {
                 let answer = read_kept(&carry[..len], skipped, pool, at);
-                settle(
-                    self,
-                    answer,
-                    state.position,
-                    state.line,
-                    false,
-                    Place::InCarry { len },
-                )
+                settle(self, answer, state, false, Place::InCarry { len })
             }
             LineReply::UsedUp => plain(ChunkReply::UsedUp, state),
             LineReply::Done => plain(ChunkReply::Done, state),
@@ -732,22 +626,17 @@ impl Chunks {
         ensures { Finish self carry.old pool.old at result carry.new pool.new }
     {
         let step = self.last_line(carry);
-        let reply = step.reply;
         let state = step.state;
-        match reply {
+        match step.reply {
             LineReply::InCarry { len, skipped } => {
                 let answer = read_kept(&carry[..len], skipped, pool, at);
-                settle(
-                    self,
-                    answer,
-                    state.position,
-                    state.line,
-                    true,
-                    Place::InCarry { len },
-                )
+                settle(self, answer, state, true, Place::InCarry { len })
             }
             LineReply::Done => plain(ChunkReply::Done, state),
-            _ => plain(ChunkReply::CarryTooSmall, state),
+            // The search for the last line finds none in a chunk, and uses none up.
+            LineReply::CarryTooSmall | LineReply::InChunk { .. } | LineReply::UsedUp => {
+                plain(ChunkReply::CarryTooSmall, state)
+            }
         }
     }
 }

@@ -1,5 +1,3 @@
-pub mod Codes
-pub mod Errors
 pub mod States
 pub mod Says
 pub mod Claims

@@ -7,35 +7,21 @@ use native.Mathlib.Omega.{arith}
 use lib.Dec.{eqb}
 use borrow.Author.Tests.{ne_eqb}
 use Rattle.std.specs.Prelude.{if◌then◌else◌}
-use Rattle.steps.specs.declared.Start.{Start}
-use Rattle.steps.specs.declared.Start.TheVariants.{Unstated, Segment, Linear}
+use Rattle.steps.specs.Aliases.{Stated as Start}
+use Rattle.steps.specs.declared.Start.TheVariants.{Segment, Linear}
 use Rattle.loader.specs.declared.Base.{Base}
 use Rattle.loader.specs.declared.Base.TheVariants as base
-use Rattle.intake_tail.specs.declared.Kind.{Kind}
-use Rattle.intake_tail.specs.declared.Kind.TheVariants.{Hex, SRecords}
-use Rattle.intake_tail.specs.declared.Intake.{Intake}
+use Rattle.intake.specs.declared.Kind.{Kind}
+use Rattle.intake.specs.declared.Kind.TheVariants.{Hex, SRecords}
+use Rattle.intake.specs.declared.Intake.{Intake}
 use Rattle.listen.specs.declared.Listener.{Listener}
-use Rattle.listen.specs.declared.Listener.TheVariants.{Front, Within, Ready}
+use Rattle.listen.specs.declared.Listener.TheVariants.{Within}
 use Rattle.codes.specs.declared.Stand.{Stand}
 use Rattle.codes.specs.States.{bit}
 use Rattle.codes.specs.Listeners.{kind_of, kind_flag, base_of, base_flag, base_number, start_flag, is_segment, is_linear, start_number, StartNumber, listener_of, within_flags, stand, stands_for, StandOf}
 use Rattle.codes.specs.Claims.{SevenFlagsRead}
 use Rattle.codes.proofs.States.{same_bit}
-
--- ---- a start comes back from its number
-
-pub unstated : StartNumber Unstated 0
-unstated = record { is = refl; returns = λ flags l s. rw (l, s) }
-
--- IP has 16 bits
-pub segment : (cs ip : ℕ) → ip < 65536 → StartNumber (Segment cs ip) (65536 * cs + ip)
-segment cs ip h =
-    let high : (65536 * cs + ip) / 65536 ≡ cs = omega arith in
-    let low : (65536 * cs + ip) % 65536 ≡ ip = omega arith in
-    record { is = refl; returns = λ flags l s. rw (l, s, high, low) }
-
-pub linear : (address : ℕ) → StartNumber (Linear address) address
-linear address = record { is = refl; returns = λ flags l s. rw l }
+use Rattle.std.specs.Prelude.{None, Some}
 
 -- ---- the bits of the flags
 
@@ -79,9 +65,9 @@ base_share (base.Segment n) = refl
 base_share (base.Linear n) = refl
 
 start_share : (s : Start) → start_flag s ≡ 32 * one (is_segment s) + 64 * one (is_linear s)
-start_share Unstated = refl
-start_share (Segment cs ip) = refl
-start_share (Linear address) = refl
+start_share None = refl
+start_share (Some (Segment cs ip)) = refl
+start_share (Some (Linear address)) = refl
 
 -- a number by its place and five bits
 record Digits (n place k c b e l : ℕ) : Type 0 where
@@ -116,16 +102,6 @@ kind_returns SRecords flags e = rw e
 base_returns : (b : Base) (flags : ℕ) → bit flags 16 ≡ is_linear_base b → base_of flags (base_number b) ≡ b
 base_returns (base.Segment n) flags e = rw e
 base_returns (base.Linear n) flags e = rw e
-
-pub front_returns : (kind : Kind) (cr : Bool) → stands_for (stand (Front kind cr)) ≡ Front kind cr
-front_returns Hex true = refl
-front_returns Hex false = refl
-front_returns SRecords true = refl
-front_returns SRecords false = refl
-
-pub ready_returns : (kind : Kind) → stands_for (stand (Ready kind)) ≡ Ready kind
-ready_returns Hex = refl
-ready_returns SRecords = refl
 
 -- in a dump, or passing over
 back : (s : Intake) (flags begin : ℕ) → flags ≡ within_flags s → StartNumber s.tally.start begin

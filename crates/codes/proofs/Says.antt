@@ -21,8 +21,7 @@ use Rattle.digits.proofs.Tests.{both_ways}
 use Rattle.record.proofs.Standing.{Stands, stands, fault_few}
 use Rattle.reader.specs.declared.ReaderError.{ReaderError}
 use Rattle.reader.specs.declared.ReaderError.TheVariants.{MissingStartCode, RecordTooShort, RecordTooLong, RecordNotEvenLength, ContainsInvalidCharacters, ChecksumMismatch, PayloadLengthMismatch, UnsupportedRecordType, InvalidLengthForType, PoolFull}
-use Rattle.reader.specs.declared.Reply.{Reply}
-use Rattle.reader.specs.declared.Reply.TheVariants.{Read, Refused, Done}
+use Rattle.reader.specs.Aliases.{Reply}
 use Rattle.reader.specs.Told.{Told, gives, refuses, done, refusal_of}
 use Rattle.reader.specs.Answer.{fits_pool, given, answered}
 use Rattle.reader.specs.Text.{told_reply, is_full}
@@ -30,6 +29,7 @@ use Rattle.writer.specs.Told.{ToldWritten, wrote, refuses as refuses-to-write}
 use Rattle.chunks.specs.Next.{Word, tells, used_up, is_record}
 use Rattle.steps.specs.Steps.{Tally, Verdict, accepted, refused}
 use Rattle.codes.specs.Codes.{OK, DONE, POOL_FULL, CARRY_TOO_SMALL, value, reading, reading_chunk, writing, loading}
+use Rattle.std.specs.Prelude.{Err, None, Ok, Some}
 
 -- ---- of a reader
 
@@ -64,14 +64,14 @@ not_full done h = refl
 
 pub no_full_code : (r : Reply) → is_full (told_reply r) ≡ false → (reading (told_reply r)).code ≢ POOL_FULL
 unfolding is_full
-no_full_code (Read r) f e = omega (arith, few_types r)
-no_full_code (Refused w) f e = eqb-false (number_of (refusal_of w)) 10 f (omega (arith, refusal_code (refusal_of w)))
-no_full_code Done f e = omega arith
+no_full_code (Some (Ok r)) f e = omega (arith, few_types r)
+no_full_code (Some (Err w)) f e = eqb-false (number_of (refusal_of w)) 10 f (omega (arith, refusal_code (refusal_of w)))
+no_full_code None f e = omega arith
 
 pub done_code : (r : Reply) → (reading (told_reply r)).code ≡ DONE → told_reply r ≡ done
-done_code (Read r) e = absurd (omega (arith, few_types r))
-done_code (Refused w) e = absurd (omega (arith, few_numbers w, refusal_code (refusal_of w)))
-done_code Done e = refl
+done_code (Some (Ok r)) e = absurd (omega (arith, few_types r))
+done_code (Some (Err w)) e = absurd (omega (arith, few_numbers w, refusal_code (refusal_of w)))
+done_code None e = refl
 
 -- ---- of a line, and of a text in chunks
 

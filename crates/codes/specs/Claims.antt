@@ -2,36 +2,36 @@
 -- Assumes nothing.
 use Rattle.std.specs.Prelude.{ℕ, ◌%◌, ◌<◌, ◌≡◌, Bool}
 use Rattle.std.proofs.Math.Option.{Option, some}
-use Rattle.reader.specs.declared.Answer.{Answer}
-use Rattle.reader.specs.declared.Reply.{Reply}
+use Rattle.reader.specs.Aliases.{Answer}
+use Rattle.reader.specs.Aliases.{Reply}
 use Rattle.reader.specs.declared.State.{State}
 use Rattle.reader.specs.Told.{told}
 use Rattle.reader.specs.Text.{told_reply}
-use Rattle.srec.specs.declared.SAnswer.{SAnswer}
+use Rattle.srec.specs.Aliases.{SAnswer}
 use Rattle.srec.specs.Answer.{told_sanswer}
-use Rattle.entries.specs.declared.Attempt.{Attempt}
-use Rattle.entries.specs.declared.SAttempt.{SAttempt}
+use Rattle.entries.specs.Aliases.{Attempt}
+use Rattle.entries.specs.Aliases.{SAttempt}
 use Rattle.entries.specs.Attempts.{told_attempt, told_sattempt}
 use Rattle.chunks.specs.declared.ChunkReply.{ChunkReply}
 use Rattle.chunks.specs.declared.Chunks.{Chunks}
 use Rattle.chunks.specs.declared.Place.{Place}
 use Rattle.chunks.specs.Next.{word_of}
-use Rattle.steps.specs.declared.Loading.{Loading}
+use Rattle.steps.specs.Aliases.{Loading}
 use Rattle.steps.specs.Steps.{Start}
 use Rattle.steps.specs.Told.{told_loading}
-use Rattle.page.specs.declared.Paged.{Paged}
+use Rattle.page.specs.Aliases.{Paged}
 use Rattle.page.specs.Told.{told_page}
-use Rattle.salvage.specs.declared.Salvaged.{Salvaged}
+use Rattle.salvage.specs.Aliases.{Salvaged}
 use Rattle.salvage.specs.Told.{told_salvage}
-use Rattle.query.specs.declared.Asked.{Asked}
+use Rattle.query.specs.Aliases.{Asked}
 use Rattle.query.specs.Ask.{told_asked}
 use Rattle.light.specs.declared.Color.{Color as CodeColor}
-use Rattle.light.specs.declared.Count.{Count}
+use Rattle.light.specs.Aliases.{Count}
 use Rattle.light.specs.declared.Light.{Light}
-use Rattle.light.specs.declared.Made.{Made}
+use Rattle.light.specs.Aliases.{Made}
 use Rattle.light.specs.Colors.{Color}
 use Rattle.light.specs.Light.{told_count}
-use Rattle.listen.specs.declared.Committed.{Committed}
+use Rattle.listen.specs.Aliases.{Committed}
 use Rattle.listen.specs.declared.Listener.{Listener}
 use Rattle.listen.specs.declared.Said.{Said}
 use Rattle.codes.specs.declared.Coded.{Coded}

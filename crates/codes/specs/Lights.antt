@@ -5,14 +5,13 @@ use Rattle.std.proofs.Math.Option.{Option, none, some}
 use Rattle.std.specs.Prelude.{if◌then◌else◌}
 use Rattle.record.specs.Refusals.{bad_place}
 use Rattle.light.specs.declared.Color.{Color as CodeColor}
-use Rattle.light.specs.declared.Count.{Count}
-use Rattle.light.specs.declared.Count.TheVariants.{Unknown, Known}
+use Rattle.light.specs.Aliases.{Count}
 use Rattle.light.specs.declared.Light.{Light}
-use Rattle.light.specs.declared.Made.{Made}
-use Rattle.light.specs.declared.Made.TheVariants as made
+use Rattle.light.specs.Aliases.{Made}
 use Rattle.light.specs.Colors.{Color, broken, no_count, first_seen, green, stale, restarted}
 use Rattle.light.specs.Light.{told_color, told_count}
 use Rattle.codes.specs.Codes.{OK, refused_with}
+use Rattle.std.specs.Prelude.{None, Some}
 
 -- IHEX_COLOR_BROKEN, and so on: 0 is not green
 abbrev pub color_number : Color → ℕ
@@ -39,7 +38,7 @@ count_number (some count) = count
 
 -- the count that a number stands for
 abbrev pub count_from : ℕ → Count
-count_from n = if leb COUNT_UNKNOWN n then Unknown else Known n
+count_from n = if leb COUNT_UNKNOWN n then None else Some n
 
 -- the light that stands in numbers
 abbrev pub light_of : (first length high low known : ℕ) → Light
@@ -51,8 +50,8 @@ BAD_PLACE = (refused_with bad_place).code
 
 -- what setting up a light returns
 abbrev pub making : Made → ℕ
-making (made.Light l) = OK
-making made.BadPlace = BAD_PLACE
+making (Some l) = OK
+making None = BAD_PLACE
 
 -- the contracts of `color_number`, `count_number`, `light_from` and `code_made`
 pub record ColorNumber (color : CodeColor) (r : ℕ) : Type 0 where

@@ -4,26 +4,27 @@ use Rattle.std.specs.Prelude.{ℕ, ◌+◌, ◌*◌, ◌/◌, ◌%◌, ◌≤◌
 use Rattle.std.specs.Prelude.{if◌then◌else◌}
 use Rattle.record.specs.Refusals.{bad_window}
 use Rattle.steps.specs.declared.LoaderError.TheVariants.{MissingEndOfFileRecord}
-use Rattle.steps.specs.declared.Loading.{Loading}
-use Rattle.steps.specs.declared.Loading.TheVariants.{Accepted, Refused}
-use Rattle.steps.specs.declared.Start.{Start}
-use Rattle.steps.specs.declared.Start.TheVariants.{Unstated, Segment, Linear}
+use Rattle.steps.specs.Aliases.{Loading}
+use Rattle.steps.specs.Aliases.{Stated as Start}
+use Rattle.steps.specs.declared.Start.TheVariants.{Segment, Linear}
 use Rattle.steps.specs.Told.{told_loading}
 use Rattle.loader.specs.declared.Base.{Base}
 use Rattle.loader.specs.declared.Base.TheVariants as base
-use Rattle.intake_tail.specs.declared.Kind.{Kind}
-use Rattle.intake_tail.specs.declared.Kind.TheVariants.{Hex, SRecords}
-use Rattle.intake_tail.specs.declared.Intake.{Intake}
+use Rattle.intake.specs.declared.Kind.{Kind}
+use Rattle.intake.specs.declared.Kind.TheVariants.{Hex, SRecords}
+use Rattle.intake.specs.declared.Intake.{Intake}
 use Rattle.listen.specs.declared.Listener.{Listener}
 use Rattle.listen.specs.declared.Listener.TheVariants.{Front, Within, Ready}
 use Rattle.listen.specs.declared.Said.{Said}
 use Rattle.listen.specs.declared.Said.TheVariants.{WantsMore, Decided, Passed, Quiet, CarryTooSmall}
-use Rattle.listen.specs.declared.Committed.{Committed}
-use Rattle.listen.specs.declared.Committed.TheVariants as committed
+use Rattle.listen.specs.Aliases.{Committed}
+use Rattle.listen.specs.declared.CommitError.TheVariants as committed
 use Rattle.codes.specs.declared.Coded.{Coded}
 use Rattle.codes.specs.declared.Stand.{Stand}
 use Rattle.codes.specs.Codes.{OK, DONE, USED_UP, CARRY_TOO_SMALL, refused_with, LoadNumbers, load_numbers}
 use Rattle.codes.specs.States.{bit}
+use Rattle.std.specs.Prelude.{Err, None, Ok, Some}
+use Rattle.steps.specs.Aliases.{refuse}
 
 -- ---- the flags
 
@@ -47,27 +48,27 @@ base_number (base.Linear n) = n
 
 -- CS is the high half, and IP the low one
 abbrev pub start_of : (flags number : ℕ) → Start
-start_of flags number = if bit flags 64 then Linear number else if bit flags 32 then Segment (number / 65536) (number % 65536) else Unstated
+start_of flags number = if bit flags 64 then Some (Linear number) else if bit flags 32 then Some (Segment (number / 65536) (number % 65536)) else None
 
 abbrev pub start_flag : Start → ℕ
-start_flag Unstated = 0
-start_flag (Segment cs ip) = 32
-start_flag (Linear address) = 64
+start_flag None = 0
+start_flag (Some (Segment cs ip)) = 32
+start_flag (Some (Linear address)) = 64
 
 abbrev pub is_segment : Start → Bool
-is_segment Unstated = false
-is_segment (Segment cs ip) = true
-is_segment (Linear address) = false
+is_segment None = false
+is_segment (Some (Segment cs ip)) = true
+is_segment (Some (Linear address)) = false
 
 abbrev pub is_linear : Start → Bool
-is_linear Unstated = false
-is_linear (Segment cs ip) = false
-is_linear (Linear address) = true
+is_linear None = false
+is_linear (Some (Segment cs ip)) = false
+is_linear (Some (Linear address)) = true
 
 abbrev pub start_number : Start → ℕ
-start_number Unstated = 0
-start_number (Segment cs ip) = 65536 * cs + ip
-start_number (Linear address) = address
+start_number None = 0
+start_number (Some (Segment cs ip)) = 65536 * cs + ip
+start_number (Some (Linear address)) = address
 
 -- each flag is its share of the flags
 pub record KindFlag (kind : Kind) (r : ℕ) : Type 0 where
@@ -186,16 +187,16 @@ pub record SaidStart (said : Said) (r : ℕ) : Type 0 where
 -- ---- a commit, and a load that was made elsewhere
 
 abbrev pub commit_code : Committed → ℕ
-commit_code (committed.Done l) = OK
-commit_code committed.NotReady = NOT_READY
-commit_code committed.BadWindow = BAD_WINDOW
+commit_code (Ok l) = OK
+commit_code (Err committed.NotReady) = NOT_READY
+commit_code (Err committed.BadWindow) = BAD_WINDOW
 
 pub record CodeCommitted (c : Committed) (r : ℕ) : Type 0 where
   pub answer : r ≡ commit_code c
 
 -- code 0 is that it was accepted
 abbrev pub answer_of : (code : ℕ) → Loading
-answer_of code = if eqb code OK then Accepted (record { records = 0; start = Unstated }) else Refused MissingEndOfFileRecord 0
+answer_of code = if eqb code OK then Ok (record { records = 0; start = None }) else refuse MissingEndOfFileRecord 0
 
 pub record AnswerFrom (code : ℕ) (r : Loading) : Type 0 where
   pub answer : r ≡ answer_of code

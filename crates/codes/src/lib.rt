@@ -1,6 +1,6 @@
 #![tactic(auto)]
 // Answers, states and places in numbers, as C has them.
-ghost use Rattle.std.specs.Prelude.{◌≡◌, ◌+◌};
+ghost use Rattle.std.specs.Prelude.{◌≡◌, ◌+◌, ◌<◌, Ok};
 ghost use Rattle.std.proofs.Math.Option.{some};
 ghost use Rattle.reader.specs.Told.{told, refusal_of};
 ghost use Rattle.reader.specs.Text.{told_reply};
@@ -17,21 +17,20 @@ ghost use Rattle.query.specs.Ask.{told_asked};
 ghost use Rattle.codes.specs.Codes.{CodedAs, refused_with, reading, reading_chunk, writing, loading, salvaging, asking, LineAt, AskedLine, StartKind, CodeTable};
 ghost use Rattle.codes.specs.Lights.{count_from, ColorNumber, CountNumber, LightFrom, CodeMade};
 ghost use Rattle.codes.specs.Listeners.{kind_of, KindFlag, base_of, BaseFlag, base_number, start_of, StartFlag, StartNumber, ListenerFrom, bare, StandOf, CodeSaid, SaidLine, SaidStart, CodeCommitted, AnswerFrom};
-ghost use Rattle.codes.specs.States.{Flag, StateFrom, FlagsFrom, ChunksFrom, ChunkFlagsFrom, SpotAs, PlaceFrom};
+ghost use Rattle.codes.specs.States.{bit, Flag, StateFrom, FlagsFrom, ChunksFrom, ChunkFlagsFrom, SpotAs, PlaceFrom};
 
 use chunks::{ChunkReply, Chunks, Place};
-use entries::{Attempt, SAttempt};
-use intake_tail::{Intake, Kind};
-use light::{Color, Count, Light, Made};
-use listen::{Committed, Listener, Said};
+use intake::{Intake, Kind};
+use light::{Color, Light};
+use listen::{CommitError, Committed, Listener, Said};
 use loader::Base;
 use page::{PageError, Paged};
 use query::Asked;
 use reader::{Answer, ReaderError, ReaderOptions, Reply, State, Values};
 use record::{Record, refusals, types};
-use salvage::{SalvageError, Salvaged};
+use salvage::{SalvageError, Salvaged, Saved};
 use srec::{SAnswer, SRecord, SWriterError, SWritten};
-use steps::{LoaderError, Loading, Start, Tally};
+use steps::{LoaderError, Loading, Refused, Start, Tally};
 use writer::{WriterError, Written};
 
 // The codes that are not the type of a record. A refusal's number is added to REFUSED.
@@ -56,6 +55,13 @@ const NO_START: u8 = 0;
 
 // The count of a light that knows none. Every number from here on means that.
 const COUNT_UNKNOWN: u32 = 65536;
+
+// The flags of a reader. Each bit has its own meaning, and CR_WAITS is one of them too.
+const STOP_AFTER_FIRST_ERROR: u8 = 1;
+
+const STOP_AFTER_EOF: u8 = 2;
+
+const FINISHED: u8 = 4;
 
 // The flags of a listener. The remainder by PLACES is where it stands, and each bit from SRECORDS on has its own meaning.
 const PLACES: u8 = 4;
@@ -90,6 +96,7 @@ pub struct Coded {
     pub c: u64,
 }
 
+// A code and its three values, most of which are 0.
 fn four(code: u32, a: u64, b: u64, c: u64) -> Coded
     ensures { result ≡ record { code = code; a = a; b = b; c = c } }
 {
@@ -104,7 +111,7 @@ fn refused(number: u8, a: u64, b: u64) -> Coded
 }
 
 fn code_record(given: Record) -> Coded
-    ensures { CodedAs (reading (told (Answer.Read given))) result }
+    ensures { CodedAs (reading (told (Ok given))) result }
 {
     match given {
         Record::Data { offset, at, len } => four(0, offset as u64, at as u64, len as u64),
@@ -120,13 +127,11 @@ fn code_error(e: ReaderError) -> Coded
     ensures { CodedAs (refused_with (refusal_of e)) result }
 {
     let figures = e.figures();
-    let number = figures.number;
-    let values = figures.values;
-    match values {
-        Values::Nothing => refused(number, 0, 0),
-        Values::Position(place) => refused(number, place as u64, 0),
-        Values::Byte(byte) => refused(number, byte as u64, 0),
-        Values::Bytes(first, second) => refused(number, first as u64, second as u64),
+    match figures.values {
+        Values::Nothing => refused(figures.number, 0, 0),
+        Values::Position(place) => refused(figures.number, place as u64, 0),
+        Values::Byte(byte) => refused(figures.number, byte as u64, 0),
+        Values::Bytes(first, second) => refused(figures.number, first as u64, second as u64),
     }
 }
 
@@ -134,18 +139,17 @@ pub fn code_answer(answer: Answer) -> Coded
     ensures { CodedAs (reading (told answer)) result }
 {
     match answer {
-        Answer::Read(r) => code_record(r),
-        Answer::Refused(e) => code_error(e),
+        Ok(r) => code_record(r),
+        Err(e) => code_error(e),
     }
 }
 
 // The digit of the type, then address, position and length.
 fn code_srecord(given: SRecord) -> Coded
-    ensures { CodedAs (reading (told_sanswer (SAnswer.Read given))) result }
+    ensures { CodedAs (reading (told_sanswer (Ok given))) result }
 {
-    let kind = given.kind;
     four(
-        kind.digit() as u32,
+        given.kind.digit() as u32,
         given.address as u64,
         given.at as u64,
         given.len as u64,
@@ -156,8 +160,8 @@ pub fn code_sanswer(answer: SAnswer) -> Coded
     ensures { CodedAs (reading (told_sanswer answer)) result }
 {
     match answer {
-        SAnswer::Read(r) => code_srecord(r),
-        SAnswer::Refused(e) => code_error(e),
+        Ok(r) => code_srecord(r),
+        Err(e) => code_error(e),
     }
 }
 
@@ -165,9 +169,9 @@ pub fn code_reply(reply: Reply) -> Coded
     ensures { CodedAs (reading (told_reply reply)) result }
 {
     match reply {
-        Reply::Read(r) => code_record(r),
-        Reply::Refused(e) => code_error(e),
-        Reply::Done => four(DONE, 0, 0, 0),
+        Some(Ok(r)) => code_record(r),
+        Some(Err(e)) => code_error(e),
+        None => four(DONE, 0, 0, 0),
     }
 }
 
@@ -203,22 +207,24 @@ fn code_writer_error(e: WriterError) -> Coded
     }
 }
 
+// A length, or a refusal. The same is said of S-records and of pages by functions of their own: one for all would be handed the function of the error, and
+// be no shorter.
 fn code_written(answer: Written) -> Coded
     ensures { CodedAs (writing (some (told_written answer))) result }
 {
     match answer {
-        Written::Wrote(n) => four(OK, n as u64, 0, 0),
-        Written::Refused(e) => code_writer_error(e),
+        Ok(n) => four(OK, n as u64, 0, 0),
+        Err(e) => code_writer_error(e),
     }
 }
 
 // What comes of an attempt to write, in numbers.
-pub fn code_attempt(attempt: Attempt) -> Coded
+pub fn code_attempt(attempt: Option<Written>) -> Coded
     ensures { CodedAs (writing (told_attempt attempt)) result }
 {
     match attempt {
-        Attempt::Made(answer) => code_written(answer),
-        Attempt::BadRecord => four(BAD_RECORD, 0, 0, 0),
+        Some(answer) => code_written(answer),
+        None => four(BAD_RECORD, 0, 0, 0),
     }
 }
 
@@ -242,18 +248,18 @@ fn code_swritten(answer: SWritten) -> Coded
     ensures { CodedAs (writing (some (told_swritten answer))) result }
 {
     match answer {
-        SWritten::Wrote(n) => four(OK, n as u64, 0, 0),
-        SWritten::Refused(e) => code_swriter_error(e),
+        Ok(n) => four(OK, n as u64, 0, 0),
+        Err(e) => code_swriter_error(e),
     }
 }
 
 // What comes of an attempt to write an S-record, in numbers.
-pub fn code_sattempt(attempt: SAttempt) -> Coded
+pub fn code_sattempt(attempt: Option<SWritten>) -> Coded
     ensures { CodedAs (writing (told_sattempt attempt)) result }
 {
     match attempt {
-        SAttempt::Made(answer) => code_swritten(answer),
-        SAttempt::BadRecord => four(BAD_RECORD, 0, 0, 0),
+        Some(answer) => code_swritten(answer),
+        None => four(BAD_RECORD, 0, 0, 0),
     }
 }
 
@@ -280,11 +286,10 @@ fn code_tally(tally: Tally) -> Coded
     ensures { CodedAs (loading (accepted (tallied tally))) result }
 {
     let records = tally.records as u64;
-    let start = tally.start;
-    match start {
-        Start::Unstated => four(OK, records, 0, 0),
-        Start::Segment { cs, ip } => four(OK, records, cs as u64, ip as u64),
-        Start::Linear(address) => four(OK, records, address as u64, 0),
+    match tally.start {
+        None => four(OK, records, 0, 0),
+        Some(Start::Segment { cs, ip }) => four(OK, records, cs as u64, ip as u64),
+        Some(Start::Linear(address)) => four(OK, records, address as u64, 0),
     }
 }
 
@@ -292,8 +297,8 @@ pub fn code_loading(answer: Loading) -> Coded
     ensures { CodedAs (loading (told_loading answer)) result }
 {
     match answer {
-        Loading::Accepted(tally) => code_tally(tally),
-        Loading::Refused(e, _) => code_loader_error(e),
+        Ok(tally) => code_tally(tally),
+        Err(r) => code_loader_error(r.why),
     }
 }
 
@@ -302,8 +307,8 @@ pub fn line_at(answer: Loading) -> usize
     ensures { LineAt (told_loading answer) result }
 {
     match answer {
-        Loading::Accepted(_) => 0,
-        Loading::Refused(_, line) => line,
+        Ok(_) => 0,
+        Err(r) => r.line,
     }
 }
 
@@ -312,15 +317,19 @@ pub fn start_kind(answer: Loading) -> u8
     ensures { StartKind (told_loading answer) result }
 {
     match answer {
-        Loading::Accepted(tally) => {
-            let start = tally.start;
-            match start {
-                Start::Unstated => NO_START,
-                Start::Segment { cs: _, ip: _ } => types::START_SEGMENT_ADDRESS,
-                Start::Linear(_) => types::START_LINEAR_ADDRESS,
-            }
-        }
-        Loading::Refused(_, _) => NO_START,
+        Ok(
+            Tally {
+                start: Some(Start::Segment { .. }),
+                ..
+            },
+        ) => types::START_SEGMENT_ADDRESS,
+        Ok(
+            Tally {
+                start: Some(Start::Linear(_)),
+                ..
+            },
+        ) => types::START_LINEAR_ADDRESS,
+        _ => NO_START,
     }
 }
 
@@ -338,8 +347,8 @@ pub fn code_paged(answer: Paged) -> Coded
     ensures { CodedAs (writing (some (told_page answer))) result }
 {
     match answer {
-        Paged::Wrote(n) => four(OK, n as u64, 0, 0),
-        Paged::Refused(e) => code_page_error(e),
+        Ok(n) => four(OK, n as u64, 0, 0),
+        Err(e) => code_page_error(e),
     }
 }
 
@@ -357,8 +366,8 @@ pub fn code_salvaged(answer: Salvaged) -> Coded
     ensures { CodedAs (salvaging (told_salvage answer)) result }
 {
     match answer {
-        Salvaged::Saved { length, entries } => four(OK, length as u64, entries as u64, 0),
-        Salvaged::Refused(e) => code_salvage_error(e),
+        Ok(Saved { length, entries }) => four(OK, length as u64, entries as u64, 0),
+        Err(e) => code_salvage_error(e),
     }
 }
 
@@ -367,9 +376,9 @@ pub fn code_asked(answer: Asked) -> Coded
     ensures { CodedAs (asking (told_asked answer)) result }
 {
     match answer {
-        Asked::States(byte) => four(OK, byte as u64, 0, 0),
-        Asked::NotStated => four(NOT_STATED, 0, 0, 0),
-        Asked::Refused(e, _) => code_loader_error(e),
+        Ok(Some(byte)) => four(OK, byte as u64, 0, 0),
+        Ok(None) => four(NOT_STATED, 0, 0, 0),
+        Err(r) => code_loader_error(r.why),
     }
 }
 
@@ -378,10 +387,17 @@ pub fn asked_line(answer: Asked) -> usize
     ensures { AskedLine (told_asked answer) result }
 {
     match answer {
-        Asked::States(_) => 0,
-        Asked::NotStated => 0,
-        Asked::Refused(_, line) => line,
+        Ok(_) => 0,
+        Err(r) => r.line,
     }
+}
+
+// Is this bit of the flags set? It is named by its value. A quotient and no `&`, as the contracts have it.
+fn is_set(flags: u8, unit: u8) -> bool
+    requires { 0 < unit }
+    ensures { result ≡ bit flags unit }
+{
+    flags / unit % 2 == 1
 }
 
 // The state that stands in numbers: bit 0 of the flags is stop_after_first_error, bit 1 stop_after_eof, bit 2 finished.
@@ -391,29 +407,26 @@ pub fn state_from(position: usize, line: usize, flags: u8) -> State
     State {
         position,
         line,
-        finished: flags / 4 % 2 == 1,
+        finished: is_set(flags, FINISHED),
         options: ReaderOptions {
-            stop_after_first_error: flags % 2 == 1,
-            stop_after_eof: flags / 2 % 2 == 1,
+            stop_after_first_error: is_set(flags, STOP_AFTER_FIRST_ERROR),
+            stop_after_eof: is_set(flags, STOP_AFTER_EOF),
         },
     }
 }
 
+// A bit's share of the flags, which are summed.
 fn flag(set: bool, value: u8) -> u8
     ensures { Flag set value result }
 {
-    if set {
-        return value;
-    }
-    0
+    if set { value } else { 0 }
 }
 
 pub fn flags_from(s: State) -> u8
     ensures { FlagsFrom s result }
 {
-    let options = s.options;
-    flag(options.stop_after_first_error, 1)
-        + (flag(options.stop_after_eof, 2) + flag(s.finished, 4))
+    flag(s.options.stop_after_first_error, STOP_AFTER_FIRST_ERROR)
+        + (flag(s.options.stop_after_eof, STOP_AFTER_EOF) + flag(s.finished, FINISHED))
 }
 
 // The state of a reader of chunks that stands in numbers: bit 3 of the flags is cr.
@@ -428,25 +441,24 @@ pub fn chunks_from(
     ensures { ChunksFrom position line empties used skipped flags result }
 {
     let state = state_from(position, line, flags);
-    let options = state.options;
     Chunks {
         position,
         line,
         empties,
         used,
         skipped,
-        cr: flags / 8 % 2 == 1,
+        cr: is_set(flags, CR_WAITS),
         finished: state.finished,
-        options,
+        options: state.options,
     }
 }
 
 pub fn chunk_flags_from(s: Chunks) -> u8
     ensures { ChunkFlagsFrom s result }
 {
-    let options = s.options;
-    flag(options.stop_after_first_error, 1)
-        + (flag(options.stop_after_eof, 2) + (flag(s.finished, 4) + flag(s.cr, 8)))
+    flag(s.options.stop_after_first_error, STOP_AFTER_FIRST_ERROR)
+        + (flag(s.options.stop_after_eof, STOP_AFTER_EOF)
+            + (flag(s.finished, FINISHED) + flag(s.cr, CR_WAITS)))
 }
 
 // A place in numbers: 0 for nowhere, 1 for the chunk, 2 for the carry; where it begins there, and how long it is.
@@ -478,13 +490,11 @@ pub fn spot_of(place: Place) -> Spot
 pub fn place_from(lies: u8, from: usize, len: usize) -> Place
     ensures { PlaceFrom lies from len result }
 {
-    if lies == 1 {
-        return Place::InChunk { from, len };
+    match lies {
+        1 => Place::InChunk { from, len },
+        2 => Place::InCarry { len },
+        _ => Place::Nowhere,
     }
-    if lies == 2 {
-        return Place::InCarry { len };
-    }
-    Place::Nowhere
 }
 
 // Whether a window table is refused.
@@ -492,42 +502,30 @@ pub fn code_table(bad: bool) -> u32
     ensures { CodeTable bad result }
 {
     if bad {
-        return REFUSED + (refusals::BAD_TABLE as u32);
+        REFUSED + (refusals::BAD_TABLE as u32)
+    } else {
+        OK
     }
-    0
 }
 
 // The number of a color. 0 is "broken", so that a number that was never written is not green.
 pub fn color_number(color: Color) -> u8
     ensures { ColorNumber color result }
 {
-    match color {
-        Color::Broken => 0,
-        Color::NoCount => 1,
-        Color::First => 2,
-        Color::Green => 3,
-        Color::Stale => 4,
-        Color::Restarted => 5,
-    }
+    color as u8
 }
 
 // A count in a number, if one is known.
-pub fn count_number(known: Count) -> u32
+pub fn count_number(known: Option<u16>) -> u32
     ensures { CountNumber known result }
 {
-    match known {
-        Count::Unknown => COUNT_UNKNOWN,
-        Count::Known(count) => count as u32,
-    }
+    known.map_or(COUNT_UNKNOWN, |count| count as u32)
 }
 
-fn count_from(known: u32) -> Count
+fn count_from(known: u32) -> Option<u16>
     ensures { result ≡ count_from known }
 {
-    if known >= COUNT_UNKNOWN {
-        return Count::Unknown;
-    }
-    Count::Known(known as u16)
+    u16::try_from(known).ok()
 }
 
 // The light that stands in numbers.
@@ -544,12 +542,12 @@ pub fn light_from(first: u32, length: usize, high: usize, low: usize, known: u32
 }
 
 // Whether a light was set up.
-pub fn code_made(made: Made) -> u32
+pub fn code_made(made: Option<Light>) -> u32
     ensures { CodeMade made result }
 {
     match made {
-        Made::Light(_) => OK,
-        Made::BadPlace => REFUSED + (refusals::BAD_PLACE as u32),
+        Some(_) => OK,
+        None => REFUSED + (refusals::BAD_PLACE as u32),
     }
 }
 
@@ -568,10 +566,11 @@ pub struct Stand {
 fn kind_from(flags: u8) -> Kind
     ensures { result ≡ kind_of flags }
 {
-    if flags / SRECORDS % 2 == 1 {
-        return Kind::SRecords;
+    if is_set(flags, SRECORDS) {
+        Kind::SRecords
+    } else {
+        Kind::Hex
     }
-    Kind::Hex
 }
 
 fn kind_flag(kind: Kind) -> u8
@@ -586,10 +585,11 @@ fn kind_flag(kind: Kind) -> u8
 fn base_from(flags: u8, base: u16) -> Base
     ensures { result ≡ base_of flags base }
 {
-    if flags / LINEAR_BASE % 2 == 1 {
-        return Base::Linear(base);
+    if is_set(flags, LINEAR_BASE) {
+        Base::Linear(base)
+    } else {
+        Base::Segment(base)
     }
-    Base::Segment(base)
 }
 
 fn base_flag(base: Base) -> u8
@@ -605,43 +605,42 @@ fn base_number(base: Base) -> u16
     ensures { result ≡ base_number base }
 {
     match base {
-        Base::Segment(n) => n,
-        Base::Linear(n) => n,
+        Base::Segment(n) | Base::Linear(n) => n,
     }
 }
 
-fn start_from(flags: u8, begin: u32) -> Start
+fn start_from(flags: u8, begin: u32) -> Option<Start>
     ensures { result ≡ start_of flags begin }
 {
-    if flags / LINEAR_START % 2 == 1 {
-        return Start::Linear(begin);
-    }
-    if flags / SEGMENT_START % 2 == 1 {
-        return Start::Segment {
+    if is_set(flags, LINEAR_START) {
+        Some(Start::Linear(begin))
+    } else if is_set(flags, SEGMENT_START) {
+        Some(Start::Segment {
             cs: (begin / CS_UNIT) as u16,
             ip: (begin % CS_UNIT) as u16,
-        };
+        })
+    } else {
+        None
     }
-    Start::Unstated
 }
 
-fn start_flag(start: Start) -> u8
+fn start_flag(start: Option<Start>) -> u8
     ensures { StartFlag start result }
 {
     match start {
-        Start::Unstated => 0,
-        Start::Segment { cs: _, ip: _ } => SEGMENT_START,
-        Start::Linear(_) => LINEAR_START,
+        None => 0,
+        Some(Start::Segment { .. }) => SEGMENT_START,
+        Some(Start::Linear(_)) => LINEAR_START,
     }
 }
 
-fn start_number(start: Start) -> u32
+fn start_number(start: Option<Start>) -> u32
     ensures { StartNumber start result }
 {
     match start {
-        Start::Unstated => 0,
-        Start::Segment { cs, ip } => CS_UNIT * (cs as u32) + (ip as u32),
-        Start::Linear(address) => address,
+        None => 0,
+        Some(Start::Segment { cs, ip }) => CS_UNIT * (cs as u32) + (ip as u32),
+        Some(Start::Linear(address)) => address,
     }
 }
 
@@ -658,47 +657,41 @@ pub fn listener_from(
     ensures { ListenerFrom flags skipped base begin lines used records result }
 {
     let kind = kind_from(flags);
-    let cr = flags / CR_WAITS % 2 == 1;
-    let place = flags % PLACES;
-    if place == FRONT {
-        return Listener::Front(kind, cr);
+    let cr = is_set(flags, CR_WAITS);
+    match flags % PLACES {
+        FRONT => Listener::Front(kind, cr),
+        READY => Listener::Ready(kind),
+        place => Listener::Within(Intake {
+            kind,
+            tail: place == SKIPPING,
+            line: lines,
+            used,
+            skipped,
+            cr,
+            base: base_from(flags, base),
+            tally: Tally {
+                records,
+                start: start_from(flags, begin),
+            },
+        }),
     }
-    if place == READY {
-        return Listener::Ready(kind);
-    }
-    Listener::Within(Intake {
-        kind,
-        tail: place == SKIPPING,
-        line: lines,
-        used,
-        skipped,
-        cr,
-        base: base_from(flags, base),
-        tally: Tally {
-            records,
-            start: start_from(flags, begin),
-        },
-    })
 }
 
 fn within(s: Intake) -> Stand
     ensures { StandOf (Listener.Within s) result }
 {
-    let kind = s.kind;
-    let base = s.base;
-    let tally = s.tally;
-    let start = tally.start;
+    let start = s.tally.start;
     Stand {
         flags: TAKING
             + (flag(s.tail, SKIPPING - TAKING)
-                + (kind_flag(kind)
-                    + (flag(s.cr, CR_WAITS) + (base_flag(base) + start_flag(start))))),
+                + (kind_flag(s.kind)
+                    + (flag(s.cr, CR_WAITS) + (base_flag(s.base) + start_flag(start))))),
         skipped: s.skipped,
-        base: base_number(base),
+        base: base_number(s.base),
         begin: start_number(start),
         lines: s.line,
         used: s.used,
-        records: tally.records,
+        records: s.tally.records,
     }
 }
 
@@ -745,11 +738,8 @@ pub fn said_line(said: Said) -> usize
     ensures { SaidLine said result }
 {
     match said {
-        Said::WantsMore => 0,
         Said::Decided(answer) => line_at(answer),
-        Said::Passed => 0,
-        Said::Quiet => 0,
-        Said::CarryTooSmall => 0,
+        _ => 0,
     }
 }
 
@@ -758,11 +748,8 @@ pub fn said_start(said: Said) -> u8
     ensures { SaidStart said result }
 {
     match said {
-        Said::WantsMore => NO_START,
         Said::Decided(answer) => start_kind(answer),
-        Said::Passed => NO_START,
-        Said::Quiet => NO_START,
-        Said::CarryTooSmall => NO_START,
+        _ => NO_START,
     }
 }
 
@@ -771,9 +758,9 @@ pub fn code_committed(c: Committed) -> u32
     ensures { CodeCommitted c result }
 {
     match c {
-        Committed::Done(_) => OK,
-        Committed::NotReady => NOT_READY,
-        Committed::BadWindow => REFUSED + (refusals::BAD_WINDOW as u32),
+        Ok(_) => OK,
+        Err(CommitError::NotReady) => NOT_READY,
+        Err(CommitError::BadWindow) => REFUSED + (refusals::BAD_WINDOW as u32),
     }
 }
 
@@ -782,10 +769,11 @@ pub fn answer_from(code: u32) -> Loading
     ensures { AnswerFrom code result }
 {
     if code == OK {
-        return Loading::Accepted(Tally {
+        Ok(Tally {
             records: 0,
-            start: Start::Unstated,
-        });
+            start: None,
+        })
+    } else {
+        Err(LoaderError::MissingEndOfFileRecord.at(0))
     }
-    Loading::Refused(LoaderError::MissingEndOfFileRecord, 0)
 }

@@ -2,7 +2,7 @@
 -- Assumes nothing.
 use Prim.Native.Nat.{ℕ, ◌+◌, ◌-◌, ◌≤◌, ◌<◌}
 use mathlib.Core.Path.{◌≡◌, refl, sym, ap, ◌∙◌}
-use mathlib.Core.Logic.{◌⊎◌, inl, inr}
+use mathlib.Core.Logic.{inl, inr}
 use mathlib.Core.Bool.{true, false}
 use mathlib.Core.List.{List, ◌++◌, append-nil}
 use native.Mathlib.Omega.{arith}
@@ -14,7 +14,6 @@ use Rattle.marks.specs.Marks.{row_length, mark_at, Marked, Unmarked, NextMarked,
 use Rattle.marks.proofs.Below.{split}
 use Rattle.marks.proofs.Rows.{listed_is}
 use Rattle.window.specs.Promises.{Copied}
-use Rattle.window.proofs.Storing.{copied}
 use Rattle.commit.specs.Commit.{byte_after, committed, lengths_fit, Commit}
 
 -- ---- a place
@@ -36,29 +35,11 @@ pub record SoFar (stage stated page₀ page : List ℕ) (place : ℕ) : Type 0 w
   pub passed : (i : ℕ) → i < place → get_or page i 0 ≡ byte_after stage stated page₀ i
   pub to_come : (i : ℕ) → place ≤ i → get_or page i 0 ≡ get_or page₀ i 0
 
-pub start_of : (stage stated page : List ℕ) → SoFar stage stated page page 0
-start_of stage stated page = record { same_length = refl; passed = λ i h. absurd (omega arith); to_come = λ i h. refl }
-
--- the next run of marked places ends in the page, and after the place from which it was searched
-module _ (stated : List ℕ) (places place start end : ℕ) (h : place < places) (m : NextMarked stated places place start) (u : NextUnmarked stated places start end) where
-  pub run_in_page : end ≤ places
-  run_in_page = omega (arith, m.high, u.high)
-
-  pub run_further : place < end
-  run_further = go m.there u.there
-    where
-      go : (places ≤ start) ⊎ Marked stated start → (places ≤ end) ⊎ Unmarked stated end → place < end
-      go (inl l) n = omega (arith, u.low)
-      go (inr y) (inl l) = omega arith
-      go (inr y) (inr n) =
-          split end start
-          (λ l. let e : end ≡ start = omega (arith, u.low) in absurd (n (ap (mark_at stated) e ∙ y)))
-          (λ l. omega (arith, m.low))
-
+-- the next run of marked places, from the place from which it was searched on
 module _ (stage stated page₀ page : List ℕ) (place start end : ℕ) (even : length stage ≡ length page₀) (h : place < length page) (s : SoFar stage stated page₀ page place)
     (m : NextMarked stated (length page) place start) (u : NextUnmarked stated (length page) start end) where
   in_page : end ≤ length page
-  in_page = run_in_page stated (length page) place start end h m u
+  in_page = omega (arith, m.high, u.high)
 
   run_length : length (take (end - start) (drop start stage)) ≡ end - start
   run_length = part_length stage start (end - start) (omega (arith, in_page, u.low, s.same_length))
@@ -90,23 +71,6 @@ pub end_of : (stage stated page₀ page : List ℕ) (place : ℕ) → SoFar stag
 unfolding committed
 end_of stage stated page₀ page place s h =
     sym (listed_is (byte_after stage stated page₀) (length page₀) page s.same_length (λ i k. sym (s.passed i (omega (arith, s.same_length)))))
-
--- ---- a run, as the code copies it
-
-module _ (stage page : List ℕ) (start end : ℕ) (l : start ≤ end) (u : end ≤ length stage) (v : end ≤ length page) where
-  abbrev bytes : List ℕ
-  bytes = take (end - start) (drop start stage)
-
-  abbrev lent : List ℕ
-  lent = take (end - start) (drop start page)
-
-  ends : start + length bytes ≡ end
-  ends = omega (arith, part_length stage start (end - start) (omega arith))
-
-  -- the part of the page that was lent and filled, in the page
-  pub run_copied : (part : List ℕ) → part ≡ bytes ++ drop (length bytes) lent
-      → Copied bytes start page (take start page ++ (part ++ drop (end - start) (drop start page)))
-  run_copied part e = rw ends at (copied bytes start page (omega (arith, ends)) part lent (omega (arith, ends, part_length page start (end - start) (omega arith))) e)
 
 -- ---- the whole
 

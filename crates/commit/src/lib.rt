@@ -18,6 +18,7 @@ fn copy_marked(stage: &[u8], stated: &[u8], page: &mut [u8])
     ensures { page.new ≡ committed stage.now stated.now page.old }
 {
     let mut place = 0;
+    // A while: each turn passes a whole run of marked places, so there is no index to count.
     while place < page.len() {
         let start = marks::next_marked(stated, page.len(), place);
         let end = marks::next_unmarked(stated, page.len(), start);
@@ -31,13 +32,10 @@ fn copy_marked(stage: &[u8], stated: &[u8], page: &mut [u8])
 pub fn commit(stage: &[u8], stated: &[u8], page: &mut [u8], marks: &mut [u8]) -> bool
     ensures { Commit stage.now stated.now page.old marks.old result page.new marks.new }
 {
-    if stage.len() != page.len() {
-        return false;
-    }
-    if stated.len() != marks.len() {
-        return false;
-    }
-    if marks.len() != marks::row_length(page.len()) {
+    if stage.len() != page.len()
+        || stated.len() != marks.len()
+        || marks.len() != marks::row_length(page.len())
+    {
         return false;
     }
     copy_marked(stage, stated, page);

@@ -2,7 +2,6 @@
 -- Assumes nothing.
 use Rattle.std.proofs.Common.{length, sym, ◌∙◌, arith}
 use native.Mathlib.Decide.{dec_le}
-use Rattle.copying.specs.Copying.{Copies}
 use Rattle.copying.specs.Claims.{CopyUnique}
 
 pub copy_unique : CopyUnique

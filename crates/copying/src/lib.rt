@@ -7,14 +7,12 @@ ghost use Rattle.copying.specs.Copying.{Copies};
 pub fn copy(source: &[u8], target: &mut [u8]) -> usize
     ensures { Copies source.now target.old result target.new }
 {
-    let n = source.len();
-    if n > target.len() {
+    if source.len() > target.len() {
         return 0;
     }
-    let mut i = 0;
-    while i < n {
-        target[i] = source[i];
-        i += 1;
+    // Not copy_from_slice: that one calls memmove, and this loop becomes memcpy.
+    for (i, &byte) in source.iter().enumerate() {
+        target[i] = byte;
     }
-    n
+    source.len()
 }

@@ -1,9 +1,14 @@
 -- How many digits lead a row, and the search for the first byte that is not a digit.
 -- Assumes nothing.
-use Rattle.std.proofs.Common.{◌≡◌, ℕ, zero, suc, ◌+◌, ◌<◌, ◌≤◌, Bool, true, false, ◌&&◌, List, [], ◌∷◌, ◌++◌, length, get_or, drop, sym, refl, ap, ◌∙◌, append-nil, add-one, arith, drop_of_length-le, drop-cons, le-ltb, lt-ltb}
-use Rattle.std.specs.Prelude.{if◌then◌else◌}
+use Rattle.std.proofs.Common.{◌≡◌, ℕ, zero, suc, ◌+◌, ◌<◌, ◌≤◌, Bool, true, false, ◌&&◌, List, [], ◌∷◌, ◌++◌, length, get_or, drop, sym, refl, ap, ◌∙◌, append-nil, add-one, arith, drop-cons, le-ltb, lt-ltb, le-leb}
+use Rattle.std.specs.Prelude.{if◌then◌else◌, nat_le, cond, Option, None, Some}
+use Rattle.std.specs.Option.{unwrap_or}
+use Rattle.std.specs.List.{position, position_or_len}
+use Rattle.std.proofs.lemmas.List.Sums.{prefix_len-le-length}
+use borrow.Author.Tests.{lt-leb}
+use Rattle.std.proofs.lemmas.List.Recursion.{is_position_or_len}
 use Rattle.digits.specs.Digits.{digit, is_digit, all_digits, leading}
-use Rattle.digits.proofs.Tests.{branch, both, and_false}
+use Rattle.digits.proofs.Tests.{branch, both, split, and_false}
 
 -- n digits lead up to a character that is none
 pub record Leads (ds : List ℕ) (n : ℕ) : Type 0 where
@@ -67,9 +72,28 @@ module _ (l : List ℕ) (i : ℕ) where
   unfolding leading
   lead_found h d = rw (drop-cons l i 0 h, le-ltb (digit (get_or l i 0)) 16 d) (omega arith)
 
-  pub lead_end : length l ≤ i → i + leading (drop i l) ≡ i
-  unfolding leading
-  lead_end h = rw (drop_of_length-le l {i = i} h) (omega arith)
+-- whether a byte is not a digit
+abbrev pub other : ℕ → Bool
+other c = nat_le 16 (digit c)
+
+-- the digits that lead are those before the first such byte
+leading_is : (l : List ℕ) → leading l ≡ position_or_len other l
+unfolding leading
+leading_is = is_position_or_len leading other refl step
+  where
+    step : (c : ℕ) (l : List ℕ) → leading (c ∷ l) ≡ cond (other c) 0 (1 + leading l)
+    step c l =
+        split 16 (digit c) (λ h. rw (le-ltb (digit c) 16 h, le-leb 16 (digit c) h)) (λ h. rw (lt-ltb (digit c) 16 h, lt-leb 16 (digit c) h) (omega arith))
+
+pub lead_position : (l : List ℕ) (o : Option ℕ) → o ≡ position other l → unwrap_or o (length l) ≡ leading l
+lead_position l o e =
+    let n = position_or_len other l in
+    let most : n ≤ length l = prefix_len-le-length _ l in
+    let same = leading_is l in
+    let told = λ (o : Option ℕ). unwrap_or o (length l) in
+    split (length l) n
+    (λ h. let none : o ≡ None = e ∙ rw (le-ltb n (length l) h) in ap told none ∙ omega arith)
+    (λ h. let some : o ≡ Some n = e ∙ rw (lt-ltb n (length l) h) in ap told some ∙ sym same)
 
 -- no more lead than there are
 pub leading_most : (l : List ℕ) → leading l ≤ length l

@@ -1,12 +1,9 @@
 #![tactic(auto)]
 // Hexadecimal digits, two to a byte: decoded from any part of a line, and spelt into an output. Readers and writers stand on it.
-ghost use Rattle.std.specs.Prelude.{◌≡◌, ◌+◌, ◌*◌, ◌/◌, ◌%◌, ◌<◌, ◌≤◌, min, length};
+ghost use Rattle.std.specs.Prelude.{◌≡◌, ◌+◌, ◌*◌, ◌/◌, ◌%◌, ◌<◌, ◌≤◌, length};
 ghost use Rattle.digits.specs.Digits.{DigitValue};
 ghost use Rattle.digits.specs.Reading.{FirstOther, NamePlace, Decodable, Decoded, pairs};
 ghost use Rattle.digits.specs.Spelling.{CapitalDigit, Put, Spelt, Spell};
-
-// The last place that a refusal can name.
-const LAST_PLACE: usize = 65535;
 
 // How many decimal digits there are.
 const DECIMALS: u8 = 10;
@@ -16,18 +13,21 @@ const LETTERS: u8 = 250;
 
 // The value of a hexadecimal digit, 0 to 15 in either letter case; 16 for any other byte. Differences wrap: what stands before `0` is beyond 9,
 // and the six letters before `G` or `g` are 250 to 255, whose lower four bits are the value.
+// A match on the three ranges would be plainer, but decoding takes twice the time with the branches that become of it.
+// The 16 makes it no Option: the theorem ValuesOfDigits names it.
+#[tactic(auto, unfolding(crate::specs::Digits::digit, crate::specs::Digits::between))]
 pub fn digit_value(c: u8) -> u8
     ensures { DigitValue c result }
 {
-    let decimal = std::num::wrapping_sub_u8(c, b'0');
+    let decimal = c.wrapping_sub(b'0');
     if decimal < DECIMALS {
         return decimal;
     }
-    let capital = std::num::wrapping_sub_u8(c, b'G');
+    let capital = c.wrapping_sub(b'G');
     if capital >= LETTERS {
         return capital % 16;
     }
-    let small = std::num::wrapping_sub_u8(c, b'g');
+    let small = c.wrapping_sub(b'g');
     if small >= LETTERS {
         return small % 16;
     }
@@ -38,44 +38,20 @@ pub fn digit_value(c: u8) -> u8
 pub fn first_other(ds: &[u8]) -> usize
     ensures { FirstOther ds.now result }
 {
-    let mut i = 0;
-    while i < ds.len() {
-        if digit_value(ds[i]) >= 16 {
-            return i;
-        }
-        i += 1;
-    }
-    i
+    ds.iter()
+        .position(|c| digit_value(*c) >= 16)
+        .unwrap_or(ds.len())
 }
 
 // A place as a refusal names it: 65,535 for any place beyond that.
 pub fn name_place(place: usize) -> u16
     ensures { NamePlace place result }
 {
-    if place > LAST_PLACE {
-        return LAST_PLACE as u16;
-    }
-    place as u16
-}
-
-// The byte that two digits spell.
-fn pair(high: u8, low: u8) -> u8
-    ensures { result ≡ (high * 16 + low) % 256 }
-{
-    (((high as u16) * 16 + (low as u16)) % 256) as u8
-}
-
-// The lesser of two.
-fn least(a: usize, b: usize) -> usize
-    ensures { result ≡ min a b }
-{
-    if a < b {
-        return a;
-    }
-    b
+    u16::try_from(place).unwrap_or(u16::MAX)
 }
 
 // Whether each character that was looked at is a digit, and the sum of the bytes before the first that is not.
+// It is no Option of the sum: `Decoded` promises the sum where a character is not a digit too.
 #[derive(Clone, Copy)]
 pub struct Scan {
     pub whole: bool,
@@ -87,23 +63,19 @@ fn decode_pairs(ds: &[u8], buf: &mut [u8]) -> Scan
     requires { Decodable ds.now buf.old }
     ensures { Decoded ds.now buf.old result.whole result.sum buf.new }
 {
-    let n = ds.len() / 2;
     let mut sum: u8 = 0;
-    let mut i = 0;
-    while i < n {
-        let p = 2 * i;
-        let high = digit_value(ds[p]);
+    for i in 0..ds.len() / 2 {
+        let high = digit_value(ds[2 * i]);
         if high >= 16 {
             return Scan { whole: false, sum };
         }
-        let low = digit_value(ds[p + 1]);
+        let low = digit_value(ds[2 * i + 1]);
         if low >= 16 {
             return Scan { whole: false, sum };
         }
-        let byte = pair(high, low);
-        sum = std::num::wrapping_add_u8(sum, byte);
+        let byte = high * 16 + low;
+        sum = sum.wrapping_add(byte);
         buf[i] = byte;
-        i += 1;
     }
     Scan { whole: true, sum }
 }
@@ -112,11 +84,12 @@ fn decode_pairs(ds: &[u8], buf: &mut [u8]) -> Scan
 pub fn decode(ds: &[u8], buf: &mut [u8]) -> Scan
     ensures { Decoded (pairs ds.now (length buf.old)) buf.old result.whole result.sum buf.new }
 {
-    let n = 2 * least(ds.len() / 2, buf.len());
-    decode_pairs(&ds[..n], buf)
+    let n = (ds.len() / 2).min(buf.len());
+    decode_pairs(&ds[..2 * n], buf)
 }
 
 // The capital digit of a byte's low half.
+#[tactic(auto, unfolding(crate::specs::Spelling::capital_digit))]
 pub fn capital_digit(byte: u8) -> u8
     ensures { CapitalDigit byte result }
 {
@@ -143,12 +116,9 @@ fn spell_all(bytes: &[u8], sum: u8, out: &mut [u8]) -> u8
     ensures { Spelt bytes.now sum out.old result out.new }
 {
     let mut total = sum;
-    let mut i = 0;
-    while i < bytes.len() {
-        let byte = bytes[i];
+    for (i, &byte) in bytes.iter().enumerate() {
         put(byte, out, 2 * i);
-        total = std::num::wrapping_add_u8(total, byte);
-        i += 1;
+        total = total.wrapping_add(byte);
     }
     total
 }

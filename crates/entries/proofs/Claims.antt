@@ -8,26 +8,25 @@ use Rattle.writer.specs.Told.{ToldWritten}
 use Rattle.writer.specs.Text.{Text}
 use Rattle.writer.proofs.Unique.{told_apart}
 use Rattle.srec.proofs.Unique.{written_apart}
-use Rattle.entries.specs.declared.Attempt.{Attempt}
-use Rattle.entries.specs.declared.Attempt.TheVariants.{Made, BadRecord}
-use Rattle.entries.specs.declared.SAttempt.{SAttempt}
-use Rattle.entries.specs.declared.SAttempt.TheVariants as s-attempts
+use Rattle.entries.specs.Aliases.{Attempt}
+use Rattle.entries.specs.Aliases.{SAttempt}
 use Rattle.entries.specs.Entry.{records_of, rows_of}
 use Rattle.entries.specs.Attempts.{told_attempt, told_sattempt, Attempts}
 use Rattle.entries.specs.Claims.{WriteRecordUnique, WriteSrecordUnique, WriteListUnique, RowAtUnique, ListExamples, TableExamples}
 use Rattle.entries.proofs.Listing.{some_none, same_some}
+use Rattle.std.specs.Prelude.{None, Some}
 
 attempts_apart : (a b : Attempt) → told_attempt a ≡ told_attempt b → a ≡ b
-attempts_apart (Made a) (Made b) e = ap Made (told_apart a b (same_some e))
-attempts_apart (Made a) BadRecord e = some_none refl e
-attempts_apart BadRecord (Made b) e = some_none refl (sym e)
-attempts_apart BadRecord BadRecord e = refl
+attempts_apart (Some a) (Some b) e = ap Some (told_apart a b (same_some e))
+attempts_apart (Some a) None e = some_none refl e
+attempts_apart None (Some b) e = some_none refl (sym e)
+attempts_apart None None e = refl
 
 sattempts_apart : (a b : SAttempt) → told_sattempt a ≡ told_sattempt b → a ≡ b
-sattempts_apart (s-attempts.Made a) (s-attempts.Made b) e = ap s-attempts.Made (written_apart a b (same_some e))
-sattempts_apart (s-attempts.Made a) s-attempts.BadRecord e = some_none refl e
-sattempts_apart s-attempts.BadRecord (s-attempts.Made b) e = some_none refl (sym e)
-sattempts_apart s-attempts.BadRecord s-attempts.BadRecord e = refl
+sattempts_apart (Some a) (Some b) e = ap Some (written_apart a b (same_some e))
+sattempts_apart (Some a) None e = some_none refl e
+sattempts_apart None (Some b) e = some_none refl (sym e)
+sattempts_apart None None e = refl
 
 same_attempts : {t : Option Text} {out : List ℕ} {a a' : Option ToldWritten} {o o' : List ℕ} → Attempts t out a o → Attempts t out a' o' → (a ≡ a') × (o ≡ o')
 same_attempts x y = (x.answer ∙ sym y.answer, x.left ∙ sym y.left)

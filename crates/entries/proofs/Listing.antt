@@ -2,20 +2,29 @@
 -- no list, whatever stands behind it.
 -- Assumes nothing.
 use Prim.Native.Nat.{ℕ, zero, suc, ◌+◌, ◌*◌, ◌-◌, ◌/◌, ◌%◌, ◌≤◌, ◌<◌}
-use mathlib.Core.Path.{◌≡◌, refl, sym, ◌∙◌, ap, subst}
+use mathlib.Core.Path.{◌≡◌, refl, sym, ◌∙◌, ap, ap₂, subst}
 use mathlib.Core.Option.{Option, none, some}
 use mathlib.Core.List.{List, [], ◌∷◌, ◌++◌}
 use native.Mathlib.Omega.{arith}
 use lib.Dec.{eqb}
-use lib.ListN.{length, length-append}
+use lib.ListN.{length, length-append, length-drop, get_or, drop}
 use borrow.Author.Tests.{eq-eqb, ne_eqb, eqb-true}
 use Rattle.record.specs.declared.Record.{Record}
 use Rattle.digits.proofs.Tests.{branch}
-use Rattle.writer.specs.declared.Written.{Written}
+use Rattle.writer.specs.Aliases.{Written}
 use Rattle.writer.specs.declared.Survey.{Survey}
 use Rattle.writer.specs.Claims.{Surveys, Steps}
-use Rattle.entries.specs.Entry.{record_at, and_then, first_records, records_of}
-use Rattle.entries.specs.Helpers.{Good, Stepped}
+use Rattle.entries.specs.Entry.{two_at, four_at, eight_at, record_at, and_then, first_records, records_of, entry_of}
+use Rattle.entries.specs.Helpers.{Stepped}
+use Rattle.std.specs.declared.slice.ChunksExact.{ChunksExact}
+use Rattle.std.specs.Slice.Iter.{chunks_exact_rest, chunks_exact_size, chunks_exact_steps}
+use Rattle.std.specs.Prelude.{Some, None}
+use Rattle.std.specs.Option.{IsSome}
+use Rattle.std.proofs.Common.{Bor, rules}
+use Rattle.entries.specs.Aliases.{Entry}
+use Rattle.std.proofs.Math.Seq.{drop-append_seam}
+use Rattle.std.proofs.Math.ListN.{get_or-append}
+use Rattle.std.proofs.lemmas.List.{get_or-drop, drop-drop}
 
 -- what is there is not none
 pub some_none {ℓ} : {A : Type 0} {X : Type ℓ} {o : Option A} {x : A} → o ≡ some x → o ≡ none → X
@@ -109,29 +118,92 @@ passed_bad bytes p rs x h e =
 
 -- an entry of a list is a record
 pub passed_good : (bytes : List ℕ) (p : ℕ) (rs whole : List Record)
-    → ReadSoFar bytes p rs → p < length bytes → records_of bytes ≡ some whole → Good bytes p
+    → ReadSoFar bytes p rs → p < length bytes → records_of bytes ≡ some whole → (r : Record) × (record_at bytes p ≡ some r)
 passed_good bytes p rs whole x h e = good (record_at bytes p) refl
   where
-    good : (o : Option Record) → record_at bytes p ≡ o → Good bytes p
+    good : (o : Option Record) → record_at bytes p ≡ o → (r : Record) × (record_at bytes p ≡ some r)
     good none g = some_none e (passed_bad bytes p rs x h g)
-    good (some r) g = record { within = passed_room x h; is = r; read = g }
+    good (some r) g = (r, g)
+
+-- what the code makes of it is there
+pub there : (o : Entry) (r : Record) → entry_of o ≡ some r → IsSome o
+there (Some x) r e = search rules
+there None r e = some_none e refl
+
+-- ---- the bytes, cut into entries
+
+-- what the loop has yet to go over is what lies behind a place, in entries of 24 bytes
+pub record Behind (bytes : List ℕ) (p : ℕ) (it : ChunksExact ℕ) : Type 0 where
+  pub left : chunks_exact_rest it ≡ drop p bytes
+  pub size : chunks_exact_size it ≡ 24
+
+-- the record of 24 bytes is the one that a list has where they stand in it
+module _ (a b : List ℕ) (p : ℕ) (same : (k : ℕ) → k < 24 → get_or a k 0 ≡ get_or b (p + k) 0) where
+  one : (k n : ℕ) → k < 24 → p + k ≡ n → get_or a k 0 ≡ get_or b n 0
+  one k n h e = same k h ∙ ap (λ (i : ℕ). get_or b i 0) e
+
+  two : (k n : ℕ) → k + 1 < 24 → p + k ≡ n → two_at a k ≡ two_at b n
+  two k n h e = ap₂ (λ (x y : ℕ). x + 256 * y) (one k n (omega arith) e) (one (k + 1) (n + 1) h (omega arith))
+
+  four : (k n : ℕ) → k + 3 < 24 → p + k ≡ n → four_at a k ≡ four_at b n
+  four k n h e = ap₂ (λ (x y : ℕ). x + 65536 * y) (two k n (omega arith) e) (two (k + 2) (n + 2) (omega arith) (omega arith))
+
+  eight : (k n : ℕ) → k + 7 < 24 → p + k ≡ n → eight_at a k ≡ eight_at b n
+  eight k n h e = ap₂ (λ (x y : ℕ). x + 4294967296 * y) (four k n (omega arith) e) (four (k + 4) (n + 4) (omega arith) (omega arith))
+
+  same_record : record_at a 0 ≡ record_at b p
+  unfolding record_at
+  same_record =
+      rw (one 0 p (omega arith) (omega arith), four 4 (p + 4) (omega arith) refl, two 2 (p + 2) (omega arith) refl, eight 8 (p + 8) (omega arith) refl, eight 16 (p + 16) (omega arith) refl)
+
+-- an entry that is next
+module _ {bytes : List ℕ} {p : ℕ} {it : ChunksExact ℕ} (x : Behind bytes p it) (entry : Bor (List ℕ)) (it' : ChunksExact ℕ) (t : chunks_exact_steps it (Some entry) it') where
+  seam : drop p bytes ≡ entry.now ++ chunks_exact_rest it'
+  seam = sym x.left ∙ t.1.0
+
+  pub entry_size : length entry.now ≡ 24
+  entry_size = t.1.1 ∙ x.size
+
+  pub entry_inside : p < length bytes
+  entry_inside = let s = entry_size in omega (arith, simp (length-drop, length-append) at (ap length seam))
+
+  pub entry_record : record_at entry.now 0 ≡ record_at bytes p
+  entry_record =
+      same_record entry.now bytes p
+      (λ k h. let lt : k < length entry.now = omega (arith, entry_size) in sym (sym (get_or-drop p bytes k 0) ∙ ap (λ (l : List ℕ). get_or l k 0) seam ∙ get_or-append entry.now (chunks_exact_rest it') 0 k lt))
+
+  pub behind_next : Behind bytes (p + 24) it'
+  behind_next =
+      record {
+        left = sym (sym (drop-drop 24 p bytes) ∙ ap (drop 24) seam ∙ ap (λ (n : ℕ). drop n (entry.now ++ chunks_exact_rest it')) (sym entry_size) ∙ drop-append_seam entry.now (chunks_exact_rest it'));
+        size = t.0 ∙ x.size;
+      }
+
+-- where no entry is left, the list is read
+pub behind_none : {bytes : List ℕ} {p : ℕ} {rs : List Record} {it : ChunksExact ℕ}
+    → Behind bytes p it → ReadSoFar bytes p rs → length (chunks_exact_rest it) < chunks_exact_size it → length bytes ≤ p
+behind_none {bytes} {p} x r h = omega (arith, x.size, r.even, r.place, r.within, simp length-drop at (ap length x.left))
 
 -- ---- the two loops
 
-pub record Surveying (bytes pool : List ℕ) (s : Survey) (p : ℕ) : Type 0 where
+pub record Surveying (bytes pool : List ℕ) (s : Survey) (it : ChunksExact ℕ) : Type 0 where
+  pub place : ℕ
+  pub behind : Behind bytes place it
   pub rs : List Record
-  pub passed : ReadSoFar bytes p rs
+  pub passed : ReadSoFar bytes place rs
   pub surveys : Surveys pool rs s
 
-pub record Stepping (bytes pool out : List ℕ) (start : Written) (out' : List ℕ) (done : Written) (p : ℕ) : Type 0 where
+pub record Stepping (bytes pool out : List ℕ) (start : Written) (out' : List ℕ) (done : Written) (it : ChunksExact ℕ) : Type 0 where
+  pub place : ℕ
+  pub behind : Behind bytes place it
   pub rs : List Record
-  pub passed : ReadSoFar bytes p rs
+  pub passed : ReadSoFar bytes place rs
   pub steps : Steps pool out start rs done out'
   pub same : length out' ≡ length out
 
-pub stepping_end : (bytes pool out : List ℕ) (start : Written) (out' : List ℕ) (done : Written) (p : ℕ)
-    → Stepping bytes pool out start out' done p → length bytes ≤ p → Stepped bytes pool out start done out'
-stepping_end bytes pool out start out' done p x h rs e =
-    let g = passed_all bytes p x.rs x.passed h in
+pub stepping_end : (bytes pool out : List ℕ) (start : Written) (out' : List ℕ) (done : Written) (it : ChunksExact ℕ)
+    → Stepping bytes pool out start out' done it → length (chunks_exact_rest it) < chunks_exact_size it → Stepped bytes pool out start done out'
+stepping_end bytes pool out start out' done it x h rs e =
+    let g = passed_all bytes x.place x.rs x.passed (behind_none x.behind x.passed h) in
     let same : x.rs ≡ rs = cc in
     subst (λ (qs : List Record). Steps pool out start qs done out') same x.steps

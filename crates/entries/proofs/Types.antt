@@ -10,12 +10,12 @@ use Rattle.std.specs.Prelude.{if◌then◌else◌}
 use Rattle.digits.proofs.Tests.{split}
 use Rattle.srec.specs.declared.SType.{SType}
 use Rattle.srec.specs.declared.SType.TheVariants.{S0, S1, S2, S3, S5, S7, S8, S9}
-use Rattle.srec.specs.declared.Named.TheVariants.{Kind, Nothing}
 use Rattle.srec.specs.Types.{is_named}
 use Rattle.srec.specs.Record.{digit_of, TypeOf}
 use Rattle.srec.proofs.Naming.{each_digit, each_type}
 use Rattle.entries.specs.Entry.{type_named}
 use Rattle.entries.proofs.Listing.{some_none, same_some}
+use Rattle.std.specs.Prelude.{None, Some}
 
 -- a type is named by its digit
 pub by_digit : (t : SType) → type_named (digit_of t) ≡ some t
@@ -62,14 +62,14 @@ none_named digit e = go (is_named digit) refl
     go true q = let (u, d) = typed digit q in some_none (ap type_named (sym d) ∙ by_digit u) e
     go false q = q
 
-pub is_kind : (digit : ℕ) (t : SType) → TypeOf digit (Kind t) → type_named digit ≡ some t
+pub is_kind : (digit : ℕ) (t : SType) → TypeOf digit (Some t) → type_named digit ≡ some t
 is_kind digit t x = go (is_named digit) x.answer
   where
     go : (b : Bool) → some (digit_of t) ≡ (if b then some digit else none) → type_named digit ≡ some t
     go true e = ap type_named (sym (same_some e)) ∙ by_digit t
     go false e = some_none refl e
 
-pub is_nothing : (digit : ℕ) → TypeOf digit Nothing → type_named digit ≡ none
+pub is_nothing : (digit : ℕ) → TypeOf digit None → type_named digit ≡ none
 is_nothing digit x = go (is_named digit) refl x.answer
   where
     go : (b : Bool) → is_named digit ≡ b → none ≡ (if b then some digit else none) → type_named digit ≡ none

@@ -10,11 +10,10 @@ use Rattle.writer.specs.Line.{line_text}
 use Rattle.writer.specs.Object.{object}
 use Rattle.srec.specs.declared.SRecord.{SRecord}
 use Rattle.srec.specs.Writer as srec
-use Rattle.entries.specs.declared.Attempt.{Attempt}
-use Rattle.entries.specs.declared.Attempt.TheVariants.{Made, BadRecord}
-use Rattle.entries.specs.declared.SAttempt.{SAttempt}
-use Rattle.entries.specs.declared.SAttempt.TheVariants as s-attempts
+use Rattle.entries.specs.Aliases.{Attempt}
+use Rattle.entries.specs.Aliases.{SAttempt}
 use Rattle.entries.specs.Entry.{record_of, srecord_of, records_of}
+use Rattle.std.specs.Prelude.{None, Some}
 
 -- what is answered for a text that is to be written from the output's start on; there is none where what was given is not a record
 abbrev pub told_of : Option Text → (room : ℕ) → Option ToldWritten
@@ -28,12 +27,12 @@ output_with (some t) out = put_at t out 0
 
 -- what an attempt tells
 abbrev pub told_attempt : Attempt → Option ToldWritten
-told_attempt (Made answer) = some (told_written answer)
-told_attempt BadRecord = none
+told_attempt (Some answer) = some (told_written answer)
+told_attempt None = none
 
 abbrev pub told_sattempt : SAttempt → Option ToldWritten
-told_sattempt (s-attempts.Made answer) = some (srec.told_swritten answer)
-told_sattempt s-attempts.BadRecord = none
+told_sattempt (Some answer) = some (srec.told_swritten answer)
+told_sattempt None = none
 
 -- a text, if there is one, was written: what an attempt tells, and the output after it
 pub record Attempts (t : Option Text) (out : List ℕ) (told : Option ToldWritten) (out' : List ℕ) : Type 0 where

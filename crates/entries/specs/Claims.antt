@@ -7,10 +7,10 @@ use Rattle.record.specs.declared.Record.{Record}
 use Rattle.record.specs.declared.Record.TheVariants.{Data, EndOfFile, StartSegmentAddress, StartLinearAddress}
 use Rattle.writer.specs.Claims.{InRange}
 use Rattle.window.specs.declared.Row.{Row}
-use Rattle.entries.specs.declared.Attempt.{Attempt}
+use Rattle.entries.specs.Aliases.{Attempt}
 use Rattle.window.specs.Table.{nobody}
 use Rattle.entries.specs.Entry.{records_of, row_at, RowAt, rows_of}
-use Rattle.entries.specs.declared.SAttempt.{SAttempt}
+use Rattle.entries.specs.Aliases.{SAttempt}
 use Rattle.entries.specs.Attempts.{WriteRecord, WriteSRecord, WriteList}
 
 -- ---- no second answer, and no second content of the output, meets a contract

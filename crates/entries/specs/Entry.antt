@@ -10,8 +10,8 @@ use Rattle.srec.specs.declared.SType.TheVariants.{S0, S1, S2, S3, S5, S7, S8, S9
 use Rattle.srec.specs.declared.SRecord.{SRecord}
 use Rattle.window.specs.declared.Row.{Row}
 use Rattle.window.specs.Table.{nobody}
-use Rattle.entries.specs.declared.Entry.{Entry}
-use Rattle.entries.specs.declared.Entry.TheVariants.{Is, Bad}
+use Rattle.entries.specs.Aliases.{Entry}
+use Rattle.std.specs.Prelude.{None, Some}
 
 -- a record whose number has 16 bits
 abbrev pub if_short : (number : ℕ) → Record → Option Record
@@ -79,8 +79,8 @@ records_of bytes = if eqb (length bytes % 24) 0 then first_records bytes (length
 
 -- what the code makes of an entry
 abbrev pub entry_of : Entry → Option Record
-entry_of (Is r) = some r
-entry_of Bad = none
+entry_of (Some r) = some r
+entry_of None = none
 
 -- ---- a table in bytes
 

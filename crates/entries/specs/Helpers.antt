@@ -1,20 +1,14 @@
 -- What the helpers of the writer of a list ask of and promise each other.
 -- Assumes nothing.
-use Rattle.std.specs.Prelude.{ℕ, ◌+◌, ◌≤◌, ◌≡◌, List, length}
+use Rattle.std.specs.Prelude.{ℕ, ◌≡◌, List}
 use Rattle.std.proofs.Math.Option.{none, some}
 use Rattle.record.specs.declared.Record.{Record}
-use Rattle.writer.specs.declared.Written.{Written}
+use Rattle.writer.specs.Aliases.{Written}
 use Rattle.writer.specs.declared.Survey.{Survey}
 use Rattle.writer.specs.Claims.{Surveys, Steps}
-use Rattle.entries.specs.declared.ListSurvey.{ListSurvey}
-use Rattle.entries.specs.declared.ListSurvey.TheVariants.{Of, Bad}
-use Rattle.entries.specs.Entry.{record_at, records_of}
-
--- an entry that is a record
-pub record Good (bytes : List ℕ) (at : ℕ) : Type 0 where
-  pub within : at + 24 ≤ length bytes
-  pub is : Record
-  pub read : record_at bytes at ≡ some is
+use Rattle.entries.specs.Aliases.{ListSurvey}
+use Rattle.entries.specs.Entry.{records_of}
+use Rattle.std.specs.Prelude.{None, Some}
 
 -- bytes that are a list of records
 pub record IsList (bytes : List ℕ) : Type 0 where
@@ -27,8 +21,8 @@ pub record ListSurveyWhole (bytes pool : List ℕ) (s : Survey) : Type 0 where
   pub surveys : Surveys pool listed.records s
 
 abbrev pub ListSurveyAs : (bytes pool : List ℕ) → ListSurvey → Type 0
-ListSurveyAs bytes pool (Of s) = ListSurveyWhole bytes pool s
-ListSurveyAs bytes pool Bad = records_of bytes ≡ none
+ListSurveyAs bytes pool (Some s) = ListSurveyWhole bytes pool s
+ListSurveyAs bytes pool None = records_of bytes ≡ none
 
 -- the bytes' records were written one by one
 abbrev pub Stepped : (bytes pool out : List ℕ) (start r : Written) (out' : List ℕ) → Type 0

@@ -18,8 +18,7 @@ use Rattle.record.proofs.Standing.{Stands, stands}
 use Rattle.reader.specs.declared.ReaderError.{ReaderError}
 use Rattle.reader.specs.declared.ReaderError.TheVariants.{MissingStartCode, RecordTooShort, RecordTooLong, RecordNotEvenLength, ContainsInvalidCharacters, ChecksumMismatch, PayloadLengthMismatch, UnsupportedRecordType, InvalidLengthForType, PoolFull}
 use Rattle.reader.specs.declared.State.{State}
-use Rattle.reader.specs.declared.Reply.{Reply}
-use Rattle.reader.specs.declared.Reply.TheVariants.{Read, Refused, Done}
+use Rattle.reader.specs.Aliases.{Reply}
 use Rattle.reader.specs.Told.{Told, gives, refuses, refusal_of}
 use Rattle.reader.specs.Answer.{given, answered}
 use Rattle.reader.specs.Text.{told_reply, is_full, Outcome, of_found, outcome}
@@ -31,6 +30,7 @@ use Rattle.codes.specs.States.{state_of, flags_of}
 use Rattle.ihex.specs.Entries.{IhexNext}
 use Rattle.ihex.specs.Calls.{Returned, in_numbers, all_in_numbers, IhexCalls, no_more, one_more, IhexCallsAsCalls}
 use Rattle.codes.proofs.States.{text_state_returns}
+use Rattle.std.specs.Prelude.{Err, None, Ok, Some}
 
 -- ---- a reply for every outcome
 
@@ -52,22 +52,22 @@ given_for : (m : Meaning) (n at : ℕ) → Replies (given m n at)
 unfolding given
 given_for (data_at offset bytes) n at =
     both_ways (λ b. Replies (if b then gives 0 (offset ∷ at ∷ length bytes ∷ []) else refuses (refusal_of PoolFull))) (leb (at + length bytes) n)
-    (Read (Data offset at (length bytes)), refl) (Refused PoolFull, refl)
-given_for end_of_file n at = (Read EndOfFile, refl)
-given_for (extended_segment number) n at = (Read (ExtendedSegmentAddress number), refl)
-given_for (start_segment cs ip) n at = (Read (StartSegmentAddress cs ip), refl)
-given_for (extended_linear number) n at = (Read (ExtendedLinearAddress number), refl)
-given_for (start_linear number) n at = (Read (StartLinearAddress number), refl)
+    (Some (Ok (Data offset at (length bytes))), refl) (Some (Err PoolFull), refl)
+given_for end_of_file n at = (Some (Ok EndOfFile), refl)
+given_for (extended_segment number) n at = (Some (Ok (ExtendedSegmentAddress number)), refl)
+given_for (start_segment cs ip) n at = (Some (Ok (StartSegmentAddress cs ip)), refl)
+given_for (extended_linear number) n at = (Some (Ok (ExtendedLinearAddress number)), refl)
+given_for (start_linear number) n at = (Some (Ok (StartLinearAddress number)), refl)
 
 said_for : (line : List ℕ) (said : Said) → Stands line said → (n at : ℕ) → Replies (answered said n at)
 unfolding answered
 said_for line (says kind address payload) s n at = given_for (meaning kind address payload) n at
-said_for line (wrong r) s n at = let (e, q) = error_for s in (Refused e, ap refuses q)
+said_for line (wrong r) s n at = let (e, q) = error_for s in (Some (Err e), ap refuses q)
 
 pub reply_for : (s : State) (text pool : List ℕ) (at : ℕ) → Replies (outcome s text pool at).told
 unfolding of_found
 reply_for s text pool at =
-    ways s text pool at (λ o. Replies o.told) (λ b. (Done, refl)) (Done, refl)
+    ways s text pool at (λ o. Replies o.told) (λ b. (None, refl)) (None, refl)
     (λ e line left n.
     let r = said_for line (judge line) (stands line) (length pool) at in
     branch (λ (o : Outcome). Replies o.told) (is_full (answered (judge line) (length pool) at)) _ _ (λ f. r) (λ f. r))

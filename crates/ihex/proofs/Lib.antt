@@ -1,5 +1,3 @@
-pub mod Chunks
-pub mod Listening
 pub mod Claims
 pub mod Calls
 pub mod Readings
@@ -16,7 +14,6 @@ pub mod Joined
 pub mod Salvage
 pub mod Tables
 pub mod Asks
-pub mod Dumped
 pub mod Lights
 pub mod Listeners
 pub mod Streams

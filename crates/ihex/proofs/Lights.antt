@@ -16,10 +16,8 @@ use Rattle.steps.specs.Steps.{Step, Tally, Verdict, accepted, refused}
 use Rattle.steps.specs.Source.{Source, steps_of}
 use Rattle.intel.specs.Placing.{intel}
 use Rattle.srecload.specs.Placing.{s_records}
-use Rattle.light.specs.declared.Count.TheVariants.{Unknown, Known}
 use Rattle.light.specs.declared.Light.{Light}
-use Rattle.light.specs.declared.Made.{Made}
-use Rattle.light.specs.declared.Made.TheVariants as made
+use Rattle.light.specs.Aliases.{Made}
 use Rattle.light.specs.Colors.{Color, broken, green, Outcome, refused_one, uncounted, counted, color, known_after, never, Sixteen, forward}
 use Rattle.light.specs.Light.{told_count, made_of, load_for, outcome}
 use Rattle.light.specs.Claims.{said, Kind, hex, srecords, steps_by, StatesBy}
@@ -35,13 +33,14 @@ use Rattle.codes.proofs.Lights.{color_returns}
 use Rattle.codes.proofs.Says.{was_accepted, was_refused}
 use Rattle.ihex.specs.Entries.{LightNumbers, IhexLightBy}
 use Rattle.ihex.specs.Lights.{IhexSetUpLightExactly, IhexSetUpLightMakes, IhexSetUpLightUnique, LightCall, MeetsBy, Meets, InTurn, said_of, shown, IhexLightByHistory, IhexLightShowsHistory, IhexLightGreenInHistory, IhexLightNeverGreenTwice, IhexLightUnmovedNeverGreen, IhexLightGreenMeans, IhexLightBroken, IhexLightKeeps, IhexLightLoads, IhexLightMisfit, IhexLightOutsideNoCount, IhexLightNothingAfter, OneLight, IhexLightUnique, IhexLightSrecordsUnique}
+use Rattle.std.specs.Prelude.{None, Some}
 
 -- ---- set-up
 
 -- what is returned says whether there is a light
-refused_so : (m : Made) → (making m ≡ making made.BadPlace) ↔ (m ≡ made.BadPlace)
-refused_so (made.Light l) = (λ e. absurd (omega arith), λ e. let z : ◌≡◌ {A = ℕ} 0 1 = cc in absurd (omega arith))
-refused_so made.BadPlace = (λ e. refl, λ e. refl)
+refused_so : (m : Made) → (making m ≡ making None) ↔ (m ≡ None)
+refused_so (Some l) = (λ e. absurd (omega arith), λ e. let z : ◌≡◌ {A = ℕ} 0 1 = cc in absurd (omega arith))
+refused_so None = (λ e. refl, λ e. refl)
 
 pub ihex_set_up_light_exactly : IhexSetUpLightExactly
 ihex_set_up_light_exactly first n high low r known x =
@@ -53,9 +52,9 @@ pub ihex_set_up_light_makes : IhexSetUpLightMakes
 ihex_set_up_light_makes first n high low r known x good = rw x.known_is (go (leb n high || leb n low) x.answer)
   where
     lamp : Made
-    lamp = made.Light (light_of first n high low COUNT_UNKNOWN)
+    lamp = Some (light_of first n high low COUNT_UNKNOWN)
 
-    go : (b : Bool) → r ≡ making (if b then made.BadPlace else lamp) → (r ≡ OK) × ((if b then made.BadPlace else lamp) ≡ lamp)
+    go : (b : Bool) → r ≡ making (if b then None else lamp) → (r ≡ OK) × ((if b then None else lamp) ≡ lamp)
     go true e = absurd (good e)
     go false e = (e, refl)
 
@@ -72,7 +71,7 @@ Small (some n) = n < 65536
 small_from : (n : ℕ) → Small (told_count (count_from n))
 small_from n = go (leb 65536 n) refl
   where
-    go : (b : Bool) → leb 65536 n ≡ b → Small (told_count (if b then Unknown else Known n))
+    go : (b : Bool) → leb 65536 n ≡ b → Small (told_count (if b then None else Some n))
     go true e = tt
     go false e = leb-false 65536 n e
 

@@ -14,23 +14,22 @@ use Rattle.std.specs.Prelude.{if◌then◌else◌}
 use Rattle.record.specs.Refusals.{Refusal, refusal}
 use Rattle.reader.specs.declared.ReaderError.{ReaderError}
 use Rattle.reader.specs.declared.ReaderError.TheVariants.{MissingStartCode, RecordTooShort, RecordTooLong, RecordNotEvenLength, ContainsInvalidCharacters, ChecksumMismatch, PayloadLengthMismatch, UnsupportedRecordType, InvalidLengthForType, PoolFull}
+use Rattle.steps.specs.declared.LoaderError.{LoaderError}
 use Rattle.steps.specs.declared.LoaderError.TheVariants.{Line, MissingEndOfFileRecord, BadWindow, OutsideWindow, CountMismatch, StartConflict, BadTable}
-use Rattle.steps.specs.declared.Loading.{Loading}
-use Rattle.steps.specs.declared.Loading.TheVariants.{Accepted, Refused}
-use Rattle.steps.specs.declared.Start.TheVariants.{Unstated}
+use Rattle.steps.specs.Aliases.{Loading}
 use Rattle.steps.specs.declared.Tally.{Tally}
 use Rattle.steps.specs.Steps.{Tally as Tally-of, Verdict, accepted, refused, by}
 use Rattle.steps.specs.Source.{Source}
 use Rattle.steps.specs.Told.{loader_refusal, tallied, told_loading}
 use Rattle.window.specs.Window.{unfit}
 use Rattle.window.specs.Load.{load_window}
-use Rattle.intake_tail.specs.declared.Kind.{Kind}
-use Rattle.intake_tail.specs.declared.Kind.TheVariants.{Hex, SRecords}
-use Rattle.intake_tail.specs.declared.Intake.{Intake}
-use Rattle.intake_tail.specs.Ways.{way_of}
-use Rattle.intake_tail.specs.Intake.{new_tail}
-use Rattle.intake_tail.specs.Rows.{UsedThrough, PassedThrough}
-use Rattle.intake_tail.proofs.Following.{stops_fit}
+use Rattle.intake.specs.declared.Kind.{Kind}
+use Rattle.intake.specs.declared.Kind.TheVariants.{Hex, SRecords}
+use Rattle.intake.specs.declared.Intake.{Intake}
+use Rattle.intake.specs.Ways.{way_of}
+use Rattle.intake.specs.Intake.{new_tail}
+use Rattle.intake.specs.Rows.{UsedThrough, PassedThrough}
+use Rattle.intake.proofs.Following.{stops_fit}
 use Rattle.light.specs.declared.Light.{Light}
 use Rattle.light.specs.declared.Dumped.{Dumped}
 use Rattle.light.specs.Colors.{Outcome, refused_one, color}
@@ -43,9 +42,9 @@ use Rattle.listen.specs.declared.Listener.TheVariants.{Front, Within, Ready}
 use Rattle.listen.specs.declared.Said.{Said}
 use Rattle.listen.specs.declared.Said.TheVariants.{WantsMore, Decided, Passed, Quiet, CarryTooSmall}
 use Rattle.listen.specs.declared.Step.{Step}
-use Rattle.listen.specs.declared.Committed.{Committed}
-use Rattle.listen.specs.declared.Committed.TheVariants.{Done, NotReady}
-use Rattle.listen.specs.declared.Committed.TheVariants as committed
+use Rattle.listen.specs.Aliases.{Committed}
+use Rattle.listen.specs.declared.CommitError.TheVariants.{NotReady}
+use Rattle.listen.specs.declared.CommitError.TheVariants as committed
 use Rattle.listen.specs.Listener.{after, after_end, too_small, Unread, Tested, commit_by, Commits}
 use Rattle.listen.specs.Answers.{SameCarry}
 use Rattle.listen.specs.Calls.{Listens, no_chunk, and_then, BeginsText, dump_in, kind_of}
@@ -62,10 +61,12 @@ use Rattle.ihex.specs.Entries.{IhexLoadBy}
 use Rattle.ihex.specs.Listening.{TellSaid, flags_after, IhexCommit}
 use Rattle.ihex.specs.Listeners.{CarryFixed, IhexFeedUnique, IhexPauseUnique, IhexCommitUnique, IhexLightAfterUnique, IhexLightAfterAsLight, IhexLightAfterBroken, TestedFirst, IhexFeedTests, IhexPauseTests, IhexCommitKeeps, IhexListens, no_call, one_more, at_front, skipping, ready, IhexBegins, Decides, IhexLoadOf, DecidedAs, IhexDumpDecides, IhexDumpSays, IhexDumpWaits, IhexFedIsLoaded, IhexRefusedIsLoaded, IhexTailPasses, IhexTailSays, IhexTailWaits, IhexDumpEnds, IhexPausedIsLoaded, IhexPauseRefusedIsLoaded, IhexPauseBegins}
 use Rattle.ihex.proofs.Loads.{load_keeps}
+use Rattle.std.specs.Prelude.{Err, None, Ok}
+use Rattle.steps.specs.Aliases.{refuse}
 
 -- ---- what a code says
 
-line_code : (e : ReaderError) → Decides (load_numbers (told_loading (Refused (Line e) 0))).code
+line_code : (e : ReaderError) → Decides (load_numbers (told_loading (refuse (Line e) 0))).code
 line_code MissingStartCode = (omega arith, λ e. omega arith)
 line_code (ContainsInvalidCharacters place) = (omega arith, λ e. omega arith)
 line_code RecordTooShort = (omega arith, λ e. omega arith)
@@ -77,15 +78,18 @@ line_code (UnsupportedRecordType kind) = (omega arith, λ e. omega arith)
 line_code InvalidLengthForType = (omega arith, λ e. omega arith)
 line_code PoolFull = (omega arith, λ e. omega arith)
 
+why_code : (why : LoaderError) (line : ℕ) → Decides (load_numbers (told_loading (refuse why line))).code
+why_code (Line e) line = line_code e
+why_code MissingEndOfFileRecord line = (omega arith, λ e. omega arith)
+why_code BadWindow line = (omega arith, λ e. omega arith)
+why_code (OutsideWindow address) line = (omega arith, λ e. omega arith)
+why_code (CountMismatch stated seen) line = (omega arith, λ e. omega arith)
+why_code StartConflict line = (omega arith, λ e. omega arith)
+why_code BadTable line = (omega arith, λ e. omega arith)
+
 load_code : (l : Loading) → Decides (load_numbers (told_loading l)).code
-load_code (Accepted t) = (omega arith, λ e. omega arith)
-load_code (Refused (Line e) line) = line_code e
-load_code (Refused MissingEndOfFileRecord line) = (omega arith, λ e. omega arith)
-load_code (Refused BadWindow line) = (omega arith, λ e. omega arith)
-load_code (Refused (OutsideWindow address) line) = (omega arith, λ e. omega arith)
-load_code (Refused (CountMismatch stated seen) line) = (omega arith, λ e. omega arith)
-load_code (Refused StartConflict line) = (omega arith, λ e. omega arith)
-load_code (Refused BadTable line) = (omega arith, λ e. omega arith)
+load_code (Ok t) = (omega arith, λ e. omega arith)
+load_code (Err z) = why_code z.why z.line
 
 -- a refusal's code is not IHEX_OK
 refused_not_ok : (w : Refusal) → (refused_with w).code ≢ OK
@@ -190,7 +194,7 @@ not_taken l t page marks e = rw e
 said_by_code : (l : Light) (v : Verdict) (page marks : List ℕ) → said_after l (told_loading (answer_of (load_numbers v).code)) page marks ≡ said_after l v page marks
 said_by_code l (accepted t) page marks = said_accepted l page marks _ t
 said_by_code l (refused (refusal n vs) line) page marks =
-    ap (λ (b : Bool). said_after l (told_loading (if b then Accepted (record { records = 0; start = Unstated }) else Refused MissingEndOfFileRecord 0)) page marks) (ne_eqb (256 + n) 0 (λ e. omega arith))
+    ap (λ (b : Bool). said_after l (told_loading (if b then Ok (record { records = 0; start = None }) else refuse MissingEndOfFileRecord 0)) page marks) (ne_eqb (256 + n) 0 (λ e. omega arith))
     ∙ said_refused l page marks _ 0 ∙ sym (said_refused l page marks (refusal n vs) line)
 
 pub ihex_light_after_as_light : IhexLightAfterAsLight
@@ -214,11 +218,11 @@ ihex_light_after_as_light S src text l page marks r p m size x color' known y =
 
 -- an answer that is not taken says nothing of the count
 said_broken : (l : Light) (answer : Loading) (page marks : List ℕ) → (length page ≢ l.length) ⊎ (is_row (length page) marks ≡ false) → said_after l (told_loading answer) page marks ≡ refused_one
-said_broken l (Refused w line) page marks h = said_refused l page marks (loader_refusal w) line
-said_broken l (Accepted t) page marks h = go (eqb (length page) l.length) refl (is_row (length page) marks) refl h
+said_broken l (Err z) page marks h = said_refused l page marks (loader_refusal z.why) z.line
+said_broken l (Ok t) page marks h = go (eqb (length page) l.length) refl (is_row (length page) marks) refl h
   where
     go : (a : Bool) → eqb (length page) l.length ≡ a → (b : Bool) → is_row (length page) marks ≡ b → (length page ≢ l.length) ⊎ (is_row (length page) marks ≡ false)
-        → said_after l (told_loading (Accepted t)) page marks ≡ refused_one
+        → said_after l (told_loading (Ok t)) page marks ≡ refused_one
     go false e b f h = not_taken l (tallied t) page marks (rw e)
     go true e false f h = not_taken l (tallied t) page marks (rw (e, f))
     go true e true f (inl n) = absurd (n (eqb-true (length page) l.length e))
@@ -235,7 +239,7 @@ ihex_light_after_broken code l page marks color' known x h =
   where
     by : (code ≢ OK) ⊎ ((length page ≢ l.length) ⊎ (is_row (length page) marks ≡ false)) → said_after l (told_loading (answer_of code)) page marks ≡ refused_one
     by (inl n) =
-        ap (λ (b : Bool). said_after l (told_loading (if b then Accepted (record { records = 0; start = Unstated }) else Refused MissingEndOfFileRecord 0)) page marks) (ne_eqb code 0 n)
+        ap (λ (b : Bool). said_after l (told_loading (if b then Ok (record { records = 0; start = None }) else refuse MissingEndOfFileRecord 0)) page marks) (ne_eqb code 0 n)
         ∙ said_refused l page marks (loader_refusal MissingEndOfFileRecord) 0
     by (inr q) = said_broken l (answer_of code) page marks q
 
@@ -258,7 +262,7 @@ module _ (s : Stand) (carry : List ℕ) (first : ℕ) (stage stated : List ℕ) 
     where
       go : (b : Bool) → too_small (stands_for s) (length carry) ≡ b → (said : Said) × Unread (stands_for s) said carry stage stated step carry' stage' stated'
       go true e = (CarryTooSmall, h.small e)
-      go false e = (Decided (Refused BadWindow 0), h.bad_window e u)
+      go false e = (Decided (refuse BadWindow 0), h.bad_window e u)
 
   tested_first : TestedFirst s carry first stage stated s' r carry' stage' stated'
   tested_first =
@@ -268,7 +272,7 @@ module _ (s : Stand) (carry : List ℕ) (first : ℕ) (stage stated : List ℕ) 
         keeps = λ e. let (said, x) = unread_so e in (t.returns ∙ ap (λ (z : Step). z.listener) x.answer, x.carry_is, x.stage_is, x.stated_is);
       }
     where
-      go : r.code ≢ CARRY_TOO_SMALL → unfit first (length stage) (length stated) ≡ true → (b : Bool) → too_small (stands_for s) (length carry) ≡ b → r ≡ load_numbers (told_loading (Refused BadWindow 0))
+      go : r.code ≢ CARRY_TOO_SMALL → unfit first (length stage) (length stated) ≡ true → (b : Bool) → too_small (stands_for s) (length carry) ≡ b → r ≡ load_numbers (told_loading (refuse BadWindow 0))
       go n u true e = absurd (n (code_of t ∙ ap (λ (x : Said). (said_numbers x).code) (exactly.1 e)))
       go n u false e = t.numbers ∙ ap (λ (z : Step). said_numbers z.said) (h.bad_window e u).answer
 
@@ -324,9 +328,9 @@ module _ (stage stated page marks : List ℕ) (c : Committed) (page' marks' : Li
       go false q = let z = ap commit_code q in absurd (omega (arith, z, e))
 
 flags_stay : (flags : ℕ) (c : Committed) → commit_code c ≢ OK → flags_after flags c ≡ flags
-flags_stay flags (Done l) n = absurd (n refl)
-flags_stay flags NotReady n = refl
-flags_stay flags committed.BadWindow n = refl
+flags_stay flags (Ok l) n = absurd (n refl)
+flags_stay flags (Err NotReady) n = refl
+flags_stay flags (Err committed.BadWindow) n = refl
 
 pub ihex_commit_keeps : IhexCommitKeeps
 ihex_commit_keeps flags stage stated page marks code flags' page' marks' x =
@@ -382,12 +386,12 @@ is_ready SRecords = refl
 
 -- where the listener stands after a dump, by the code
 stands_after : (kind : Kind) (answer : Loading) (r : LoadNumbers) → r ≡ load_numbers (told_loading answer) → (r.code ≡ OK → stand (after kind answer) ≡ ready kind) × (r.code ≢ OK → stand (after kind answer) ≡ skipping kind)
-stands_after kind (Accepted t) r e = (λ _. refl, λ h. absurd (h (ap (λ (n : LoadNumbers). n.code) e)))
-stands_after kind (Refused w line) r e = (λ ok. absurd (refused_not_ok (loader_refusal w) (sym (ap (λ (n : LoadNumbers). n.code) e) ∙ ok)), λ _. tail_stands kind)
+stands_after kind (Ok t) r e = (λ _. refl, λ h. absurd (h (ap (λ (n : LoadNumbers). n.code) e)))
+stands_after kind (Err z) r e = (λ ok. absurd (refused_not_ok (loader_refusal z.why) (sym (ap (λ (n : LoadNumbers). n.code) e) ∙ ok)), λ _. tail_stands kind)
 
 stands_ended : (kind : Kind) (answer : Loading) (r : LoadNumbers) → r ≡ load_numbers (told_loading answer) → (r.code ≡ OK → stand (after_end kind answer) ≡ ready kind) × (r.code ≢ OK → stand (after_end kind answer) ≡ at_front kind)
-stands_ended kind (Accepted t) r e = (λ _. refl, λ h. absurd (h (ap (λ (n : LoadNumbers). n.code) e)))
-stands_ended kind (Refused w line) r e = (λ ok. absurd (refused_not_ok (loader_refusal w) (sym (ap (λ (n : LoadNumbers). n.code) e) ∙ ok)), λ _. front_stands kind)
+stands_ended kind (Ok t) r e = (λ _. refl, λ h. absurd (h (ap (λ (n : LoadNumbers). n.code) e)))
+stands_ended kind (Err z) r e = (λ ok. absurd (refused_not_ok (loader_refusal z.why) (sym (ap (λ (n : LoadNumbers). n.code) e) ∙ ok)), λ _. front_stands kind)
 
 -- ---- a dump
 
@@ -440,9 +444,9 @@ of_kind Hex text first page marks r p m x = x
 of_kind SRecords text first page marks r p m x = x
 
 -- an acceptance in numbers
-was_ok : (answer : Loading) (r : LoadNumbers) → r ≡ load_numbers (told_loading answer) → r.code ≡ OK → (t : Tally) × (answer ≡ Accepted t)
-was_ok (Accepted t) r e ok = (t, refl)
-was_ok (Refused w line) r e ok = absurd (refused_not_ok (loader_refusal w) (sym (ap (λ (n : LoadNumbers). n.code) e) ∙ ok))
+was_ok : (answer : Loading) (r : LoadNumbers) → r ≡ load_numbers (told_loading answer) → r.code ≡ OK → (t : Tally) × (answer ≡ Ok t)
+was_ok (Ok t) r e ok = (t, refl)
+was_ok (Err z) r e ok = absurd (refused_not_ok (loader_refusal z.why) (sym (ap (λ (n : LoadNumbers). n.code) e) ∙ ok))
 
 -- IHEX_OK decides
 ok_decides : (code : ℕ) → code ≡ OK → Decides code
@@ -461,7 +465,7 @@ ready_commit kind s l stage stated page marks code flags page' marks' e is c =
 
 -- what it returns once it is done
 done_code : (kind : Kind) (before : ℕ) (stage stated page marks : List ℕ) (code flags : ℕ) (page' marks' : List ℕ) → (c : IhexCommit before stage stated page marks code flags page' marks')
-    → c.committed ≡ Done (Front kind false) → (code ≡ OK) × (flags ≡ kind_flag kind)
+    → c.committed ≡ Ok (Front kind false) → (code ≡ OK) × (flags ≡ kind_flag kind)
 done_code kind before stage stated page marks code flags page' marks' c e =
     (c.answer ∙ ap commit_code e, c.flags_are ∙ ap (flags_after before) e ∙ ap (λ (x : Stand). x.flags) (front_stands kind))
 

@@ -17,8 +17,7 @@ use Rattle.writer.specs.Told.{ToldWritten, wrote, refuses}
 use Rattle.writer.specs.Text.{Text, chars, refused, place_behind, if_room}
 use Rattle.loader.specs.Load.{load}
 use Rattle.page.specs.declared.PageError.TheVariants.{BadWindow, BadMark, OutputFull}
-use Rattle.page.specs.declared.Paged.{Paged}
-use Rattle.page.specs.declared.Paged.TheVariants.{Wrote, Refused}
+use Rattle.page.specs.Aliases.{Paged}
 use Rattle.page.specs.File.{file, page_text}
 use Rattle.page.specs.Told.{told_page, WritePage}
 use Rattle.page.specs.Claims.{Why}
@@ -30,8 +29,9 @@ use Rattle.ihex.specs.Entries.{IhexWritePage}
 use Rattle.ihex.specs.Claims.{PageLoadsBack}
 use Rattle.ihex.specs.Pages.{OUTPUT_FULL, BAD_MARK, IhexWritePageReasons, IhexNoBadMark, IhexLengthAsWritten, IhexPageRoom, IhexLengthOfLengths, IhexUnmarkedBytes}
 use Rattle.codes.proofs.Says.{wrote_it}
+use Rattle.std.specs.Prelude.{Err, Ok}
 
-was_written : (first : ℕ) (page marks out : List ℕ) (n : ℕ) (out' : List ℕ) → IhexWritePage first page marks out 0 n out' → WritePage first page marks out (Wrote n) out'
+was_written : (first : ℕ) (page marks out : List ℕ) (n : ℕ) (out' : List ℕ) → IhexWritePage first page marks out 0 n out' → WritePage first page marks out (Ok n) out'
 was_written first page marks out n out' w =
     record { answer = wrote_it (if_room (place_behind (page_text first page marks) 0) (length out)) n w.code_is w.value_is; left = w.left }
 
@@ -48,14 +48,14 @@ page_loads_back first page marks out n out' old-page old-marks r page' marks' by
 paged : (first : ℕ) (page marks : List ℕ) (room : ℕ) → (r : Paged) × (told_page r ≡ if_room (place_behind (page_text first page marks) 0) room)
 paged first page marks room =
     text_cases first page marks (λ t. (r : Paged) × (told_page r ≡ if_room (place_behind t 0) room))
-    (λ w. (Refused BadWindow, refl)) (λ place w f. (Refused (BadMark place), refl))
+    (λ w. (Err BadWindow, refl)) (λ place w f. (Err (BadMark place), refl))
     (λ p. branch (λ (t : ToldWritten). (r : Paged) × (told_page r ≡ t)) (leb (0 + length (file first page marks)) room) _ _
-    (λ e. (Wrote (0 + length (file first page marks)), refl)) (λ e. (Refused OutputFull, refl)))
+    (λ e. (Ok (0 + length (file first page marks)), refl)) (λ e. (Err OutputFull, refl)))
 
 measured : (first : ℕ) (page marks : List ℕ) → (r : Paged) × (told_page r ≡ place_behind (page_text first page marks) 0)
 measured first page marks =
     text_cases first page marks (λ t. (r : Paged) × (told_page r ≡ place_behind t 0))
-    (λ w. (Refused BadWindow, refl)) (λ place w f. (Refused (BadMark place), refl)) (λ p. (Wrote (0 + length (file first page marks)), refl))
+    (λ w. (Err BadWindow, refl)) (λ place w f. (Err (BadMark place), refl)) (λ p. (Ok (0 + length (file first page marks)), refl))
 
 -- ---- the claims of `specs/Pages.antt`
 

@@ -16,7 +16,7 @@ use Rattle.record.specs.Meaning.{Meaning, data_at, end_of_file, extended_segment
 use Rattle.digits.proofs.Tests.{branch}
 use Rattle.reader.specs.declared.ReaderOptions.{ReaderOptions}
 use Rattle.reader.specs.declared.State.{State}
-use Rattle.reader.specs.declared.Reply.{Reply}
+use Rattle.reader.specs.Aliases.{Reply}
 use Rattle.reader.specs.Told.{Told, gives, refuses, done}
 use Rattle.reader.specs.Answer.{given, kept, answered, poured}
 use Rattle.reader.specs.Lines.{lines, a_line}

@@ -19,7 +19,6 @@ use Rattle.record.specs.Written.{kind_of, address_of, payload_of, Sayable}
 use Rattle.digits.proofs.Tests.{both_ways}
 use Rattle.digits.proofs.Pasting.{pasted_part}
 use Rattle.record.proofs.Writing.{reads_back}
-use Rattle.reader.specs.declared.Answer.TheVariants.{Read}
 use Rattle.reader.specs.Told.{gives, refuses, told}
 use Rattle.reader.specs.Answer.{given, kept, answered, poured}
 use Rattle.reader.specs.Row.{Numbered}
@@ -32,17 +31,18 @@ use Rattle.writer.proofs.Objects.{object_whole}
 use Rattle.page.specs.Spoken.{said_of, spoken}
 use Rattle.page.proofs.Spoken.{every_sayable, said_in, spoken_row}
 use Rattle.ihex.specs.RoundTrip.{Again, RoundTrip, HasRoom, WrittenReadsBack, RoomFor}
+use Rattle.std.specs.Prelude.{Ok}
 
 -- ---- the calls
 
 -- the record that a call is given for a meaning, with its payload in the pool
 given_again : (m : Meaning) (pool : List ℕ) (at : ℕ) → is_full (given m (length pool) at) ≡ false
-    → (r : Record) × (given m (length pool) at ≡ told (Read r)) × (meant r (kept m pool at) ≡ m)
+    → (r : Record) × (given m (length pool) at ≡ told (Ok r)) × (meant r (kept m pool at) ≡ m)
 unfolding is_full given kept
 given_again (data_at offset bytes) pool at h = room_or_not (leb (at + length bytes) (length pool)) refl h
   where
     room_or_not : (b : Bool) → leb (at + length bytes) (length pool) ≡ b → is_full (if b then gives 0 (offset ∷ at ∷ length bytes ∷ []) else refuses pool_full) ≡ false
-        → (r : Record) × ((if b then gives 0 (offset ∷ at ∷ length bytes ∷ []) else refuses pool_full) ≡ told (Read r)) × (meant r (if b then pasted pool at bytes else pool) ≡ data_at offset bytes)
+        → (r : Record) × ((if b then gives 0 (offset ∷ at ∷ length bytes ∷ []) else refuses pool_full) ≡ told (Ok r)) × (meant r (if b then pasted pool at bytes else pool) ≡ data_at offset bytes)
     room_or_not true e h =
         let fits : at + length bytes ≤ length pool = leb-true (at + length bytes) (length pool) e in
         (Data offset at (length bytes), refl, ap (data_at offset) (pasted_part pool at bytes fits))

@@ -9,15 +9,15 @@ use native.Mathlib.Omega.{arith}
 use lib.Dec.{eqb}
 use lib.ListN.{drop}
 use Rattle.std.specs.Prelude.{if◌then◌else◌}
-use Rattle.steps.specs.declared.Loading.{Loading}
+use Rattle.steps.specs.Aliases.{Loading}
 use Rattle.steps.specs.Told.{told_loading}
-use Rattle.intake_tail.specs.declared.Kind.{Kind}
-use Rattle.intake_tail.specs.declared.Kind.TheVariants.{Hex, SRecords}
-use Rattle.intake_tail.specs.declared.Intake.{Intake}
+use Rattle.intake.specs.declared.Kind.{Kind}
+use Rattle.intake.specs.declared.Kind.TheVariants.{Hex, SRecords}
+use Rattle.intake.specs.declared.Intake.{Intake}
 use Rattle.listen.specs.declared.Listener.{Listener}
 use Rattle.listen.specs.declared.Listener.TheVariants.{Front, Within, Ready}
-use Rattle.listen.specs.declared.Committed.{Committed}
-use Rattle.listen.specs.declared.Committed.TheVariants as committed
+use Rattle.listen.specs.Aliases.{Committed}
+use Rattle.listen.specs.declared.CommitError.TheVariants as committed
 use Rattle.listen.specs.Listener.{begins, Commits}
 use Rattle.listen.specs.Calls as calls
 use Rattle.listen.specs.Calls.{Calls}
@@ -29,14 +29,15 @@ use Rattle.codes.specs.Listeners.{kind_of, kind_flag, intake_of, listener_of, st
 use Rattle.ihex.specs.Listening.{IhexFeed, IhexCommit, flags_after}
 use Rattle.ihex.specs.Streams.{with_flags, IhexCalls, none_yet, going_on, deciding, committing, first_stand, IhexCallsListen}
 use Rattle.ihex.proofs.Listeners.{wants, passes, code_of, which, front_stands}
+use Rattle.std.specs.Prelude.{Err, Ok}
 
 -- ---- a commit
 
 -- a commit that returns IHEX_OK is done
-was_done : (c : Committed) → commit_code c ≡ OK → (l : Listener) × (c ≡ committed.Done l)
-was_done (committed.Done l) e = (l, refl)
-was_done committed.NotReady e = absurd (omega arith)
-was_done committed.BadWindow e = absurd (omega arith)
+was_done : (c : Committed) → commit_code c ≡ OK → (l : Listener) × (c ≡ Ok l)
+was_done (Ok l) e = (l, refl)
+was_done (Err committed.NotReady) e = absurd (omega arith)
+was_done (Err committed.BadWindow) e = absurd (omega arith)
 
 -- the flags alone say that a dump is ready
 ready_by_flags : (s : Stand) (k : Kind) → listener_of s.flags 0 0 0 0 0 0 ≡ Ready k → stands_for s ≡ Ready k
@@ -55,15 +56,15 @@ front_by_flags SRecords flags s e = rw e
 
 -- what a commit with IHEX_OK comes to
 commits_so : (s : Stand) (stage stated page marks : List ℕ) (code flags : ℕ) (page' marks' : List ℕ) → IhexCommit s.flags stage stated page marks code flags page' marks' → code ≡ OK
-    → (l : Listener) × Commits (stands_for s) stage stated page marks (committed.Done l) page' marks' × (stands_for (with_flags flags s) ≡ l)
+    → (l : Listener) × Commits (stands_for s) stage stated page marks (Ok l) page' marks' × (stands_for (with_flags flags s) ≡ l)
 commits_so s stage stated page marks code flags page' marks' c ok =
     let (l, done) = was_done c.committed (sym c.answer ∙ ok) in
     let before = listener_of s.flags 0 0 0 0 0 0 in
-    let there : Commits before stage stated page marks (committed.Done l) page' marks' = subst (λ (y : Committed). Commits before stage stated page marks y page' marks') done c.commits in
+    let there : Commits before stage stated page marks (Ok l) page' marks' = subst (λ (y : Committed). Commits before stage stated page marks y page' marks') done c.commits in
     let (k, ready, front) = done_so before stage stated page marks l page' marks' there in
-    let left : flags ≡ kind_flag k = c.flags_are ∙ ap (flags_after s.flags) (done ∙ ap committed.Done front) ∙ ap (λ (y : Stand). y.flags) (front_stands k) in (
+    let left : flags ≡ kind_flag k = c.flags_are ∙ ap (flags_after s.flags) (done ∙ ap Ok front) ∙ ap (λ (y : Stand). y.flags) (front_stands k) in (
       l,
-      subst (λ (y : Listener). Commits y stage stated page marks (committed.Done l) page' marks') (ready ∙ sym (ready_by_flags s k ready)) there,
+      subst (λ (y : Listener). Commits y stage stated page marks (Ok l) page' marks') (ready ∙ sym (ready_by_flags s k ready)) there,
       front_by_flags k flags s left ∙ sym front,
     )
 

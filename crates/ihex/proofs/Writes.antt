@@ -13,7 +13,6 @@ use Rattle.digits.specs.Common.{pasted}
 use Rattle.std.specs.Prelude.{if◌then◌else◌}
 use Rattle.record.specs.Refusals.{output_full}
 use Rattle.record.specs.declared.Record.{Record}
-use Rattle.writer.specs.declared.Written.TheVariants.{Wrote}
 use Rattle.writer.specs.Told.{ToldWritten, wrote, refuses}
 use Rattle.writer.specs.Text.{Text, chars, refused, place_behind, if_room, Writes}
 use Rattle.writer.specs.Line.{line_text}
@@ -34,9 +33,10 @@ use Rattle.codes.specs.Codes.{OK, BAD_RECORD, writing}
 use Rattle.codes.proofs.Says.{wrote_it}
 use Rattle.ihex.specs.Entries.{WroteText}
 use Rattle.ihex.specs.Writes.{NothingAfterTheLength, RefusalKeepsOutput, WriteReasoned, IhexToRecordStringReasons, IhexToSrecordStringReasons, IhexToSrecordStringBad, IhexCreateObjectReasons}
+use Rattle.std.specs.Prelude.{Ok}
 
 -- so a text that is there was written
-pub as_written : (t : Text) (out : List ℕ) (n : ℕ) (out' : List ℕ) → WroteText (some t) out OK n out' → Writes t out 0 (Wrote n) out'
+pub as_written : (t : Text) (out : List ℕ) (n : ℕ) (out' : List ℕ) → WroteText (some t) out OK n out' → Writes t out 0 (Ok n) out'
 as_written t out n out' x = record { answer = wrote_it (if_room (place_behind t 0) (length out)) n x.code_is x.value_is; left = x.left }
 
 pub nothing_after_the_length : NothingAfterTheLength

@@ -16,7 +16,7 @@ use Rattle.chunks.specs.declared.Place.TheVariants.{Nowhere, InChunk, InCarry}
 use Rattle.chunks.specs.Next.{word_of, Outcome, at_place, next_outcome, finish_outcome}
 use Rattle.srec.specs.Line as s-line
 use Rattle.srec.specs.Answer as s-answer
-use Rattle.steps.specs.declared.Loading.{Loading}
+use Rattle.steps.specs.Aliases.{Loading}
 use Rattle.steps.specs.Told.{told_loading}
 use Rattle.steps.specs.Source.{Source}
 use Rattle.window.specs.Table.{fits}

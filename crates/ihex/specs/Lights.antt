@@ -12,13 +12,13 @@ use Rattle.window.specs.Window.{one_window}
 use Rattle.intel.specs.Placing.{intel}
 use Rattle.srecload.specs.Placing.{s_records}
 use Rattle.light.specs.declared.Light.{Light}
-use Rattle.light.specs.declared.Made.TheVariants as made
 use Rattle.light.specs.Colors.{Color, no_count, Outcome, counted, forward, colors}
 use Rattle.light.specs.Light.{told_count, made_of}
 use Rattle.light.specs.Claims.{said, Kind, hex, srecords, steps_by, EachShows, StatesCount, MeansGreen, EachGreen, StatesBy}
 use Rattle.codes.specs.Codes.{OK, load_numbers}
 use Rattle.codes.specs.Lights.{color_number, GREEN, BROKEN, count_number, light_of, BAD_PLACE}
 use Rattle.ihex.specs.Entries.{IhexLoadBy, IhexSetUpLight, LightNumbers, lit, IhexLightBy, IhexLight, IhexLightSrecords}
+use Rattle.std.specs.Prelude.{Some}
 
 -- ---- set-up
 
@@ -31,7 +31,7 @@ IhexSetUpLightExactly =
 abbrev pub IhexSetUpLightMakes : Type 0
 IhexSetUpLightMakes =
     (first length high low r known : ℕ) → IhexSetUpLight first length high low r known → r ≢ BAD_PLACE
-    → (r ≡ OK) × (made_of first length high low ≡ made.Light (light_of first length high low known))
+    → (r ≡ OK) × (made_of first length high low ≡ Some (light_of first length high low known))
 
 abbrev pub IhexSetUpLightUnique : Type 0
 IhexSetUpLightUnique =

@@ -9,10 +9,10 @@ use Rattle.steps.specs.Steps.{Verdict, refused, by}
 use Rattle.steps.specs.Source.{Source}
 use Rattle.window.specs.Window.{unfit}
 use Rattle.window.specs.Load.{stopping_by_window, load_window}
-use Rattle.intake_tail.specs.declared.Kind.{Kind}
-use Rattle.intake_tail.specs.declared.Kind.TheVariants.{Hex, SRecords}
-use Rattle.intake_tail.specs.Ways.{way_of}
-use Rattle.intake_tail.specs.Rows.{FirstEnd, PassedThrough}
+use Rattle.intake.specs.declared.Kind.{Kind}
+use Rattle.intake.specs.declared.Kind.TheVariants.{Hex, SRecords}
+use Rattle.intake.specs.Ways.{way_of}
+use Rattle.intake.specs.Rows.{FirstEnd, PassedThrough}
 use Rattle.light.specs.declared.Light.{Light}
 use Rattle.light.specs.Light.{told_count}
 use Rattle.light.specs.After.{is_row}

@@ -7,13 +7,14 @@ use Rattle.light.specs.Light.{told_color, told_count}
 use Rattle.light.specs.After.{After}
 use Rattle.listen.specs.declared.Listener.{Listener}
 use Rattle.listen.specs.declared.Step.{Step}
-use Rattle.listen.specs.declared.Committed.{Committed}
-use Rattle.listen.specs.declared.Committed.TheVariants as committed
+use Rattle.listen.specs.Aliases.{Committed}
+use Rattle.listen.specs.declared.CommitError.TheVariants as committed
 use Rattle.listen.specs.Listener.{Hears, Pauses, Commits}
 use Rattle.codes.specs.declared.Stand.{Stand}
 use Rattle.codes.specs.Codes.{LoadNumbers}
 use Rattle.codes.specs.Lights.{color_number, count_number}
 use Rattle.codes.specs.Listeners.{listener_of, stand, stands_for, said_numbers, commit_code, answer_of}
+use Rattle.std.specs.Prelude.{Err, Ok}
 
 -- a listener in seven numbers
 abbrev pub seven : (flags skipped base begin lines used records : ℕ) → Stand
@@ -41,9 +42,9 @@ pub record IhexPause (l : Listener) (carry : List ℕ) (first : ℕ) (stage stat
 
 -- the flags after a commit: they stay unless it was done
 abbrev pub flags_after : (flags : ℕ) → Committed → ℕ
-flags_after flags (committed.Done l) = (stand l).flags
-flags_after flags committed.NotReady = flags
-flags_after flags committed.BadWindow = flags
+flags_after flags (Ok l) = (stand l).flags
+flags_after flags (Err committed.NotReady) = flags
+flags_after flags (Err committed.BadWindow) = flags
 
 -- a dump was committed, if one was ready: of the listener the flags alone are read
 pub record IhexCommit (flags : ℕ) (stage stated page marks : List ℕ) (r flags' : ℕ) (page' marks' : List ℕ) : Type 0 where

@@ -6,11 +6,9 @@ use Rattle.digits.specs.Common.{Every, Byte}
 use Rattle.record.specs.declared.Record.{Record}
 use Rattle.record.specs.Record.{meant}
 use Rattle.record.specs.Meaning.{Meaning, data_at, end_of_file, extended_segment, start_segment, extended_linear, start_linear}
-use Rattle.reader.specs.declared.Answer.TheVariants.{Read}
 use Rattle.reader.specs.Told.{done, told}
 use Rattle.reader.specs.Text.{default_options, new_state}
 use Rattle.reader.specs.Calls.{Call, Given, NeverFull, Calls}
-use Rattle.writer.specs.declared.Written.TheVariants.{Wrote}
 use Rattle.writer.specs.Text.{chars}
 use Rattle.writer.specs.Object.{object, WriteObject}
 use Rattle.writer.specs.Claims.{InRange}
@@ -19,6 +17,7 @@ use Rattle.entries.specs.Entry.{records_of}
 use Rattle.ihex.specs.Entries.{IhexCreateObjectFileRepresentation}
 use Rattle.ihex.specs.Calls.{Returned}
 use Rattle.ihex.specs.Readings.{FromTheBeginning}
+use Rattle.std.specs.Prelude.{Ok}
 
 -- calls were given these records, each with the same numbers and payload, and then "done"
 abbrev pub Again : List Record → (pool : List ℕ) → List Call → List Given → Type 0
@@ -27,7 +26,7 @@ Again rs pool [] (g ∷ gs) = ⊥
 Again rs pool (call ∷ calls) [] = ⊥
 Again [] pool (call ∷ calls) (g ∷ gs) = (g.told ≡ done) × Again [] pool calls gs
 Again (r ∷ rs) pool (call ∷ calls) (g ∷ gs) =
-    ((r' : Record) × (g.told ≡ told (Read r')) × (meant r' g.pool ≡ meant r pool)) × Again rs pool calls gs
+    ((r' : Record) × (g.told ≡ told (Ok r')) × (meant r' g.pool ≡ meant r pool)) × Again rs pool calls gs
 
 -- with both stops on, and room in the pool: no call is told PoolFull
 abbrev pub RoundTrip : Type 0
@@ -54,7 +53,7 @@ HasRoom (r ∷ rs) pool (call ∷ calls) = RoomFor (meant r pool) call × HasRoo
 -- the n bytes that a writer of an object says it wrote, read with both stops on and room in the pools: the same records with the same payloads, then "done"
 abbrev pub WrittenReadsBack : Type 0
 WrittenReadsBack =
-    (rs : List Record) (pool out : List ℕ) (n : ℕ) (out' : List ℕ) → Every InRange rs → Every Byte pool → length out < 2 ^ 64 → WriteObject rs pool out (Wrote n) out'
+    (rs : List Record) (pool out : List ℕ) (n : ℕ) (out' : List ℕ) → Every InRange rs → Every Byte pool → length out < 2 ^ 64 → WriteObject rs pool out (Ok n) out'
     → (calls : List Call) (givens : List Given) → HasRoom rs pool calls
     → Calls (take n out') (new_state default_options) calls givens → Again rs pool calls givens
 
@@ -67,7 +66,7 @@ ReturnedAgain rs pool [] (g ∷ gs) = ⊥
 ReturnedAgain rs pool (call ∷ calls) [] = ⊥
 ReturnedAgain [] pool (call ∷ calls) (g ∷ gs) = (g.code ≡ DONE) × ReturnedAgain [] pool calls gs
 ReturnedAgain (r ∷ rs) pool (call ∷ calls) (g ∷ gs) =
-    ((r' : Record) × Numbers (reading (told (Read r'))) g.code g.a g.b g.c × (meant r' g.pool ≡ meant r pool)) × ReturnedAgain rs pool calls gs
+    ((r' : Record) × Numbers (reading (told (Ok r'))) g.code g.a g.b g.c × (meant r' g.pool ≡ meant r pool)) × ReturnedAgain rs pool calls gs
 
 -- where `ihex_create_object_file_representation` returns IHEX_OK and n, its list is records, and the n bytes read by `ihex_next` with both
 -- stops on and room in the pools are the same records with the same payloads, then IHEX_DONE

@@ -4,8 +4,8 @@ use Rattle.std.specs.Prelude.{ℕ, suc, ◌^◌, ◌<◌, ◌≡◌, ◌⊎◌, 
 use Rattle.std.specs.Prelude.{if◌then◌else◌}
 use Rattle.reader.specs.Lines.{lines}
 use Rattle.window.specs.Window.{unfit, within}
-use Rattle.intake_tail.specs.declared.Kind.{Kind}
-use Rattle.intake_tail.specs.Ways.{way_of}
+use Rattle.intake.specs.declared.Kind.{Kind}
+use Rattle.intake.specs.Ways.{way_of}
 use Rattle.listen.specs.Listen.{Mode, Saying, first as saying-first, listen}
 use Rattle.listen.specs.Calls.{verdict_of, first_mode}
 use Rattle.codes.specs.declared.Stand.{Stand}

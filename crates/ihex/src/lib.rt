@@ -9,7 +9,7 @@ ghost use Rattle.ihex.specs.Listening.{seven, TellSaid, IhexFeed, IhexPause, fla
 ghost use Rattle.ihex.specs.Entries.{start_of, six, TellStep, IhexReadRecord, IhexReadSrecord, IhexNext, IhexNextChunk, IhexFinish, IhexShown, IhexToRecordString, IhexToSrecordString, IhexCreateObjectFileRepresentation, TellLoad, IhexLoad, IhexLoadSrecords, IhexLoadTable, IhexLoadSrecordsTable, IhexCheckTable, IhexPageFileLength, IhexWritePage, IhexSalvage, asked_in, IhexAsk, lit, TellLight, IhexSetUpLight, IhexLight, IhexLightSrecords};
 
 use chunks::{ChunkStep, Place};
-use light::{Count, Dumped};
+use light::Dumped;
 use listen::{Committed, Step};
 use steps::Loading;
 
@@ -79,15 +79,14 @@ pub extern "C" fn ihex_next(
     *position = state.position;
     *line = state.line;
     *flags = codes::flags_from(state);
-    let reply = step.reply;
-    let told = codes::code_reply(reply);
+    let told = codes::code_reply(step.reply);
     *a = told.a;
     *b = told.b;
     *c = told.c;
     told.code
 }
 
-// A step of a reader of chunks, in numbers.
+// A step of a reader of chunks, in numbers. Here and below each number goes out through a pointer of its own, as the C interface has it.
 fn tell_step(
     step: ChunkStep,
     position: &mut usize,
@@ -105,13 +104,11 @@ fn tell_step(
 ) -> u32
     ensures { TellStep step result position.new line.new empties.new used.new skipped.new flags.new lies.new from.new len.new a.new b.new c.new }
 {
-    let reply = step.reply;
-    let told = codes::code_chunk_reply(reply);
+    let told = codes::code_chunk_reply(step.reply);
     *a = told.a;
     *b = told.b;
     *c = told.c;
-    let place = step.lies;
-    let spot = codes::spot_of(place);
+    let spot = codes::spot_of(step.lies);
     *lies = spot.lies;
     *from = spot.from;
     *len = spot.len;
@@ -187,14 +184,8 @@ fn start_at(place: Place, chunk: &[u8]) -> usize
     ensures { result ≡ start_of place chunk.now }
 {
     match place {
-        Place::InChunk { from, len: _ } => {
-            if from > chunk.len() {
-                return 0;
-            }
-            from
-        }
-        Place::InCarry { len: _ } => 0,
-        Place::Nowhere => 0,
+        Place::InChunk { from, .. } if from <= chunk.len() => from,
+        _ => 0,
     }
 }
 
@@ -212,8 +203,7 @@ pub extern "C" fn ihex_shown<'a>(
 {
     let place = codes::place_from(lies, from, len);
     *start = start_at(place, chunk);
-    let line = chunks::shown(place, chunk, carry);
-    line.len()
+    chunks::shown(place, chunk, carry).len()
 }
 
 // A record, given in numbers, to its line.
@@ -452,7 +442,7 @@ pub extern "C" fn ihex_set_up_light(
 ) -> u32
     ensures { IhexSetUpLight first length high low result known.new }
 {
-    *known = codes::count_number(Count::Unknown);
+    *known = codes::count_number(None);
     codes::code_made(light::set_up(first, length, high, low))
 }
 
@@ -469,13 +459,9 @@ fn tell_light(
 ) -> u32
     ensures { TellLight dumped (lit (six result line.new start.new a.new b.new c.new) color.new known.new) }
 {
-    let light = dumped.light;
-    let count = light.known;
-    *known = codes::count_number(count);
-    let shown = dumped.color;
-    *color = codes::color_number(shown);
-    let answer = dumped.answer;
-    tell_load(answer, line, start, a, b, c)
+    *known = codes::count_number(dumped.light.known);
+    *color = codes::color_number(dumped.color);
+    tell_load(dumped.answer, line, start, a, b, c)
 }
 
 // A dump into a page with marks, and what the light shows after it.
@@ -546,8 +532,7 @@ fn tell_said(
 ) -> u32
     ensures { TellSaid step (seven flags.new skipped.new base.new begin.new lines.new used.new records.new) (six result line.new start.new a.new b.new c.new) }
 {
-    let listener = step.listener;
-    let stand = codes::stand_of(listener);
+    let stand = codes::stand_of(step.listener);
     *flags = stand.flags;
     *skipped = stand.skipped;
     *base = stand.base;
@@ -555,10 +540,9 @@ fn tell_said(
     *lines = stand.lines;
     *used = stand.used;
     *records = stand.records;
-    let said = step.said;
-    *line = codes::said_line(said);
-    *start = codes::said_start(said);
-    let told = codes::code_said(said);
+    *line = codes::said_line(step.said);
+    *start = codes::said_start(step.said);
+    let told = codes::code_said(step.said);
     *a = told.a;
     *b = told.b;
     *c = told.c;
@@ -631,12 +615,8 @@ fn flags_after(flags: u8, committed: Committed) -> u8
     ensures { result ≡ flags_after flags committed }
 {
     match committed {
-        Committed::Done(listener) => {
-            let stand = codes::stand_of(listener);
-            stand.flags
-        }
-        Committed::NotReady => flags,
-        Committed::BadWindow => flags,
+        Ok(listener) => codes::stand_of(listener).flags,
+        Err(_) => flags,
     }
 }
 
@@ -676,9 +656,6 @@ pub extern "C" fn ihex_light_after(
         page,
         marks,
     );
-    let light = dumped.light;
-    let count = light.known;
-    *known = codes::count_number(count);
-    let shown = dumped.color;
-    codes::color_number(shown)
+    *known = codes::count_number(dumped.light.known);
+    codes::color_number(dumped.color)
 }

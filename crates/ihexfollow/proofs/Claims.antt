@@ -10,7 +10,7 @@ use Rattle.record.specs.Line.{Said, says, wrong, judge}
 use Rattle.record.specs.Meaning.{Meaning, data_at, end_of_file, extended_segment, start_segment, extended_linear, start_linear, meaning}
 use Rattle.digits.proofs.Tests.{branch, if_false}
 use Rattle.record.proofs.Standing.{Stands, stands, fault_few}
-use Rattle.reader.specs.declared.Reply.{Reply}
+use Rattle.reader.specs.Aliases.{Reply}
 use Rattle.reader.specs.Told.{Told, gives, refuses, done}
 use Rattle.reader.specs.Answer.{fits_pool, given, answered, poured}
 use Rattle.reader.specs.Lines.{lines}

@@ -1,8 +1,7 @@
 -- Where the program begins, which call it makes, and what it makes of the chunk reader's replies.
 -- Assumes nothing.
 use Rattle.std.specs.Prelude.{◌≡◌, ℕ, Bool, true, false, List, [], ◌∷◌}
-use Rattle.reader.specs.declared.Reply.{Reply}
-use Rattle.reader.specs.declared.Reply.TheVariants as reply
+use Rattle.reader.specs.Aliases.{Reply}
 use Rattle.chunks.specs.declared.Chunks.{Chunks}
 use Rattle.chunks.specs.declared.ChunkReply.{ChunkReply}
 use Rattle.chunks.specs.declared.ChunkReply.TheVariants.{Read, Refused, UsedUp, Done, CarryTooSmall}
@@ -11,14 +10,15 @@ use Rattle.chunks.specs.Next.{new_chunks, NextChunk, Finish}
 use Rattle.listing.specs.Listing.{listing_options}
 use Rattle.listing.specs.Status.{no_line}
 use Rattle.ihexfollow.specs.declared.Progress.{Progress}
+use Rattle.std.specs.Prelude.{Err, None, Ok, Some}
 
 -- the reply that is listed; "done" where a call gave no answer
 abbrev pub reply_of : ChunkReply → Reply
-reply_of (Read r) = reply.Read r
-reply_of (Refused e) = reply.Refused e
-reply_of UsedUp = reply.Done
-reply_of Done = reply.Done
-reply_of CarryTooSmall = reply.Done
+reply_of (Read r) = Some (Ok r)
+reply_of (Refused e) = Some (Err e)
+reply_of UsedUp = None
+reply_of Done = None
+reply_of CarryTooSmall = None
 
 -- a record or a refused line
 abbrev pub is_answer : ChunkReply → Bool

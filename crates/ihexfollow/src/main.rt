@@ -4,7 +4,7 @@ ghost use Rattle.std.specs.Prelude.{◌≡◌, length};
 ghost use Rattle.ihexfollow.specs.Replies.{reply_of, is_answer, is_used_up, Asks, Begins};
 
 use chunks::{ChunkReply, ChunkStep, Chunks};
-use listing::{Listed, Verdict};
+use listing::Verdict;
 use reader::Reply;
 use std::env::{Env, FillError};
 use std::fs::OpenOptions;
@@ -22,16 +22,21 @@ const FAILED: u8 = 2;
 // What the process ends with where nobody reads its output any more: what a shell says of a program that SIGPIPE ended.
 const NOBODY_READS: u8 = 141;
 
-// Where the reader stands, what the answers so far come to and how many there are, whether the input may hold more, whether every
-// read went well, and whether every write did.
+// Why the listing ends too soon: the input cannot be read, the output cannot be written, or nobody reads it any more.
+#[derive(Clone, Copy)]
+enum Failure {
+    CannotRead,
+    CannotWrite,
+    NobodyReads,
+}
+
+// Where the reader stands, what the answers so far come to and how many there are, and whether the input may hold more.
 #[derive(Clone, Copy)]
 struct Progress {
     state: Chunks,
     verdict: Verdict,
     count: usize,
     more: bool,
-    read: bool,
-    written: bool,
 }
 
 // Space for a chunk of the input, for what is left of a line, for a payload or for a line of the listing.
@@ -41,45 +46,36 @@ fn buffer() -> [u8; 4096]
     [0; 4096]
 }
 
-// Prints bytes, and answers whether that went well. An error says that nobody reads them.
-fn print(rt: &impl Print, bytes: &[u8]) -> io::Result<bool> {
+// Prints bytes.
+fn print(rt: &impl Print, bytes: &[u8]) -> Result<(), Failure> {
     match rt.write_all(bytes) {
-        Ok(()) => Ok(true),
-        Err(e) => {
-            if e.kind() == ErrorKind::BrokenPipe {
-                return Err(e);
-            }
-            Ok(false)
-        }
+        Ok(()) => Ok(()),
+        Err(e) if e.kind() == ErrorKind::BrokenPipe => Err(Failure::NobodyReads),
+        Err(_) => Err(Failure::CannotWrite),
     }
 }
 
-// Prints what was listed, and answers whether that went well.
-fn say(rt: &impl Print, listed: Listed, out: &[u8]) -> io::Result<bool> {
+// Prints what was listed.
+fn say(rt: &impl Print, listed: Option<usize>, out: &[u8]) -> Result<(), Failure> {
     match listed {
-        Listed::Wrote(n) => {
-            if n > out.len() {
-                return Ok(false);
-            }
-            print(rt, &out[0..n])
-        }
-        Listed::NoRoom => Ok(false),
+        Some(n) if n <= out.len() => print(rt, &out[..n]),
+        _ => Err(Failure::CannotWrite),
     }
 }
 
-fn say_first(rt: &impl Print) -> io::Result<bool> {
+fn say_first(rt: &impl Print) -> Result<(), Failure> {
     let mut out = buffer();
     let listed = listing::list_first(&mut out);
     say(rt, listed, &out)
 }
 
-fn say_reply(rt: &impl Print, reply: Reply, pool: &[u8]) -> io::Result<bool> {
+fn say_reply(rt: &impl Print, reply: Reply, pool: &[u8]) -> Result<(), Failure> {
     let mut out = buffer();
     let listed = listing::list_reply(reply, pool, &mut out);
     say(rt, listed, &out)
 }
 
-fn say_last(rt: &impl Print, count: usize) -> io::Result<bool> {
+fn say_last(rt: &impl Print, count: usize) -> Result<(), Failure> {
     let mut out = buffer();
     let listed = listing::list_last(count, &mut out);
     say(rt, listed, &out)
@@ -90,11 +86,9 @@ fn reply_of(reply: ChunkReply) -> Reply
     ensures { result ≡ reply_of reply }
 {
     match reply {
-        ChunkReply::Read(given) => Reply::Read(given),
-        ChunkReply::Refused(e) => Reply::Refused(e),
-        ChunkReply::UsedUp => Reply::Done,
-        ChunkReply::Done => Reply::Done,
-        ChunkReply::CarryTooSmall => Reply::Done,
+        ChunkReply::Read(given) => Some(Ok(given)),
+        ChunkReply::Refused(e) => Some(Err(e)),
+        ChunkReply::UsedUp | ChunkReply::Done | ChunkReply::CarryTooSmall => None,
     }
 }
 
@@ -102,33 +96,21 @@ fn reply_of(reply: ChunkReply) -> Reply
 fn is_answer(reply: ChunkReply) -> bool
     ensures { result ≡ is_answer reply }
 {
-    match reply {
-        ChunkReply::Read(_) => true,
-        ChunkReply::Refused(_) => true,
-        ChunkReply::UsedUp => false,
-        ChunkReply::Done => false,
-        ChunkReply::CarryTooSmall => false,
-    }
+    matches!(reply, ChunkReply::Read(_) | ChunkReply::Refused(_))
 }
 
 // Whether the next chunk is asked for.
 fn is_used_up(reply: ChunkReply) -> bool
     ensures { result ≡ is_used_up reply }
 {
-    match reply {
-        ChunkReply::UsedUp => true,
-        ChunkReply::Read(_) => false,
-        ChunkReply::Refused(_) => false,
-        ChunkReply::Done => false,
-        ChunkReply::CarryTooSmall => false,
-    }
+    matches!(reply, ChunkReply::UsedUp)
 }
 
 // Asks for the next answer of a chunk. One of no bytes says that the input has ended.
 fn ask(state: Chunks, chunk: &[u8], carry: &mut [u8], pool: &mut [u8]) -> ChunkStep
     ensures { Asks state chunk.now carry.old pool.old result carry.new pool.new }
 {
-    if chunk.len() == 0 {
+    if chunk.is_empty() {
         return state.finish(carry, pool, 0);
     }
     state.next(chunk, carry, pool, 0)
@@ -141,37 +123,21 @@ fn take(
     chunk: &[u8],
     carry: &mut [u8],
     pool: &mut [u8],
-) -> io::Result<Progress> {
-    let mut state = start.state;
-    let mut verdict = start.verdict;
-    let mut count = start.count;
-    let mut more = false;
-    let mut written = false;
+) -> Result<Progress, Failure> {
+    let mut progress = start;
     for _ in 0..u64::MAX {
-        let step = ask(state, chunk, carry, pool);
-        let reply = step.reply;
-        let next = step.state;
-        state = next;
-        if !is_answer(reply) {
-            more = is_used_up(reply);
-            written = true;
-            break;
+        let step = ask(progress.state, chunk, carry, pool);
+        progress.state = step.state;
+        if !is_answer(step.reply) {
+            progress.more = is_used_up(step.reply);
+            return Ok(progress);
         }
-        let answer = reply_of(reply);
-        if !say_reply(rt, answer, pool)? {
-            break;
-        }
-        verdict = listing::verdict_after(verdict, answer);
-        count = std::num::wrapping_add_usize(count, 1);
+        let answer = reply_of(step.reply);
+        say_reply(rt, answer, pool)?;
+        progress.verdict = listing::verdict_after(progress.verdict, answer);
+        progress.count = progress.count.wrapping_add(1);
     }
-    Ok(Progress {
-        state,
-        verdict,
-        count,
-        more,
-        read: true,
-        written,
-    })
+    Err(Failure::CannotWrite)
 }
 
 // Reads once, as much as is there, and prints its answers. A read of no bytes is the input's end.
@@ -181,23 +147,12 @@ fn read_on(
     start: Progress,
     carry: &mut [u8],
     pool: &mut [u8],
-) -> io::Result<Progress> {
+) -> Result<Progress, Failure> {
     let mut chunk = buffer();
-    match from.read(&mut chunk) {
-        Ok(n) => take(rt, start, &chunk[..n], carry, pool),
-        Err(_) => {
-            let state = start.state;
-            let verdict = start.verdict;
-            Ok(Progress {
-                state,
-                verdict,
-                count: start.count,
-                more: false,
-                read: false,
-                written: true,
-            })
-        }
-    }
+    let Ok(n) = from.read(&mut chunk) else {
+        return Err(Failure::CannotRead);
+    };
+    take(rt, start, &chunk[..n], carry, pool)
 }
 
 fn begin() -> Progress
@@ -211,8 +166,6 @@ fn begin() -> Progress
         },
         count: 0,
         more: true,
-        read: true,
-        written: true,
     }
 }
 
@@ -222,7 +175,7 @@ fn follow(
     from: &mut impl Read,
     carry: &mut [u8],
     pool: &mut [u8],
-) -> io::Result<Progress> {
+) -> Result<Progress, Failure> {
     let mut progress = begin();
     for _ in 0..u64::MAX {
         progress = read_on(rt, from, progress, carry, pool)?;
@@ -242,34 +195,19 @@ fn fail(rt: &impl Eprint, what: &str) -> u8
 }
 
 // Prints the listing, and returns its status.
-fn show(rt: &(impl Print + Eprint), from: &mut impl Read) -> io::Result<u8> {
-    if !say_first(rt)? {
-        return Ok(fail(rt, "cannot write\n"));
-    }
+fn show(rt: &impl Print, from: &mut impl Read) -> Result<u8, Failure> {
+    say_first(rt)?;
     let mut carry = buffer();
     let mut pool = buffer();
     let end = follow(rt, from, &mut carry, &mut pool)?;
-    if !end.read {
-        return Ok(fail(rt, "cannot read\n"));
-    }
-    if !end.written {
-        return Ok(fail(rt, "cannot write\n"));
-    }
-    if !say_last(rt, end.count)? {
-        return Ok(fail(rt, "cannot write\n"));
-    }
-    let verdict = end.verdict;
-    Ok(listing::exit_status(verdict))
+    say_last(rt, end.count)?;
+    Ok(listing::exit_status(end.verdict))
 }
 
 // Whether the program was started with an argument.
 fn is_asked(rt: &impl Env) -> bool {
     let mut word = [0u8; 1];
-    match rt.arg(1, &mut word) {
-        Ok(_) => true,
-        Err(FillError::TooLong) => true,
-        Err(FillError::NotPresent) => false,
-    }
+    !matches!(rt.arg(1, &mut word), Err(FillError::NotPresent))
 }
 
 // Writes a digit to descriptor 3. Opened to be read too, a pipe that nobody reads makes nobody wait.
@@ -284,16 +222,17 @@ fn write_digit(rt: &impl Files, digit: u8) -> io::Result<()> {
 // Writes the status where the program was started with an argument. Without one, descriptor 3 may be somebody else's.
 fn tell(rt: &(impl Env + Files), status: u8) {
     if is_asked(rt) {
-        let _ = write_digit(rt, std::num::wrapping_add_u8(b'0', status));
+        let _ = write_digit(rt, b'0'.wrapping_add(status));
     }
 }
 
 fn main(rt: HostRuntime) -> ExitCode {
-    match show(&rt, &mut rt.stdin()) {
-        Ok(status) => {
-            tell(&rt, status);
-            ExitCode::SUCCESS
-        }
-        Err(_) => ExitCode::from(NOBODY_READS),
-    }
+    let status = match show(&rt, &mut rt.stdin()) {
+        Ok(status) => status,
+        Err(Failure::CannotRead) => fail(&rt, "cannot read\n"),
+        Err(Failure::CannotWrite) => fail(&rt, "cannot write\n"),
+        Err(Failure::NobodyReads) => return ExitCode::from(NOBODY_READS),
+    };
+    tell(&rt, status);
+    ExitCode::SUCCESS
 }

@@ -1,9 +1,8 @@
 #![tactic(auto)]
 // Lists the Intel HEX text on standard input: a line for each record, and for each line that is not a record.
-ghost use Rattle.std.specs.Prelude.{◌≡◌, ◌≤◌, length};
+ghost use Rattle.std.specs.Prelude.{◌≡◌, ◌≤◌, length, IfOk};
 ghost use Rattle.ihexlist.specs.Status.{said_status};
 
-use listing::Listed;
 use std::env::{Env, FillError};
 use std::fs::OpenOptions;
 use std::io;
@@ -20,13 +19,6 @@ const FAILED: u8 = 2;
 // What the process ends with where nobody reads its output any more: what a shell says of a program that SIGPIPE ended.
 const NOBODY_READS: u8 = 141;
 
-// How many bytes were read, and whether a read failed.
-#[derive(Clone, Copy)]
-struct Taken {
-    n: usize,
-    failed: bool,
-}
-
 // Space for an input of 65,536 bytes, and one more that tells a longer one.
 fn input() -> [u8; 65537]
     ensures { 65537 ≡ length result }
@@ -41,35 +33,28 @@ fn output() -> [u8; 196643]
     [0; 196643]
 }
 
-// Reads until the space is full, the input ends or a read fails.
-fn read_all(from: &mut impl Read, text: &mut [u8]) -> Taken
-    ensures { result.n ≤ length text.new }
+// Reads until the space is full or the input ends, and answers how many bytes that were.
+fn read_all(from: &mut impl Read, text: &mut [u8]) -> io::Result<usize>
+    ensures { IfOk result (λ n. n ≤ length text.new) }
 {
     let mut n = 0;
+    // A while: each turn takes as many bytes as a read gives, so there is no index to count.
     while n < text.len() {
-        match from.read(&mut text[n..]) {
-            Ok(more) => {
-                if more == 0 {
-                    break;
-                }
-                n += more;
-            }
-            Err(_) => return Taken { n, failed: true },
+        let more = from.read(&mut text[n..])?;
+        if more == 0 {
+            break;
         }
+        n += more;
     }
-    Taken { n, failed: false }
+    Ok(n)
 }
 
 // Prints bytes, and answers whether that went well. An error says that nobody reads them.
 fn print(rt: &impl Print, bytes: &[u8]) -> io::Result<bool> {
     match rt.write_all(bytes) {
         Ok(()) => Ok(true),
-        Err(e) => {
-            if e.kind() == ErrorKind::BrokenPipe {
-                return Err(e);
-            }
-            Ok(false)
-        }
+        Err(e) if e.kind() == ErrorKind::BrokenPipe => Err(e),
+        Err(_) => Ok(false),
     }
 }
 
@@ -77,8 +62,8 @@ fn print(rt: &impl Print, bytes: &[u8]) -> io::Result<bool> {
 fn show(rt: &impl Print, text: &[u8]) -> io::Result<bool> {
     let mut out = output();
     match listing::list(text, &mut out) {
-        Listed::Wrote(m) => print(rt, &out[..m]),
-        Listed::NoRoom => Ok(false),
+        Some(m) => print(rt, &out[..m]),
+        None => Ok(false),
     }
 }
 
@@ -87,9 +72,10 @@ fn status(text: &[u8], written: bool) -> u8
     ensures { result ≡ said_status text.now written }
 {
     if written {
-        return listing::text_status(text);
+        listing::text_status(text)
+    } else {
+        FAILED
     }
-    FAILED
 }
 
 // Says on standard error what failed.
@@ -109,11 +95,7 @@ fn report(rt: &(impl Print + Eprint), text: &[u8]) -> io::Result<u8> {
 // Whether the program was started with an argument.
 fn is_asked(rt: &impl Env) -> bool {
     let mut word = [0u8; 1];
-    match rt.arg(1, &mut word) {
-        Ok(_) => true,
-        Err(FillError::TooLong) => true,
-        Err(FillError::NotPresent) => false,
-    }
+    !matches!(rt.arg(1, &mut word), Err(FillError::NotPresent))
 }
 
 // Writes a digit to descriptor 3. Opened to be read too, a pipe that nobody reads makes nobody wait.
@@ -128,19 +110,17 @@ fn write_digit(rt: &impl Files, digit: u8) -> io::Result<()> {
 // Writes the status where the program was started with an argument. Without one, descriptor 3 may be somebody else's.
 fn tell(rt: &(impl Env + Files), status: u8) {
     if is_asked(rt) {
-        let _ = write_digit(rt, std::num::wrapping_add_u8(b'0', status));
+        let _ = write_digit(rt, b'0'.wrapping_add(status));
     }
 }
 
 fn main(rt: HostRuntime) -> ExitCode {
     let mut text = input();
-    let read = read_all(&mut rt.stdin(), &mut text);
-    if read.failed {
+    let Ok(n) = read_all(&mut rt.stdin(), &mut text) else {
         complain(&rt, "cannot read\n");
         tell(&rt, FAILED);
         return ExitCode::SUCCESS;
-    }
-    let n = read.n;
+    };
     match report(&rt, &text[..n]) {
         Ok(status) => {
             tell(&rt, status);

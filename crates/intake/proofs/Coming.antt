@@ -1,24 +1,22 @@
 -- Line after line of a chunk: where a walk has come, and what that comes to in the end. For every source.
 -- Assumes nothing.
-use Rattle.std.proofs.Common.{◌≡◌, ℕ, ◌-◌, ◌<◌, false, List, [], ◌++◌, length, drop, sym, refl, ap, ◌∙◌, subst, append_assoc, append-nil, arith}
+use Rattle.std.proofs.Common.{◌≡◌, ℕ, List, [], ◌++◌, length, drop, sym, refl, ap, ◌∙◌, subst, append_assoc, append-nil}
 use Rattle.steps.specs.Steps.{Placement, Verdict}
 use Rattle.steps.specs.Source.{Source}
 use Rattle.steps.proofs.Places.{length_painted}
-use Rattle.steps.specs.declared.Loading.{Loading}
+use Rattle.steps.specs.Aliases.{Loading}
 use Rattle.steps.specs.Told.{told_loading}
-use Rattle.window.specs.Window.{within, window, unfit}
+use Rattle.window.specs.Window.{within, window}
 use Rattle.window.specs.Promises.{Painted}
 use Rattle.window.proofs.Loads.{painted_nothing}
 use Rattle.window.proofs.Spread.{painted_both}
-use Rattle.intel.specs.Placing.{intel}
-use Rattle.srecload.specs.Placing.{s_records}
-use Rattle.intake.specs.declared.Kind.{Kind}
-use Rattle.intake.specs.declared.Kind.TheVariants.{Hex, SRecords}
 use Rattle.intake.specs.declared.Walk.{Walk}
 use Rattle.intake.specs.declared.Heard.{Heard}
 use Rattle.intake.specs.declared.Heard.TheVariants as heard
 use Rattle.intake.specs.Machine.{Fed, decided}
-use Rattle.intake.specs.Helpers.{StandingBy, UnderWay, to_come, IsUsedUp, WentOn, StoppedAt, Came, CameThrough, hex_standing, s_standing, HeardBy, HeardSo, AllSo}
+use Rattle.intake.specs.Ways.{StandingBy, Way}
+use Rattle.intake.specs.Helpers.{UnderWay, to_come, IsUsedUp, WentOn, StoppedAt, Came, CameThrough, HeardSo}
+use Rattle.intake.proofs.Ways.{Lawful}
 
 module _ {S : Type 0} (src : Source S) (standing : StandingBy S) (first : ℕ) (w₀ : Walk) (chunk carry₀ page₀ marks₀ : List ℕ) where
   pub came_start : UnderWay w₀.reader carry₀ → Came src standing first w₀ chunk carry₀ page₀ marks₀ w₀ carry₀ page₀ marks₀
@@ -81,72 +79,56 @@ module _ {S : Type 0} (src : Source S) (standing : StandingBy S) (first : ℕ) (
           inside = x.inside;
         }
 
--- ---- of either kind
-
-abbrev CameSo : Kind → (first : ℕ) (w₀ : Walk) (chunk carry₀ page₀ marks₀ : List ℕ) (w : Walk) (carry page marks : List ℕ) → Type 0
-CameSo Hex first w₀ chunk carry₀ page₀ marks₀ w carry page marks = Came intel hex_standing first w₀ chunk carry₀ page₀ marks₀ w carry page marks
-CameSo SRecords first w₀ chunk carry₀ page₀ marks₀ w carry page marks =
-    Came s_records s_standing first w₀ chunk carry₀ page₀ marks₀ w carry page marks × (w.base ≡ w₀.base)
+-- ---- of a way
 
 -- the loop's invariant
-pub record Walking (kind : Kind) (first : ℕ) (w₀ : Walk) (chunk carry₀ page₀ marks₀ : List ℕ) (w : Walk) (carry page marks : List ℕ) : Type 0 where
-  pub came : CameSo kind first w₀ chunk carry₀ page₀ marks₀ w carry page marks
+pub record Walking (way : Way) (first : ℕ) (w₀ : Walk) (chunk carry₀ page₀ marks₀ : List ℕ) (w : Walk) (carry page marks : List ℕ) : Type 0 where
+  pub came : Came way.source way.standing first w₀ chunk carry₀ page₀ marks₀ w carry page marks
+  pub stays : way.stays w₀.base w₀.tally w.base w.tally
   pub carry_size : length carry ≡ length carry₀
   pub page_size : length page ≡ length page₀
   pub marks_size : length marks ≡ length marks₀
 
-module _ (first : ℕ) (w₀ : Walk) (chunk carry₀ page₀ marks₀ : List ℕ) where
-  pub walk_start : (k : Kind) → UnderWay w₀.reader carry₀ → Walking k first w₀ chunk carry₀ page₀ marks₀ w₀ carry₀ page₀ marks₀
-  walk_start k u = record { came = go k; carry_size = refl; page_size = refl; marks_size = refl }
-    where
-      go : (k : Kind) → CameSo k first w₀ chunk carry₀ page₀ marks₀ w₀ carry₀ page₀ marks₀
-      go Hex = came_start intel hex_standing first w₀ chunk carry₀ page₀ marks₀ u
-      go SRecords = (came_start s_records s_standing first w₀ chunk carry₀ page₀ marks₀ u, refl)
+module _ (way : Way) (law : Lawful way) (first : ℕ) (w₀ : Walk) (chunk carry₀ page₀ marks₀ : List ℕ) where
+  pub walk_start : UnderWay w₀.reader carry₀ → Walking way first w₀ chunk carry₀ page₀ marks₀ w₀ carry₀ page₀ marks₀
+  walk_start u =
+      record {
+        came = came_start way.source way.standing first w₀ chunk carry₀ page₀ marks₀ u;
+        stays = law.still w₀.base w₀.tally;
+        carry_size = refl;
+        page_size = refl;
+        marks_size = refl;
+      }
 
   module _ (w : Walk) (carry page marks : List ℕ) where
-    pub walk_under_way : (k : Kind) → Walking k first w₀ chunk carry₀ page₀ marks₀ w carry page marks → UnderWay w.reader carry
-    walk_under_way Hex i = i.came.under_way
-    walk_under_way SRecords i = i.came.0.under_way
+    module _ (h : Heard) (carry' page' marks' : List ℕ) (x : HeardSo way first w chunk carry page marks h carry' page' marks') where
+      -- what was heard, by which it is
+      heard_as : (h' : Heard) → h ≡ h' → HeardSo way first w chunk carry page marks h' carry' page' marks'
+      heard_as h' e = subst (λ (z : Heard). HeardSo way first w chunk carry page marks z carry' page' marks') e x
 
-    pub walk_fits : (k : Kind) → Walking k first w₀ chunk carry₀ page₀ marks₀ w carry page marks → unfit first (length page₀) (length marks₀) ≡ false → unfit first (length page) (length marks) ≡ false
-    walk_fits k i u = rw (i.page_size, i.marks_size) u
+      module _ (i : Walking way first w₀ chunk carry₀ page₀ marks₀ w carry page marks) where
+        stays_on : (w' : Walk) → way.stays w.base w.tally w'.base w'.tally → way.stays w₀.base w₀.tally w'.base w'.tally
+        stays_on w' y = law.again w₀.base w₀.tally w.base w.tally w'.base w'.tally i.stays y
 
-    -- the position grows, within the chunk
-    pub walk_less : (k : Kind) (h : Heard) (w' : Walk) (carry' page' marks' : List ℕ) → HeardSo k first w chunk carry page marks h carry' page' marks' → h ≡ heard.On w'
-        → length chunk - w'.reader.position < length chunk - w.reader.position
-    walk_less Hex h w' carry' page' marks' x e =
-        let y : WentOn intel hex_standing first w chunk carry page marks w' carry' page' marks' = subst (λ (z : Heard). HeardBy intel hex_standing first w chunk carry page marks z carry' page' marks') e x in
-        omega (arith, y.further, y.inside)
-    walk_less SRecords h w' carry' page' marks' x e =
-        let y : WentOn s_records s_standing first w chunk carry page marks w' carry' page' marks' = subst (λ (z : Heard). HeardBy s_records s_standing first w chunk carry page marks z carry' page' marks') e x.0 in
-        omega (arith, y.further, y.inside)
+        pub walk_again : (w' : Walk) → h ≡ heard.On w' → length carry' ≡ length carry → length page' ≡ length page → length marks' ≡ length marks
+            → Walking way first w₀ chunk carry₀ page₀ marks₀ w' carry' page' marks'
+        walk_again w' e lc lp lm =
+            let (y, s) = heard_as (heard.On w') e in
+            record {
+              came = came_again way.source way.standing first w₀ chunk carry₀ page₀ marks₀ w carry page marks i.came w' carry' page' marks' y;
+              stays = stays_on w' s;
+              carry_size = lc ∙ i.carry_size;
+              page_size = lp ∙ i.page_size;
+              marks_size = lm ∙ i.marks_size;
+            }
 
-    pub walk_again : (k : Kind) (h : Heard) (w' : Walk) (carry' page' marks' : List ℕ) → Walking k first w₀ chunk carry₀ page₀ marks₀ w carry page marks
-        → HeardSo k first w chunk carry page marks h carry' page' marks' → h ≡ heard.On w' → length carry' ≡ length carry → length page' ≡ length page → length marks' ≡ length marks
-        → Walking k first w₀ chunk carry₀ page₀ marks₀ w' carry' page' marks'
-    walk_again k h w' carry' page' marks' i x e lc lp lm =
-        record { came = go k i.came (subst (λ (z : Heard). HeardSo k first w chunk carry page marks z carry' page' marks') e x); carry_size = lc ∙ i.carry_size; page_size = lp ∙ i.page_size; marks_size = lm ∙ i.marks_size }
-      where
-        go : (k : Kind) → CameSo k first w₀ chunk carry₀ page₀ marks₀ w carry page marks → HeardSo k first w chunk carry page marks (heard.On w') carry' page' marks'
-            → CameSo k first w₀ chunk carry₀ page₀ marks₀ w' carry' page' marks'
-        go Hex c y = came_again intel hex_standing first w₀ chunk carry₀ page₀ marks₀ w carry page marks c w' carry' page' marks' y
-        go SRecords (c, kept) (y, b) =
-            (came_again s_records s_standing first w₀ chunk carry₀ page₀ marks₀ w carry page marks c w' carry' page' marks' y, b ∙ kept)
+        pub walk_through : (w' : Walk) → h ≡ heard.UsedUp w'
+            → CameThrough way.source way.standing first w₀ chunk carry₀ page₀ marks₀ w' carry' page' marks' × way.stays w₀.base w₀.tally w'.base w'.tally
+        walk_through w' e =
+            let (y, s) = heard_as (heard.UsedUp w') e in
+            (came_to_its_end way.source way.standing first w₀ chunk carry₀ page₀ marks₀ w carry page marks i.came w' carry' page' marks' y, stays_on w' s)
 
-    pub walk_through : (k : Kind) (h : Heard) (w' : Walk) (carry' page' marks' : List ℕ) → Walking k first w₀ chunk carry₀ page₀ marks₀ w carry page marks
-        → HeardSo k first w chunk carry page marks h carry' page' marks' → h ≡ heard.UsedUp w' → AllSo k first w₀ chunk carry₀ page₀ marks₀ (heard.UsedUp w') carry' page' marks'
-    walk_through k h w' carry' page' marks' i x e = go k i.came (subst (λ (z : Heard). HeardSo k first w chunk carry page marks z carry' page' marks') e x)
-      where
-        go : (k : Kind) → CameSo k first w₀ chunk carry₀ page₀ marks₀ w carry page marks → HeardSo k first w chunk carry page marks (heard.UsedUp w') carry' page' marks'
-            → AllSo k first w₀ chunk carry₀ page₀ marks₀ (heard.UsedUp w') carry' page' marks'
-        go Hex c y = came_to_its_end intel hex_standing first w₀ chunk carry₀ page₀ marks₀ w carry page marks c w' carry' page' marks' y
-        go SRecords (c, kept) (y, b) = (came_to_its_end s_records s_standing first w₀ chunk carry₀ page₀ marks₀ w carry page marks c w' carry' page' marks' y, b ∙ kept)
-
-    pub walk_stop : (k : Kind) (h : Heard) (l : Loading) (used : ℕ) (carry' page' marks' : List ℕ) → Walking k first w₀ chunk carry₀ page₀ marks₀ w carry page marks
-        → HeardSo k first w chunk carry page marks h carry' page' marks' → h ≡ heard.Stop l used → AllSo k first w₀ chunk carry₀ page₀ marks₀ (heard.Stop l used) carry' page' marks'
-    walk_stop k h l used carry' page' marks' i x e = go k i.came (subst (λ (z : Heard). HeardSo k first w chunk carry page marks z carry' page' marks') e x)
-      where
-        go : (k : Kind) → CameSo k first w₀ chunk carry₀ page₀ marks₀ w carry page marks → HeardSo k first w chunk carry page marks (heard.Stop l used) carry' page' marks'
-            → AllSo k first w₀ chunk carry₀ page₀ marks₀ (heard.Stop l used) carry' page' marks'
-        go Hex c y = came_to_stop intel hex_standing first w₀ chunk carry₀ page₀ marks₀ w carry page marks c (told_loading l) used page' marks' y
-        go SRecords (c, kept) (y, u) = (came_to_stop s_records s_standing first w₀ chunk carry₀ page₀ marks₀ w carry page marks c (told_loading l) used page' marks' y, tt)
+        pub walk_stop : (l : Loading) (used : ℕ) → h ≡ heard.Stop l used
+            → StoppedAt way.source way.standing first w₀ chunk carry₀ page₀ marks₀ (told_loading l) used page' marks'
+        walk_stop l used e =
+            came_to_stop way.source way.standing first w₀ chunk carry₀ page₀ marks₀ w carry page marks i.came (told_loading l) used page' marks' (heard_as (heard.Stop l used) e).0

@@ -1,9 +1,7 @@
 -- The end of a text: the line that is begun is taken as its last, and where none is, the end record is missing.
 -- Assumes nothing.
-use Rattle.std.proofs.Common.{◌≡◌, ℕ, ◌%◌, ◌^◌, ◌≤◌, Bool, true, false, ◌||◌, List, [], ◌∷◌, length, sym, refl, ap, ◌∙◌, subst, ap₂, arith}
+use Rattle.std.proofs.Common.{◌≡◌, ℕ, ◌%◌, ◌^◌, ◌≤◌, Bool, true, false, ◌||◌, List, [], length, sym, refl, ap, ◌∙◌, subst, ap₂, arith}
 use mathlib.Core.Option.{none}
-use types.Run.{OneOf, miss}
-use denote.Enum.Declared.{tag_of}
 use Rattle.marks.specs.Claims.{Bytes}
 use Rattle.std.specs.Prelude.{if◌then◌else◌}
 use Rattle.digits.proofs.Tests.{if_true, if_false}
@@ -14,11 +12,9 @@ use Rattle.chunks.specs.declared.Chunks.{Chunks}
 use Rattle.chunks.specs.declared.LineReply.{LineReply}
 use Rattle.chunks.specs.declared.LineReply.TheVariants.{InChunk, InCarry, UsedUp, Done, CarryTooSmall}
 use Rattle.chunks.specs.declared.LineStep.{LineStep}
-use Rattle.chunks.specs.contracts.LineReply.{the_type}
 use Rattle.chunks.proofs.FirstTests.{no_last, last_on}
-use Rattle.steps.specs.declared.LoaderError.TheVariants.{MissingEndOfFileRecord, BadWindow}
-use Rattle.steps.specs.declared.Loading.{Loading}
-use Rattle.steps.specs.declared.Loading.TheVariants.{Refused}
+use Rattle.steps.specs.declared.LoaderError.TheVariants.{MissingEndOfFileRecord}
+use Rattle.steps.specs.Aliases.{Loading}
 use Rattle.steps.specs.declared.Tally.{Tally as CodeTally}
 use Rattle.steps.specs.Steps.{Placement}
 use Rattle.steps.specs.Source.{Source}
@@ -29,24 +25,22 @@ use Rattle.window.specs.Promises.{Painted}
 use Rattle.steps.proofs.Told.{told_apart}
 use Rattle.window.proofs.Loads.{painted_nothing}
 use Rattle.window.proofs.Taking.{painted_once}
-use Rattle.intel.specs.Placing.{intel}
 use Rattle.loader.specs.declared.Base.{Base as CodeBase}
-use Rattle.srecload.specs.Placing.{s_records}
-use Rattle.intake.specs.declared.Kind.{Kind}
-use Rattle.intake.specs.declared.Kind.TheVariants.{Hex, SRecords}
 use Rattle.intake.specs.declared.Intake.{Intake}
 use Rattle.intake.specs.declared.Turn.{Turn}
 use Rattle.intake.specs.declared.Turn.TheVariants as turn
 use Rattle.intake.specs.declared.Walk.{Walk}
-use Rattle.intake.specs.declared.Ending.{Ending}
-use Rattle.intake.specs.declared.Ending.TheVariants as ending
+use Rattle.intake.specs.Aliases.{Ending}
 use Rattle.intake.specs.Machine.{takes, ended, ended_by, stated_by}
-use Rattle.intake.specs.Helpers.{KeptSo, StandingBy, hex_standing, s_standing, told_turn, TurnedBy, Turned, walk_of}
+use Rattle.intake.specs.Ways.{StandingBy, Way, way_of}
+use Rattle.intake.specs.Helpers.{KeptSo, told_turn, TurnedBy, Turned, walk_of}
 use Rattle.intake.specs.Intake.{begun_in, spoilt}
-use Rattle.intake.specs.Ending.{answers, ended_on, Ends, EndsSo, EndedSo, Finishes}
-use Rattle.intake.specs.Claims.{BeginUnique, FinishUnique}
-use Rattle.intake.proofs.InLine.{intel_kept_so, s_records_kept_so}
+use Rattle.intake.specs.Ending.{answers, ended_on, Ends, EndsSo, EndedSo}
+use Rattle.intake.specs.Claims.{BeginUnique, BeginTailUnique, FinishUnique}
+use Rattle.intake.proofs.Ways.{Lawful}
 use Rattle.intake.proofs.Hearing.{carry_stands}
+use Rattle.std.specs.Prelude.{None, Some}
+use Rattle.steps.specs.Aliases.{refuse}
 
 -- ---- what the reader finds
 
@@ -77,12 +71,8 @@ module _ (s : Intake) (carry : List ℕ) where
           subst (LastBy step.state carry') (sym h.answer)
           (e, subst (λ (x : LineReply). kept_at x [] carry' ≡ last) h.answer h.line, ap (λ (x : Chunks). x.line) h.state ∙ omega arith)
 
-  -- the replies that are not a line in the carry
-  abbrev others : List ℕ
-  others = 0 ∷ 2 ∷ 3 ∷ 4 ∷ []
-
-  pub no_last_by : (after : Chunks) (carry' : List ℕ) (r : LineReply) → OneOf others (tag_of the_type r) → LastBy after carry' r → is_empty last.bytes ≡ true
-  no_last_by after carry' (InCarry len skipped) h k = absurd (miss others 1 tt h)
+  pub no_last_by : (after : Chunks) (carry' : List ℕ) (r : LineReply) → ((len skipped : ℕ) → r ≡ InCarry len skipped → ⊥) → LastBy after carry' r → is_empty last.bytes ≡ true
+  no_last_by after carry' (InCarry len skipped) h k = absurd (h len skipped refl)
   no_last_by after carry' (InChunk from len) h k = k
   no_last_by after carry' UsedUp h k = k
   no_last_by after carry' Done h k = k
@@ -106,7 +96,7 @@ module _ {S : Type 0} (src : Source S) (standing : StandingBy S) (plain : (base 
       → Painted (window first (length page₀)) (stated_by at_end) page₀ marks₀ page' marks'
   painted_so ps e page' marks' p = subst (λ (x : List Placement). Painted (window first (length page₀)) x page₀ marks₀ page' marks') (sym e) p
 
-  pub ends_missing : is_empty (last s carry).bytes ≡ true → Ends src standing first s carry page₀ marks₀ (Refused MissingEndOfFileRecord 0) page₀ marks₀
+  pub ends_missing : is_empty (last s carry).bytes ≡ true → Ends src standing first s carry page₀ marks₀ (refuse MissingEndOfFileRecord 0) page₀ marks₀
   unfolding ended
   ends_missing e =
       let is : at_end ≡ on st = if_true _ _ _ e in
@@ -134,57 +124,27 @@ module _ {S : Type 0} (src : Source S) (standing : StandingBy S) (plain : (base 
       taken ∙ ap₂ (λ (m : ℕ) (x : Kept). takes src inside m st (stands_for x)) (sym number) (sym same) ∙ sym (carry_stands src inside kept k few n st) ∙ h.comes_to in
       record { answer = answered t h.stated ∙ sym (ap ended_by is); paints = painted_so h.stated (ap stated_by is ∙ stated_so t h.stated) page' marks' h.paints }
 
--- ---- of either kind
+-- ---- of a way
 
-module _ (first : ℕ) (s : Intake) (carry page₀ marks₀ : List ℕ) where
-  pub ends_missing_so : (kind : Kind) → is_empty (last s carry).bytes ≡ true → EndsSo kind first s carry page₀ marks₀ (Refused MissingEndOfFileRecord 0) page₀ marks₀
-  ends_missing_so Hex e = ends_missing intel hex_standing (λ base tally ps. refl) first s carry page₀ marks₀ e
-  ends_missing_so SRecords e = ends_missing s_records s_standing (λ base tally ps. refl) first s carry page₀ marks₀ e
+module _ (way : Way) (law : Lawful way) (first : ℕ) (s : Intake) (carry page₀ marks₀ : List ℕ) where
+  pub ends_missing_so : is_empty (last s carry).bytes ≡ true → EndsSo way first s carry page₀ marks₀ (refuse MissingEndOfFileRecord 0) page₀ marks₀
+  ends_missing_so e = ends_missing way.source way.standing law.states first s carry page₀ marks₀ e
 
-  pub ends_line_so : (kind : Kind) (carry' : List ℕ) (len skipped : ℕ) (after : Chunks) → LastBy s carry after carry' (InCarry len skipped) → length (kept_in carry' len skipped).bytes ≤ 522
+  pub ends_line_so : (carry' : List ℕ) (len skipped : ℕ) (after : Chunks) → LastBy s carry after carry' (InCarry len skipped) → length (kept_in carry' len skipped).bytes ≤ 522
       → (w : Walk) → w ≡ walk_of s → (t : Turn) (page' marks' : List ℕ)
-      → Turned kind (kept_in carry' len skipped).bytes skipped after.line w.base w.tally first page₀ marks₀ t page' marks'
-      → EndsSo kind first s carry page₀ marks₀ (answers t) page' marks'
-  ends_line_so kind carry' len skipped after (e, same, number) few w is t page' marks' h =
-      go kind (subst (λ (x : Walk). Turned kind (kept_in carry' len skipped).bytes skipped after.line x.base x.tally first page₀ marks₀ t page' marks') is h)
-    where
-      go : (kind : Kind) → Turned kind (kept_in carry' len skipped).bytes skipped after.line s.base s.tally first page₀ marks₀ t page' marks'
-          → EndsSo kind first s carry page₀ marks₀ (answers t) page' marks'
-      go Hex h = ends_line intel hex_standing (λ base tally ps. refl) first s carry page₀ marks₀ intel_kept_so e (kept_in carry' len skipped) same few after.line number t page' marks' h
-      go SRecords (h, k) = ends_line s_records s_standing (λ base tally ps. refl) first s carry page₀ marks₀ s_records_kept_so e (kept_in carry' len skipped) same few after.line number t page' marks' h
-
--- ---- the whole contract, by its tests
-
-module _ (s : Intake) (carry : List ℕ) (first : ℕ) (stage stated : List ℕ) where
-  pub finishes_small : spoilt s carry ≡ true → Finishes s carry first stage stated ending.CarryTooSmall carry stage stated
-  finishes_small e =
-      record {
-        small = λ _. (refl, refl, refl, refl);
-        bad_window = λ f _. let z : ◌≡◌ {A = ℕ} 0 1 = cc in absurd (omega arith);
-        ends = λ f _. let z : ◌≡◌ {A = ℕ} 0 1 = cc in absurd (omega arith);
-      }
-
-  pub finishes_bad : spoilt s carry ≡ false → unfit first (length stage) (length stated) ≡ true → Finishes s carry first stage stated (ending.Decided (Refused BadWindow 0)) carry stage stated
-  finishes_bad e u =
-      record {
-        small = λ f. let z : ◌≡◌ {A = ℕ} 0 1 = cc in absurd (omega arith);
-        bad_window = λ _ _. (refl, refl, refl, refl);
-        ends = λ _ f. let z : ◌≡◌ {A = ℕ} 0 1 = cc in absurd (omega arith);
-      }
-
-  pub finishes_so : spoilt s carry ≡ false → unfit first (length stage) (length stated) ≡ false → (l : Loading) (carry' stage' stated' : List ℕ)
-      → EndsSo s.kind first s carry stage stated l stage' stated' → Finishes s carry first stage stated (ending.Decided l) carry' stage' stated'
-  finishes_so e u l carry' stage' stated' h =
-      record {
-        small = λ f. let z : ◌≡◌ {A = ℕ} 0 1 = cc in absurd (omega arith);
-        bad_window = λ _ f. let z : ◌≡◌ {A = ℕ} 0 1 = cc in absurd (omega arith);
-        ends = λ _ _. h;
-      }
+      → Turned way (kept_in carry' len skipped).bytes skipped after.line w.base w.tally first page₀ marks₀ t page' marks'
+      → EndsSo way first s carry page₀ marks₀ (answers t) page' marks'
+  ends_line_so carry' len skipped after (e, same, number) few w is t page' marks' h =
+      let (taken, stays) = subst (λ (x : Walk). Turned way (kept_in carry' len skipped).bytes skipped after.line x.base x.tally first page₀ marks₀ t page' marks') is h in
+      ends_line way.source way.standing law.states first s carry page₀ marks₀ law.kept e (kept_in carry' len skipped) same few after.line number t page' marks' taken
 
 -- ---- no second answer meets a contract
 
 pub begin_unique : BeginUnique
 begin_unique kind stated r r' m m' x y = (x.answer ∙ sym y.answer, x.clears ∙ sym y.clears)
+
+pub begin_tail_unique : BeginTailUnique
+begin_tail_unique kind r r' x y = x.answer ∙ sym y.answer
 
 module _ (first : ℕ) (s : Intake) (carry stage stated : List ℕ) (few : Bytes stated) (l l' : Loading) (p p' m m' : List ℕ) where
   ends_once : {S : Type 0} (src : Source S) (standing : StandingBy S) → Ends src standing first s carry stage stated l p m → Ends src standing first s carry stage stated l' p' m'
@@ -193,17 +153,14 @@ module _ (first : ℕ) (s : Intake) (carry stage stated : List ℕ) (few : Bytes
       let (pages, marks) = painted_once (window first (length stage)) (stated_by (ended_on src standing (within first (length stage)) s carry)) stage stated p p' m m' few x.paints y.paints in
       (told_apart l l' (x.answer ∙ sym y.answer), pages, marks)
 
-  ends_once_so : (kind : Kind) → EndsSo kind first s carry stage stated l p m → EndsSo kind first s carry stage stated l' p' m' → (l ≡ l') × (p ≡ p') × (m ≡ m')
-  ends_once_so Hex x y = ends_once intel hex_standing x y
-  ends_once_so SRecords x y = ends_once s_records s_standing x y
-
 ended_once : (first : ℕ) (s : Intake) (carry stage stated : List ℕ) → Bytes stated → (r r' : Ending) (p p' m m' : List ℕ)
     → EndedSo first s carry stage stated r p m → EndedSo first s carry stage stated r' p' m' → (r ≡ r') × (p ≡ p') × (m ≡ m')
-ended_once first s carry stage stated few (ending.Decided l) (ending.Decided l') p p' m m' x y =
-    let (same, pages, marks) = ends_once_so first s carry stage stated few l l' p p' m m' s.kind x y in
-    (ap ending.Decided same, pages, marks)
-ended_once first s carry stage stated few (ending.Decided l) ending.CarryTooSmall p p' m m' x y = absurd y
-ended_once first s carry stage stated few ending.CarryTooSmall r' p p' m m' x y = absurd x
+ended_once first s carry stage stated few (Some l) (Some l') p p' m m' x y =
+    let way = way_of s.kind s.tail in
+    let (same, pages, marks) = ends_once first s carry stage stated few l l' p p' m m' way.source way.standing x y in
+    (ap Some same, pages, marks)
+ended_once first s carry stage stated few (Some l) None p p' m m' x y = absurd y
+ended_once first s carry stage stated few None r' p p' m m' x y = absurd x
 
 pub finish_unique : FinishUnique
 finish_unique s carry first stage stated r r' c c' p p' m m' few x y = go (spoilt s carry) refl (unfit first (length stage) (length stated)) refl

@@ -25,18 +25,15 @@ use Rattle.steps.specs.Source.{Source}
 use Rattle.steps.specs.Taken.{Standing, Went, on, stopped, placed_by, onward, acted, at_line}
 use Rattle.steps.specs.Told.{told_loading}
 use Rattle.window.specs.Window.{within}
-use Rattle.intel.specs.Placing.{Base, intel}
 use Rattle.loader.specs.declared.Base.{Base as CodeBase}
-use Rattle.srecload.specs.Placing.{s_records}
-use Rattle.intake.specs.declared.Kind.{Kind}
-use Rattle.intake.specs.declared.Kind.TheVariants.{Hex, SRecords}
 use Rattle.intake.specs.declared.Turn.{Turn as CodeTurn}
 use Rattle.intake.specs.declared.Turn.TheVariants as code
 use Rattle.intake.specs.declared.Walk.{Walk}
 use Rattle.intake.specs.declared.Heard.TheVariants as heard
 use Rattle.intake.specs.Machine.{Fed, wants_more, decided, after_line, Taking, takes, fed}
-use Rattle.intake.specs.Helpers.{in_line, KeptSo, StandingBy, hex_standing, s_standing, TurnedBy, Keeps, Turned, hears, count_of, UnderWay, to_come, HeardBy, KeepsOn, HeardSo}
-use Rattle.intake.proofs.InLine.{intel_kept_so, s_records_kept_so}
+use Rattle.intake.specs.Ways.{StandingBy, Way}
+use Rattle.intake.specs.Helpers.{in_line, KeptSo, TurnedBy, Keeps, Turned, hears, count_of, UnderWay, to_come, HeardBy, KeepsOn, HeardSo}
+use Rattle.intake.proofs.Ways.{Lawful}
 
 -- ---- a search finds what the machine meets
 
@@ -297,45 +294,33 @@ module _ {S : Type 0} (src : Source S) (standing : StandingBy S) (first : ℕ) (
         (at_turn f.start f.empties f.rest f.is_found f.left f.further page' marks' t
         (subst (λ (x : Chunks). TurnedBy src standing bytes skipped x.line w.base w.tally first page₀ marks₀ t page' marks') f.state_is h))
 
--- ---- of either kind
+-- ---- of a way
 
-keeps_on : (base : CodeBase) (after : Chunks) (t : CodeTurn) → Keeps base t → KeepsOn base (hears after t)
-keeps_on base after (code.On base' tally) h = h
-keeps_on base after (code.Stop l) h = h
+keeps_on : (way : Way) (w : Walk) (after : Chunks) (t : CodeTurn) → Keeps way w.base w.tally t → KeepsOn way w (hears after t)
+keeps_on way w after (code.On base tally) h = h
+keeps_on way w after (code.Stop l) h = h
 
-module _ (kind : Kind) (first : ℕ) (w : Walk) (chunk carry page₀ marks₀ carry' : List ℕ) (after : Chunks) where
+module _ (way : Way) (law : Lawful way) (first : ℕ) (w : Walk) (chunk carry page₀ marks₀ carry' : List ℕ) (after : Chunks) where
   pub used_up_so : NoneFound w.reader chunk carry after carry'
-      → HeardSo kind first w chunk carry page₀ marks₀ (heard.UsedUp (record { reader = after; base = w.base; tally = w.tally })) carry' page₀ marks₀
-  used_up_so f = go kind
-    where
-      go : (kind : Kind) → HeardSo kind first w chunk carry page₀ marks₀ (heard.UsedUp (record { reader = after; base = w.base; tally = w.tally })) carry' page₀ marks₀
-      go Hex = heard_none intel hex_standing first w chunk carry page₀ marks₀ carry' (λ base tally qs ps. refl) after f
-      go SRecords = (heard_none s_records s_standing first w chunk carry page₀ marks₀ carry' (λ base tally qs ps. refl) after f, refl)
+      → HeardSo way first w chunk carry page₀ marks₀ (heard.UsedUp (record { reader = after; base = w.base; tally = w.tally })) carry' page₀ marks₀
+  used_up_so f = (heard_none way.source way.standing first w chunk carry page₀ marks₀ carry' law.plain after f, law.still w.base w.tally)
 
   module _ (big : 522 ≤ length carry') (t : CodeTurn) (page' marks' : List ℕ) where
-    line_so : (bytes : List ℕ) (skipped : ℕ) (k : Kept) → ((S : Type 0) (src : Source S) (inside : ℕ → Bool) → KeptSo src → StandsIn src inside skipped bytes k)
+    line_so : (bytes : List ℕ) (skipped : ℕ) (k : Kept) → StandsIn way.source (within first (length page₀)) skipped bytes k
         → LineFound w.reader chunk carry after k
-        → Turned kind bytes skipped after.line w.base w.tally first page₀ marks₀ t page' marks'
-        → HeardSo kind first w chunk carry page₀ marks₀ (hears after t) carry' page' marks'
-    line_so bytes skipped k stands f h = go kind h
-      where
-        go : (kind : Kind) → Turned kind bytes skipped after.line w.base w.tally first page₀ marks₀ t page' marks'
-            → HeardSo kind first w chunk carry page₀ marks₀ (hears after t) carry' page' marks'
-        go Hex h =
-            heard_line intel hex_standing first w chunk carry page₀ marks₀ carry' (λ base tally qs ps. refl) big bytes skipped k
-            (stands Base intel (within first (length page₀)) intel_kept_so) after f t page' marks' h
-        go SRecords (h, keeps) = (
-          heard_line s_records s_standing first w chunk carry page₀ marks₀ carry' (λ base tally qs ps. refl) big bytes skipped k
-              (stands Unit s_records (within first (length page₀)) s_records_kept_so) after f t page' marks' h,
-          keeps_on w.base after t keeps,
-        )
+        → Turned way bytes skipped after.line w.base w.tally first page₀ marks₀ t page' marks'
+        → HeardSo way first w chunk carry page₀ marks₀ (hears after t) carry' page' marks'
+    line_so bytes skipped k stands f (h, keeps) = (
+      heard_line way.source way.standing first w chunk carry page₀ marks₀ carry' law.plain big bytes skipped k stands after f t page' marks' h,
+      keeps_on way w after t keeps,
+    )
 
     pub in_chunk_so : (line : List ℕ) → LineFound w.reader chunk carry after (brief line)
-        → Turned kind line 0 after.line w.base w.tally first page₀ marks₀ t page' marks'
-        → HeardSo kind first w chunk carry page₀ marks₀ (hears after t) carry' page' marks'
-    in_chunk_so line f h = line_so line 0 (brief line) (λ S src inside kept. chunk_stands src inside kept line) f h
+        → Turned way line 0 after.line w.base w.tally first page₀ marks₀ t page' marks'
+        → HeardSo way first w chunk carry page₀ marks₀ (hears after t) carry' page' marks'
+    in_chunk_so line f h = line_so line 0 (brief line) (chunk_stands way.source (within first (length page₀)) law.kept line) f h
 
     pub in_carry_so : (k : Kept) → length k.bytes ≤ 522 → LineFound w.reader chunk carry after k
-        → Turned kind k.bytes k.skipped after.line w.base w.tally first page₀ marks₀ t page' marks'
-        → HeardSo kind first w chunk carry page₀ marks₀ (hears after t) carry' page' marks'
-    in_carry_so k few f h = line_so k.bytes k.skipped k (λ S src inside kept. carry_stands src inside kept k few) f h
+        → Turned way k.bytes k.skipped after.line w.base w.tally first page₀ marks₀ t page' marks'
+        → HeardSo way first w chunk carry page₀ marks₀ (hears after t) carry' page' marks'
+    in_carry_so k few f h = line_so k.bytes k.skipped k (carry_stands way.source (within first (length page₀)) law.kept k few) f h

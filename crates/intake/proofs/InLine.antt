@@ -1,6 +1,7 @@
--- Intel's records and S-records take the bytes that are kept of a line as they take the line that these stand for, and so with a line as it is.
+-- Intel's records and S-records take the bytes that are kept of a line as they take the line that these stand for, and so with a line as it is. Their
+-- tails do too.
 -- Assumes nothing.
-use Rattle.std.proofs.Common.{◌≡◌, ℕ, Bool, eqb, List, [], ◌∷◌, ◌++◌, get_or, sym, refl, ap, ◌∙◌, ap₂}
+use Rattle.std.proofs.Common.{◌≡◌, ℕ, Bool, true, false, eqb, List, [], ◌∷◌, ◌++◌, get_or, sym, refl, ap, ◌∙◌, ap₂}
 use mathlib.Core.Option.{Option, none, some}
 use Rattle.digits.specs.Common.{Every}
 use Rattle.std.specs.Prelude.{if◌then◌else◌}
@@ -23,6 +24,7 @@ use Rattle.srec.specs.Line.{judge}
 use Rattle.srec.proofs.Claims.{names_the_offender}
 use Rattle.intel.specs.Placing.{Base, does, act, base_after, intel_by, intel}
 use Rattle.srecload.specs.Placing.{SMeaning, s_header, s_data, s_count, s_end, s_meaning, s_does, s_act, s_records}
+use Rattle.intake.specs.Past.{ends, ends_text, passed, past}
 use Rattle.intake.specs.Helpers.{in_line, KeptSo}
 use Rattle.intake.proofs.Brief.{s_long}
 
@@ -79,7 +81,7 @@ record ActsBy (J : List ℕ → Said) {S : Type 0} (src : Source S) : Type 0 whe
   refused : (s : S) (r : Refusal) → acts s (wrong r) ≡ fails r ∷ []
   passed : (s : S) (kind address : ℕ) (payload : List ℕ) → Every NamesNone (acts s (says kind address payload))
 
-module _ {S : Type 0} (src : Source S) (J : List ℕ → Said) (by : ActsBy J src) (names : NamesPlaces J) where
+module _ {S : Type 0} (src : Source S) (J : List ℕ → Said) (by : ActsBy J src) where
   module _ (inside : ℕ → Bool) (n : ℕ) (st : Standing S) where
     abbrev came : Said → Went S
     came said = acted inside n (by.leaves st.state said) st.tally st.stated (by.acts st.state said)
@@ -97,11 +99,35 @@ module _ {S : Type 0} (src : Source S) (J : List ℕ → Said) (by : ActsBy J sr
     moved : (m : ℕ) (bytes line : List ℕ) → said_in_line m (J bytes) ≡ J line → in_line m (at_line src inside n st bytes) ≡ at_line src inside n st line
     moved m bytes line e = ap (in_line m) (line_came bytes) ∙ came_moved m (J bytes) ∙ ap came e ∙ sym (line_came line)
 
+  -- a tail: a refusal ends no text, wherever its place is
+  ends_moved : (m : ℕ) (said : Said) → ends (by.acts src.beginning said) ≡ ends (by.acts src.beginning (said_in_line m said))
+  ends_moved m (says kind address payload) = refl
+  ends_moved m (wrong r) = rw (by.refused src.beginning r, by.refused src.beginning (refusal_in_line m r))
+
+  ends_as : (line : List ℕ) → ends_text src line ≡ ends (by.acts src.beginning (J line))
+  ends_as line = ap ends (by.act_is src.beginning line)
+
+  passes_all : (at_end : Bool) → Every NamesNone (passed at_end)
+  passes_all true = (tt, tt)
+  passes_all false = tt
+
+  past_moved : (inside : ℕ → Bool) (n : ℕ) (st : Standing Unit) (m : ℕ) (bytes line : List ℕ) → said_in_line m (J bytes) ≡ J line
+      → in_line m (at_line (past src) inside n st bytes) ≡ at_line (past src) inside n st line
+  unfolding at_line
+  past_moved inside n st m bytes line e =
+      let same : ends_text src bytes ≡ ends_text src line = ends_as bytes ∙ ends_moved m (J bytes) ∙ ap (λ (said : Said). ends (by.acts src.beginning said)) e ∙ sym (ends_as line) in
+      ap (λ (b : Bool). in_line m (acted inside n tt st.tally st.stated (passed b))) same
+      ∙ acted_stays inside n m tt (passed (ends_text src line)) (passes_all (ends_text src line)) st.tally st.stated
+
+-- ---- a source that takes bytes as a line, if what is said of them, in their line, is said of the line
+
+module _ {S : Type 0} (src : Source S) (J : List ℕ → Said) (names : NamesPlaces J)
+    (moves : (inside : ℕ → Bool) (n : ℕ) (st : Standing S) (m : ℕ) (bytes line : List ℕ) → said_in_line m (J bytes) ≡ J line → in_line m (at_line src inside n st bytes) ≡ at_line src inside n st line) where
   kept_so : KeptSo src
   kept_so =
       record {
-        in_carry = λ inside n st k few. moved inside n st k.skipped k.bytes (stands_for k) (said_kept J names k few);
-        in_chunk = λ inside n st line. moved inside n st 0 line (stands_for (brief line)) (said_whole J names line ∙ sym (brief_judged J names.judges line));
+        in_carry = λ inside n st k few. moves inside n st k.skipped k.bytes (stands_for k) (said_kept J names k few);
+        in_chunk = λ inside n st line. moves inside n st 0 line (stands_for (brief line)) (said_whole J names line ∙ sym (brief_judged J names.judges line));
       }
 
 -- ---- both sources
@@ -115,19 +141,23 @@ does_passes base (start_segment cs ip) = (tt, tt)
 does_passes base (extended_linear number) = tt
 does_passes base (start_linear number) = (tt, tt)
 
-pub intel_kept_so : KeptSo intel
+intel_acts : ActsBy intel-line.judge intel
 unfolding intel_by act
-intel_kept_so =
-    kept_so intel intel-line.judge
-    (record {
+intel_acts =
+    record {
       acts = act;
       leaves = base_after;
       act_is = λ base line. refl;
       next_is = λ base line. refl;
       refused = λ base r. refl;
       passed = λ base kind address payload. does_passes base (meaning kind address payload);
-    })
-    intel_names
+    }
+
+pub intel_kept_so : KeptSo intel
+intel_kept_so = kept_so intel intel-line.judge intel_names (moved intel intel-line.judge intel_acts)
+
+pub past_intel_kept_so : KeptSo (past intel)
+past_intel_kept_so = kept_so (past intel) intel-line.judge intel_names (past_moved intel intel-line.judge intel_acts)
 
 s_does_passes : (x : SMeaning) → Every NamesNone (s_does x)
 unfolding s_does
@@ -136,16 +166,20 @@ s_does_passes (s_data address bytes) = (tt, tt)
 s_does_passes (s_count stated) = (tt, tt)
 s_does_passes (s_end address) = (tt, (tt, tt))
 
-pub s_records_kept_so : KeptSo s_records
+s_acts : ActsBy judge s_records
 unfolding s_records s_act
-s_records_kept_so =
-    kept_so s_records judge
-    (record {
+s_acts =
+    record {
       acts = λ s. s_act;
       leaves = λ s said. tt;
       act_is = λ s line. refl;
       next_is = λ s line. refl;
       refused = λ s r. refl;
       passed = λ s kind address payload. s_does_passes (s_meaning kind address payload);
-    })
-    s_names
+    }
+
+pub s_records_kept_so : KeptSo s_records
+s_records_kept_so = kept_so s_records judge s_names (moved s_records judge s_acts)
+
+pub past_s_records_kept_so : KeptSo (past s_records)
+past_s_records_kept_so = kept_so (past s_records) judge s_names (past_moved s_records judge s_acts)

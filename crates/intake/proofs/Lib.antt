@@ -3,9 +3,16 @@ pub mod Claims
 pub mod Counting
 pub mod Brief
 pub mod InLine
+pub mod Past
+pub mod Ways
 pub mod Turning
 pub mod Hearing
 pub mod Coming
 pub mod Feeding
 pub mod Finishing
 pub mod Unique
+pub mod Before
+pub mod Following
+pub mod Rows
+pub mod Bare
+pub mod Tails

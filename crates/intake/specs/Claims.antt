@@ -1,25 +1,35 @@
 -- What is claimed of a load that is fed, against a load of the whole text: of every source that takes a line as what is kept of it stands for. Each
--- claim is proved in `proofs/Claims.antt`, those on chunks in `proofs/Counting.antt`, and those on `begin` and `finish` in `proofs/Finishing.antt`.
+-- claim is proved in `proofs/Claims.antt`, those on chunks in `proofs/Counting.antt`, those on tails in `proofs/Past.antt` and
+-- `proofs/Bare.antt`, on ways in `proofs/Ways.antt`, that on S-records in
+-- `proofs/Unique.antt`, and those on `begin`, `begin_tail` and `finish` in `proofs/Finishing.antt`.
 -- Assumes nothing.
-use Rattle.std.specs.Prelude.{◌≡◌, ℕ, suc, ◌^◌, ◌<◌, Bool, true, ◌||◌, List, ◌++◌, length, take}
+use Rattle.std.specs.Prelude.{◌≡◌, ℕ, suc, ◌^◌, ◌<◌, Bool, true, false, ◌||◌, ◌⊎◌, List, [], ◌++◌, length, take}
 use Rattle.std.proofs.Math.Option.{none, some}
 use Rattle.marks.specs.Claims.{Bytes}
 use Rattle.reader.specs.Lines.{through}
 use Rattle.chunks.specs.Begun.{Begun, nothing, brief, stands_for}
 use Rattle.chunks.specs.Rows.{joined}
+use Rattle.steps.specs.declared.LoaderError.TheVariants.{MissingEndOfFileRecord}
+use Rattle.steps.specs.Aliases.{Loading}
 use Rattle.steps.specs.Steps.{Placement, Tally, nothing_yet, Verdict, accepted, by, decision, verdict, stated}
-use Rattle.steps.specs.Source.{Source, steps_of}
+use Rattle.steps.specs.Source.{Source, steps, steps_of}
 use Rattle.steps.specs.Taken.{Standing, at_first, at_line}
 use Rattle.window.specs.Window.{unfit}
 use Rattle.intake.specs.declared.Kind.{Kind}
+use Rattle.intake.specs.declared.Kind.TheVariants.{SRecords}
 use Rattle.intake.specs.declared.Intake.{Intake}
-use Rattle.intake.specs.declared.Ending.{Ending}
+use Rattle.intake.specs.Aliases.{Ending}
 use Rattle.intake.specs.Machine.{Taking, Fed, wants_more, decided, takes, fed, ended_by, stated_by, ended}
 use Rattle.intake.specs.Counting.{CountsOne, fed_all}
 use Rattle.intake.specs.declared.Reply.{Reply}
 use Rattle.intake.specs.declared.Reply.TheVariants.{WantsMore, Decided, CarryTooSmall}
 use Rattle.intake.specs.Intake.{spoilt, Feeds}
-use Rattle.intake.specs.Ending.{Begins, Finishes}
+use Rattle.intake.specs.Ending.{Begins, BeginsTail, Finishes}
+use Rattle.intake.specs.Past.{EndsAlike, past}
+use Rattle.intake.specs.Ways.{way_of}
+use Rattle.intake.specs.Helpers.{nothing_met}
+use Rattle.std.specs.Prelude.{None, Some}
+use Rattle.steps.specs.Aliases.{refuse}
 
 -- what is kept of a line stands for it: it does the same, and leaves the same state
 pub record Briefly {S : Type 0} (src : Source S) : Type 0 where
@@ -96,10 +106,66 @@ ChunksAsLoad =
     × EndsSo src inside (joined chunks) (takes src inside) (fed_chunks src inside chunks)
     × WaitsSo src inside (joined chunks) (fed_chunks src inside chunks)
 
+-- ---- tails
+
+-- what is kept of a line of a tail stands for it, and a line counts one data record at most
+abbrev pub PastBriefly : Type 1
+PastBriefly = (S : Type 0) (src : Source S) → Briefly src → Briefly (past src)
+
+abbrev pub PastCountsOne : Type 1
+PastCountsOne = (S : Type 0) (src : Source S) → CountsOne (past src)
+
+-- so all of the above holds of every way: of both kinds of text, and of their tails
+abbrev pub EveryWay : Type 0
+EveryWay = (kind : Kind) (tail : Bool) → Briefly (way_of kind tail).source × CountsOne (way_of kind tail).source
+
+-- a tail states nothing
+abbrev pub PastStatesNothing : Type 1
+PastStatesNothing = (S : Type 0) (src : Source S) (text : List ℕ) → stated (steps_of (past src) text) ≡ []
+
+-- and no line of it is refused: the one that decides has met nothing
+abbrev pub PastNeverRefuses : Type 1
+PastNeverRefuses =
+    (S : Type 0) (src : Source S) (inside : ℕ → Bool) (text : List ℕ) (n : ℕ) (v : Verdict) → decision inside nothing_yet (steps_of (past src) text) ≡ some (by n v)
+    → v ≡ accepted nothing_yet
+
+-- lines that a load accepts by line m, from any state and tally on, are passed over through line m: so is every tail of a text that is accepted
+abbrev pub PastWhatIsAccepted : Type 1
+PastWhatIsAccepted =
+    (S : Type 0) (src : Source S) (inside : ℕ → Bool) (t k : Tally) (s : S) (n m : ℕ) (ls : List (List ℕ)) → EndsAlike src
+    → decision inside t (steps src s n ls) ≡ some (by m (accepted k)) → decision inside nothing_yet (steps (past src) tt n ls) ≡ some (by m (accepted nothing_yet))
+
+-- the same of the code. A tail that is fed stages nothing, and what is decided has met nothing, unless the window is refused
+abbrev pub FeedsATail : Type 0
+FeedsATail =
+    (s : Intake) (chunk carry : List ℕ) (first : ℕ) (stage stated : List ℕ) (r : Reply) (c p m : List ℕ) → Bytes stated → s.tail ≡ true
+    → Feeds s chunk carry first stage stated r c p m
+    → (p ≡ stage) × (m ≡ stated) × ((l : Loading) (used : ℕ) → unfit first (length stage) (length stated) ≡ false → r ≡ Decided l used → l ≡ nothing_met)
+
+-- where the text ends the same holds, but a tail without an end record is refused
+abbrev pub FinishesATail : Type 0
+FinishesATail =
+    (s : Intake) (carry : List ℕ) (first : ℕ) (stage stated : List ℕ) (r : Ending) (c p m : List ℕ) → Bytes stated → s.tail ≡ true
+    → Finishes s carry first stage stated r c p m
+    → (p ≡ stage) × (m ≡ stated)
+    × ((l : Loading) → unfit first (length stage) (length stated) ≡ false → r ≡ Some l → (l ≡ nothing_met) ⊎ (l ≡ refuse MissingEndOfFileRecord 0))
+
+-- ---- a load of S-records, and no tail
+
+-- S-records keep the base of the state, and state no start before their end
+abbrev pub SRecordsKeepTheBase : Type 0
+SRecordsKeepTheBase =
+    (s s' : Intake) (chunk carry : List ℕ) (first : ℕ) (stage stated : List ℕ) (c p m : List ℕ) → s.kind ≡ SRecords → s.tail ≡ false
+    → Feeds s chunk carry first stage stated (WantsMore s') c p m
+    → (s'.base ≡ s.base) × (s'.tally.start ≡ None)
+
 -- ---- no second answer meets a contract
 
 abbrev pub BeginUnique : Type 0
 BeginUnique = (kind : Kind) (stated : List ℕ) (r r' : Intake) (m m' : List ℕ) → Begins kind stated r m → Begins kind stated r' m' → (r ≡ r') × (m ≡ m')
+
+abbrev pub BeginTailUnique : Type 0
+BeginTailUnique = (kind : Kind) (r r' : Intake) → BeginsTail kind r → BeginsTail kind r' → r ≡ r'
 
 -- the carry is fixed where the load is refused before all else
 abbrev pub FinishUnique : Type 0

@@ -1,34 +1,37 @@
 -- What the intake's functions promise each other.
 -- Assumes nothing.
 use Rattle.std.specs.Prelude.{◌≡◌, ℕ, ◌+◌, ◌%◌, ◌^◌, ◌<◌, ◌≤◌, Bool, false, List, [], ◌++◌, length, drop, nat_lt}
-use Rattle.std.proofs.Math.Option.{none}
 use Rattle.std.specs.Prelude.{if◌then◌else◌}
 use Rattle.reader.specs.Text.{default_options}
 use Rattle.chunks.specs.Begun.{Kept, brief, stands_for}
 use Rattle.chunks.specs.Helpers.{refusal_in_line}
 use Rattle.chunks.specs.Next.{begun, too_small}
 use Rattle.chunks.specs.declared.Chunks.{Chunks}
-use Rattle.steps.specs.declared.Start.TheVariants.{Unstated}
+use Rattle.steps.specs.Aliases.{Loading}
 use Rattle.steps.specs.declared.Tally.{Tally as CodeTally}
 use Rattle.steps.specs.Steps.{Placement, Verdict, accepted, refused}
 use Rattle.steps.specs.Source.{Source}
 use Rattle.steps.specs.Taken.{Standing, Went, on, stopped, at_line}
-use Rattle.steps.specs.Told.{tallied, told_loading}
+use Rattle.steps.specs.Told.{told_loading}
 use Rattle.window.specs.Window.{within, window}
 use Rattle.window.specs.Promises.{Painted}
-use Rattle.intel.specs.Placing.{Base, intel}
+use Rattle.intel.specs.Placing.{intel}
 use Rattle.loader.specs.declared.Base.{Base as CodeBase}
-use Rattle.loader.specs.Helpers.{based}
 use Rattle.srecload.specs.Placing.{s_records}
 use Rattle.intake.specs.declared.Kind.{Kind}
 use Rattle.intake.specs.declared.Kind.TheVariants.{Hex, SRecords}
 use Rattle.intake.specs.declared.Intake.{Intake}
+use Rattle.intake.specs.declared.Reply.{Reply}
+use Rattle.intake.specs.declared.Reply.TheVariants.{WantsMore, Decided, CarryTooSmall}
 use Rattle.intake.specs.declared.Turn.{Turn}
 use Rattle.intake.specs.declared.Turn.TheVariants as turn
 use Rattle.intake.specs.declared.Walk.{Walk}
 use Rattle.intake.specs.declared.Heard.{Heard}
 use Rattle.intake.specs.declared.Heard.TheVariants as heard
 use Rattle.intake.specs.Machine.{takes, Fed, wants_more, decided, fed}
+use Rattle.intake.specs.Past.{ends_text}
+use Rattle.intake.specs.Ways.{StandingBy, Way, way_of}
+use Rattle.std.specs.Prelude.{None, Ok}
 
 -- what the bytes that are kept of a line come to, as what their line comes to: a refusal that names the last byte of 522 names its place in the line
 abbrev pub in_line : {S : Type 0} → (skipped : ℕ) → Went S → Went S
@@ -47,18 +50,6 @@ abbrev pub verdict_in_line : (skipped : ℕ) → Verdict → Verdict
 verdict_in_line n (accepted t) = accepted t
 verdict_in_line n (refused r line) = refused (refusal_in_line n r) line
 
--- ---- where a load stands in the code's numbers
-
--- how the code's base and tally stand for where a load of a kind stands
-abbrev pub StandingBy : (S : Type 0) → Type 0
-StandingBy S = CodeBase → CodeTally → (stated : List Placement) → Standing S
-
-abbrev pub hex_standing : StandingBy Base
-hex_standing base tally ps = record { state = based base; tally = tallied tally; stated = ps }
-
-abbrev pub s_standing : StandingBy Unit
-s_standing base tally ps = record { state = tt; tally = record { records = tally.records; start = none }; stated = ps }
-
 -- ---- a line
 
 abbrev pub told_turn : {S : Type 0} → StandingBy S → Turn → List Placement → Went S
@@ -71,15 +62,27 @@ pub record TurnedBy {S : Type 0} (src : Source S) (standing : StandingBy S) (byt
   pub comes_to : in_line skipped (takes src (within first (length page₀)) n (standing base tally []) bytes) ≡ told_turn standing r stated
   pub paints : Painted (window first (length page₀)) stated page₀ marks₀ page' marks'
 
--- S-records keep the base
-abbrev pub Keeps : CodeBase → Turn → Type 0
-Keeps base (turn.On base' tally) = base' ≡ base
-Keeps base (turn.Stop l) = Unit
+-- of base and tally stays what the way says
+abbrev pub Keeps : Way → CodeBase → CodeTally → Turn → Type 0
+Keeps way base tally (turn.On base' tally') = way.stays base tally base' tally'
+Keeps way base tally (turn.Stop l) = Unit
 
-abbrev pub Turned : Kind → (bytes : List ℕ) (skipped n : ℕ) (base : CodeBase) (tally : CodeTally) (first : ℕ) (page₀ marks₀ : List ℕ) (r : Turn) (page' marks' : List ℕ) → Type 0
-Turned Hex bytes skipped n base tally first page₀ marks₀ r page' marks' = TurnedBy intel hex_standing bytes skipped n base tally first page₀ marks₀ r page' marks'
-Turned SRecords bytes skipped n base tally first page₀ marks₀ r page' marks' =
-    TurnedBy s_records s_standing bytes skipped n base tally first page₀ marks₀ r page' marks' × Keeps base r
+abbrev pub Turned : Way → (bytes : List ℕ) (skipped n : ℕ) (base : CodeBase) (tally : CodeTally) (first : ℕ) (page₀ marks₀ : List ℕ) (r : Turn) (page' marks' : List ℕ) → Type 0
+Turned way bytes skipped n base tally first page₀ marks₀ r page' marks' =
+    TurnedBy way.source way.standing bytes skipped n base tally first page₀ marks₀ r page' marks' × Keeps way base tally r
+
+-- does a line of this kind end its text?
+abbrev pub is_end : Kind → (line : List ℕ) → Bool
+is_end Hex line = ends_text intel line
+is_end SRecords line = ends_text s_records line
+
+-- what a tail is accepted with: no data record, and no start
+abbrev pub nothing_met : Loading
+nothing_met = Ok (record { records = 0; start = None })
+
+-- what a line comes to that is passed over: only the end decides
+abbrev pub passes : (at_end : Bool) → CodeBase → CodeTally → Turn
+passes at_end base tally = if at_end then turn.Stop nothing_met else turn.On base tally
 
 -- ---- the next line of a chunk
 
@@ -87,6 +90,12 @@ Turned SRecords bytes skipped n base tally first page₀ marks₀ r page' marks'
 abbrev pub hears : (after : Chunks) → Turn → Heard
 hears after (turn.On base tally) = heard.On (record { reader = after; base = base; tally = tally })
 hears after (turn.Stop l) = heard.Stop l after.position
+
+-- the line that was found last came to a turn, and this is heard of it
+pub record LineHeard (way : Way) (bytes : List ℕ) (skipped : ℕ) (after : Chunks) (w : Walk) (first : ℕ) (page₀ marks₀ : List ℕ) (h : Heard) (page' marks' : List ℕ) : Type 0 where
+  pub came : Turn
+  pub turned : Turned way bytes skipped after.line w.base w.tally first page₀ marks₀ came page' marks'
+  pub answer : h ≡ hears after came
 
 -- how many lines have ended: those up to the last that was found, and the empty ones after it
 abbrev pub count_of : Chunks → ℕ
@@ -133,16 +142,14 @@ HeardBy src standing first w chunk carry page₀ marks₀ (heard.UsedUp w') carr
 HeardBy src standing first w chunk carry page₀ marks₀ (heard.On w') carry' page' marks' = WentOn src standing first w chunk carry page₀ marks₀ w' carry' page' marks'
 HeardBy src standing first w chunk carry page₀ marks₀ (heard.Stop l used) carry' page' marks' = StoppedAt src standing first w chunk carry page₀ marks₀ (told_loading l) used page' marks'
 
--- S-records keep the base
-abbrev pub KeepsOn : CodeBase → Heard → Type 0
-KeepsOn base (heard.UsedUp w) = w.base ≡ base
-KeepsOn base (heard.On w) = w.base ≡ base
-KeepsOn base (heard.Stop l used) = Unit
+abbrev pub KeepsOn : Way → Walk → Heard → Type 0
+KeepsOn way w (heard.UsedUp w') = way.stays w.base w.tally w'.base w'.tally
+KeepsOn way w (heard.On w') = way.stays w.base w.tally w'.base w'.tally
+KeepsOn way w (heard.Stop l used) = Unit
 
-abbrev pub HeardSo : Kind → (first : ℕ) (w : Walk) (chunk carry page₀ marks₀ : List ℕ) → Heard → (carry' page' marks' : List ℕ) → Type 0
-HeardSo Hex first w chunk carry page₀ marks₀ h carry' page' marks' = HeardBy intel hex_standing first w chunk carry page₀ marks₀ h carry' page' marks'
-HeardSo SRecords first w chunk carry page₀ marks₀ h carry' page' marks' =
-    HeardBy s_records s_standing first w chunk carry page₀ marks₀ h carry' page' marks' × KeepsOn w.base h
+abbrev pub HeardSo : Way → (first : ℕ) (w : Walk) (chunk carry page₀ marks₀ : List ℕ) → Heard → (carry' page' marks' : List ℕ) → Type 0
+HeardSo way first w chunk carry page₀ marks₀ h carry' page' marks' =
+    HeardBy way.source way.standing first w chunk carry page₀ marks₀ h carry' page' marks' × KeepsOn way w h
 
 -- ---- all lines of a chunk
 
@@ -161,22 +168,7 @@ pub record CameThrough {S : Type 0} (src : Source S) (standing : StandingBy S) (
   pub fits : w.reader.used ≤ 522
   pub paints : Painted (window first (length page₀)) stated page₀ marks₀ page marks
 
-abbrev pub AllBy : {S : Type 0} → Source S → StandingBy S → (first : ℕ) (w : Walk) (chunk carry page₀ marks₀ : List ℕ) → Heard → (carry' page' marks' : List ℕ) → Type 0
-AllBy src standing first w chunk carry page₀ marks₀ (heard.UsedUp w') carry' page' marks' = CameThrough src standing first w chunk carry page₀ marks₀ w' carry' page' marks'
-AllBy src standing first w chunk carry page₀ marks₀ (heard.On w') carry' page' marks' = ⊥
-AllBy src standing first w chunk carry page₀ marks₀ (heard.Stop l used) carry' page' marks' = StoppedAt src standing first w chunk carry page₀ marks₀ (told_loading l) used page' marks'
-
-abbrev pub AllSo : Kind → (first : ℕ) (w : Walk) (chunk carry page₀ marks₀ : List ℕ) → Heard → (carry' page' marks' : List ℕ) → Type 0
-AllSo Hex first w chunk carry page₀ marks₀ h carry' page' marks' = AllBy intel hex_standing first w chunk carry page₀ marks₀ h carry' page' marks'
-AllSo SRecords first w chunk carry page₀ marks₀ h carry' page' marks' =
-    AllBy s_records s_standing first w chunk carry page₀ marks₀ h carry' page' marks' × KeepsOn w.base h
-
 -- ---- between two chunks
-
--- what was met, as a state of this kind holds it: S-records state no start before their end
-abbrev pub met_by : Kind → CodeTally → CodeTally
-met_by Hex tally = tally
-met_by SRecords tally = record { records = tally.records; start = Unstated }
 
 -- where a load stands at the front of a chunk
 abbrev pub walk_of : Intake → Walk
@@ -188,14 +180,30 @@ walk_of s =
     }
 
 -- and after one that is used up
-abbrev pub paused : Kind → Walk → Intake
-paused kind w =
+abbrev pub paused : Kind → (tail : Bool) → Walk → Intake
+paused kind tail w =
     record {
       kind = kind;
+      tail = tail;
       line = count_of w.reader;
       used = w.reader.used;
       skipped = if nat_lt w.reader.used 522 then 0 else w.reader.skipped;
       cr = w.reader.cr;
       base = w.base;
-      tally = met_by kind w.tally;
+      tally = (way_of kind tail).held w.tally;
     }
+
+-- ---- the reply to a chunk
+
+-- the chunk is used up, and this state says where the load stands then
+pub record UsedUpAs (kind : Kind) (tail : Bool) (first : ℕ) (w₀ : Walk) (chunk carry₀ page₀ marks₀ : List ℕ) (s : Intake) (carry page marks : List ℕ) : Type 0 where
+  pub end : Walk
+  pub came : CameThrough (way_of kind tail).source (way_of kind tail).standing first w₀ chunk carry₀ page₀ marks₀ end carry page marks
+  pub stays : (way_of kind tail).stays w₀.base w₀.tally end.base end.tally
+  pub answer : s ≡ paused kind tail end
+
+abbrev pub AllSo : Kind → (tail : Bool) (first : ℕ) (w : Walk) (chunk carry page₀ marks₀ : List ℕ) → Reply → (carry' page' marks' : List ℕ) → Type 0
+AllSo kind tail first w chunk carry page₀ marks₀ (WantsMore s) carry' page' marks' = UsedUpAs kind tail first w chunk carry page₀ marks₀ s carry' page' marks'
+AllSo kind tail first w chunk carry page₀ marks₀ (Decided l used) carry' page' marks' =
+    StoppedAt (way_of kind tail).source (way_of kind tail).standing first w chunk carry page₀ marks₀ (told_loading l) used page' marks'
+AllSo kind tail first w chunk carry page₀ marks₀ CarryTooSmall carry' page' marks' = ⊥

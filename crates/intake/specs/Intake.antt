@@ -4,30 +4,36 @@ use Rattle.std.specs.Prelude.{◌≡◌, ℕ, ◌%◌, ◌^◌, ◌≤◌, Bool,
 use Rattle.std.specs.Prelude.{if◌then◌else◌}
 use Rattle.chunks.specs.Begun.{Begun}
 use Rattle.steps.specs.declared.LoaderError.TheVariants.{BadWindow}
-use Rattle.steps.specs.declared.Loading.{Loading}
-use Rattle.steps.specs.declared.Loading.TheVariants.{Refused}
-use Rattle.steps.specs.declared.Start.TheVariants.{Unstated}
+use Rattle.steps.specs.Aliases.{Loading}
 use Rattle.steps.specs.Steps.{Placement}
 use Rattle.steps.specs.Source.{Source}
 use Rattle.steps.specs.Told.{told_loading}
 use Rattle.window.specs.Window.{unfit, within, window}
 use Rattle.window.specs.Promises.{Painted}
-use Rattle.intel.specs.Placing.{intel}
 use Rattle.loader.specs.declared.Base.TheVariants.{Segment}
-use Rattle.srecload.specs.Placing.{s_records}
 use Rattle.intake.specs.declared.Kind.{Kind}
-use Rattle.intake.specs.declared.Kind.TheVariants.{Hex, SRecords}
 use Rattle.intake.specs.declared.Intake.{Intake}
 use Rattle.intake.specs.declared.Reply.{Reply}
 use Rattle.intake.specs.declared.Reply.TheVariants.{WantsMore, Decided, CarryTooSmall}
 use Rattle.intake.specs.Machine.{takes, Fed, wants_more, decided, fed}
-use Rattle.intake.specs.Helpers.{StandingBy, hex_standing, s_standing}
+use Rattle.intake.specs.Ways.{StandingBy, Way, way_of}
+use Rattle.std.specs.Prelude.{None}
+use Rattle.steps.specs.Aliases.{refuse}
 
 -- ---- a state
 
+-- before the first line of a text, or of a tail
+abbrev pub fresh : Kind → (tail : Bool) → Intake
+fresh kind tail =
+    record { kind = kind; tail = tail; line = 0; used = 0; skipped = 0; cr = false; base = Segment 0; tally = record { records = 0; start = None } }
+
 -- at the beginning of a text
 abbrev pub new_intake : Kind → Intake
-new_intake kind = record { kind = kind; line = 0; used = 0; skipped = 0; cr = false; base = Segment 0; tally = record { records = 0; start = Unstated } }
+new_intake kind = fresh kind false
+
+-- where a tail begins: everything through the next end record is passed over
+abbrev pub new_tail : Kind → Intake
+new_tail kind = fresh kind true
 
 -- how many digits were left out: none of a line of which fewer than 522 bytes are used
 abbrev pub left_out : Intake → ℕ
@@ -52,6 +58,7 @@ pub record Wants {S : Type 0} (src : Source S) (standing : StandingBy S) (first 
   pub placements : List Placement
   pub comes_to : fed_on src standing (within first (length stage)) s chunk carry ≡ wants_more s'.line (standing s'.base s'.tally placements) (begun_in s' carry')
   pub kind_is : s'.kind ≡ s.kind
+  pub tail_is : s'.tail ≡ s.tail
   pub skipped_is : s'.skipped ≡ left_out s'
   pub used_fits : s'.used ≤ 522
   pub carry_size : length carry' ≡ length carry
@@ -70,20 +77,19 @@ FeedsBy src standing first s chunk carry stage stated (WantsMore s') carry' stag
 FeedsBy src standing first s chunk carry stage stated (Decided l used) carry' stage' stated' = Decides src standing first s chunk carry stage stated l used stage' stated'
 FeedsBy src standing first s chunk carry stage stated CarryTooSmall carry' stage' stated' = ⊥
 
--- S-records keep the base, and state no start before their end
-abbrev pub Unmoved : Intake → Reply → Type 0
-Unmoved s (WantsMore s') = (s'.base ≡ s.base) × (s'.tally.start ≡ Unstated)
-Unmoved s (Decided l used) = Unit
-Unmoved s CarryTooSmall = Unit
+-- of base and tally stays what the way says, and the tally is one that a state holds
+abbrev pub Unmoved : Way → Intake → Reply → Type 0
+Unmoved way s (WantsMore s') = way.stays s.base s.tally s'.base s'.tally × (way.held s'.tally ≡ s'.tally)
+Unmoved way s (Decided l used) = Unit
+Unmoved way s CarryTooSmall = Unit
 
-abbrev pub FeedsSo : Kind → (first : ℕ) (s : Intake) (chunk carry stage stated : List ℕ) → Reply → (carry' stage' stated' : List ℕ) → Type 0
-FeedsSo Hex first s chunk carry stage stated r carry' stage' stated' = FeedsBy intel hex_standing first s chunk carry stage stated r carry' stage' stated'
-FeedsSo SRecords first s chunk carry stage stated r carry' stage' stated' =
-    FeedsBy s_records s_standing first s chunk carry stage stated r carry' stage' stated' × Unmoved s r
+abbrev pub FeedsSo : Way → (first : ℕ) (s : Intake) (chunk carry stage stated : List ℕ) → Reply → (carry' stage' stated' : List ℕ) → Type 0
+FeedsSo way first s chunk carry stage stated r carry' stage' stated' =
+    FeedsBy way.source way.standing first s chunk carry stage stated r carry' stage' stated' × Unmoved way s r
 
 -- the contract of `feed`
 pub record Feeds (s : Intake) (chunk carry : List ℕ) (first : ℕ) (stage stated : List ℕ) (r : Reply) (carry' stage' stated' : List ℕ) : Type 0 where
   pub small : spoilt s carry ≡ true → (r ≡ CarryTooSmall) × (carry' ≡ carry) × (stage' ≡ stage) × (stated' ≡ stated)
   pub bad_window : spoilt s carry ≡ false → unfit first (length stage) (length stated) ≡ true
-      → (r ≡ Decided (Refused BadWindow 0) 0) × (carry' ≡ carry) × (stage' ≡ stage) × (stated' ≡ stated)
-  pub feeds : spoilt s carry ≡ false → unfit first (length stage) (length stated) ≡ false → FeedsSo s.kind first s chunk carry stage stated r carry' stage' stated'
+      → (r ≡ Decided (refuse BadWindow 0) 0) × (carry' ≡ carry) × (stage' ≡ stage) × (stated' ≡ stated)
+  pub feeds : spoilt s carry ≡ false → unfit first (length stage) (length stated) ≡ false → FeedsSo (way_of s.kind s.tail) first s chunk carry stage stated r carry' stage' stated'

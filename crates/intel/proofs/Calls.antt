@@ -17,9 +17,8 @@ use Rattle.record.specs.Written.{Sayable}
 use Rattle.record.specs.declared.Record.{Record}
 use Rattle.record.specs.declared.Record.TheVariants.{Data, EndOfFile, ExtendedSegmentAddress, StartSegmentAddress, ExtendedLinearAddress, StartLinearAddress}
 use Rattle.record.proofs.Writing.{said_is_sayable}
-use Rattle.reader.specs.declared.Answer.TheVariants as answer
+use Rattle.reader.specs.Aliases.{Answer}
 use Rattle.reader.specs.declared.ReaderError.{ReaderError}
-use Rattle.reader.specs.declared.Reply.TheVariants.{Read, Refused, Done}
 use Rattle.reader.specs.declared.ReaderOptions.{ReaderOptions}
 use Rattle.reader.specs.declared.State.{State}
 use Rattle.reader.specs.declared.Replied.{Replied}
@@ -34,6 +33,7 @@ use Rattle.reader.proofs.Room.{never_full, ends_stops}
 use Rattle.reader.specs.Along.{unread, Countable}
 use Rattle.reader.proofs.Along.{heard, ended, unread_judged}
 use Rattle.intel.specs.Records.{Short, LiesIn, UnderWay}
+use Rattle.std.specs.Prelude.{Err, None, Ok, Some}
 
 -- ---- a record, in a pool with room for every one
 
@@ -47,7 +47,7 @@ rec_of (extended_linear n) = ExtendedLinearAddress n
 rec_of (start_linear n) = StartLinearAddress n
 
 module _ (pool : List ℕ) (room : length pool ≡ 255) where
-  rec_told : (m : Meaning) → Sayable m → told (answer.Read (rec_of m)) ≡ given m (length pool) 0
+  rec_told : (m : Meaning) → Sayable m → told (Ok (rec_of m)) ≡ given m (length pool) 0
   unfolding given rec_of
   rec_told (data_at offset bytes) s = let h : 0 + length bytes ≤ length pool = omega (arith, s.1) in rw (le-leb (0 + length bytes) (length pool) h)
   rec_told end_of_file s = refl
@@ -68,10 +68,10 @@ module _ (pool : List ℕ) (room : length pool ≡ 255) where
   rec_means (start_linear n) s = refl
 
   -- no other record tells the same
-  rec_only : (m : Meaning) → Sayable m → (x : Record) → told (answer.Read x) ≡ given m (length pool) 0 → x ≡ rec_of m
-  rec_only m s x e = again (told_apart (answer.Read x) (answer.Read (rec_of m)) (e ∙ sym (rec_told m s)))
+  rec_only : (m : Meaning) → Sayable m → (x : Record) → told (Ok x) ≡ given m (length pool) 0 → x ≡ rec_of m
+  rec_only m s x e = again (told_apart (Ok x) (Ok (rec_of m)) (e ∙ sym (rec_told m s)))
     where
-      again : {a b : Record} → answer.Read a ≡ answer.Read b → a ≡ b
+      again : {a b : Record} → ◌≡◌ {A = Answer} (Ok a) (Ok b) → a ≡ b
       again e = cc
 
 rec_lies : (pool : List ℕ) → length pool ≡ 255 → (m : Meaning) → Sayable m → LiesIn (rec_of m) pool
@@ -104,11 +104,11 @@ pub record ReadAs (line pool' : List ℕ) (x : Record) : Type 0 where
   pub lies : length pool' ≡ 255 → LiesIn x pool'
 
 module _ (line pool pool' : List ℕ) (room : length pool ≡ 255) where
-  pub line_read : (x : Record) → ReadRecord line pool 0 (answer.Read x) pool' → ReadAs line pool' x
+  pub line_read : (x : Record) → ReadRecord line pool 0 (Ok x) pool' → ReadAs line pool' x
   unfolding answered poured
   line_read x reads = go (judge line) refl reads.answer reads.left
     where
-      go : (said : Said) → judge line ≡ said → told (answer.Read x) ≡ answered said (length pool) 0 → pool' ≡ poured said pool 0 → ReadAs line pool' x
+      go : (said : Said) → judge line ≡ said → told (Ok x) ≡ answered said (length pool) 0 → pool' ≡ poured said pool 0 → ReadAs line pool' x
       go (wrong w) j t l = let z : ◌≡◌ {A = ℕ} 0 1 = cc in absurd (omega arith)
       go (says kind address payload) j t l =
           let m = meaning kind address payload in
@@ -123,7 +123,7 @@ module _ (line pool pool' : List ℕ) (room : length pool ≡ 255) where
             lies = λ k. subst (λ (y : Record). LiesIn y pool') (sym x-is) (rec_lies pool' k m sm);
           }
 
-  pub line_refused : (e : ReaderError) → ReadRecord line pool 0 (answer.Refused e) pool' → judge line ≡ wrong (refusal_of e)
+  pub line_refused : (e : ReaderError) → ReadRecord line pool 0 (Err e) pool' → judge line ≡ wrong (refusal_of e)
   unfolding answered
   line_refused e reads = go (judge line) refl reads.answer
     where
@@ -167,7 +167,7 @@ module _ {opts : ReaderOptions} (s : State) (text pool : List ℕ) (r : Replied)
   fits : (line : List ℕ) (said : Said) → judge line ≡ said → is_full (answered said (length pool) 0) ≡ false
   fits line said j = subst (λ (y : Said). is_full (answered y (length pool) 0) ≡ false) j (never_full line (length pool) 0 (omega arith))
 
-  pub came_done : r.reply ≡ Done → unread s text ≡ []
+  pub came_done : r.reply ≡ None → unread s text ≡ []
   unfolding answered
   came_done e = go (unread s text) refl
     where
@@ -184,7 +184,7 @@ module _ {opts : ReaderOptions} (s : State) (text pool : List ℕ) (r : Replied)
           let z : ◌≡◌ {A = ℕ} 0 1 = cc in
           absurd (omega arith)
 
-  pub came_refused : (e : ReaderError) → r.reply ≡ Refused e
+  pub came_refused : (e : ReaderError) → r.reply ≡ Some (Err e)
       → (more : List Numbered) × (unread s text ≡ on r.state.line (wrong (refusal_of e)) ∷ more)
   unfolding answered
   came_refused e q = go (unread s text) refl
@@ -216,7 +216,7 @@ module _ {opts : ReaderOptions} (s : State) (text pool : List ℕ) (r : Replied)
     pub options : r.state.options ≡ opts
     pub countable : Countable r.state text
 
-  pub after_refused : (e : ReaderError) → r.reply ≡ Refused e → AfterRefused e
+  pub after_refused : (e : ReaderError) → r.reply ≡ Some (Err e) → AfterRefused e
   unfolding answered stops
   after_refused e q =
       let (more, u) = came_refused e q in
@@ -248,7 +248,7 @@ module _ {opts : ReaderOptions} (s : State) (text pool : List ℕ) (r : Replied)
     pub options : r.state.options ≡ opts
     pub countable : Countable r.state text
 
-  pub came_read : (x : Record) → r.reply ≡ Read x → One x
+  pub came_read : (x : Record) → r.reply ≡ Some (Ok x) → One x
   unfolding answered poured stops
   came_read x q = go (unread s text) refl
     where

@@ -5,7 +5,7 @@ use mathlib.Core.Path.{◌≡◌, refl, sym, ◌∙◌, ap}
 use mathlib.Core.List.{List}
 use native.Mathlib.Omega.{arith}
 use Rattle.reader.specs.declared.Reader.{Reader}
-use Rattle.reader.specs.declared.Reply.{Reply}
+use Rattle.reader.specs.Aliases.{Reply}
 use Rattle.reader.specs.Text.{Outcome, Meets}
 use Rattle.reader.specs.Held.{held, Asked}
 use Rattle.reader.proofs.Stays.{step}

@@ -9,9 +9,6 @@ use reader::{Reader, ReaderOptions, Replied, Reply, State};
 use record::Record;
 use writer::Written;
 
-// How many records an array has.
-const MOST: usize = 64;
-
 // The first answer of a text, with both stops on.
 pub fn first_record(text: &[u8], pool: &mut [u8], at: usize) -> Reply
     ensures { FirstRecord text.now pool.old at result pool.new }
@@ -37,33 +34,20 @@ pub fn nth_of(text: &[u8], options: ReaderOptions, pool: &mut [u8], at: usize, n
     ensures { NthOf options text.now pool.old at n result pool.new }
 {
     let mut reader = Reader::new_with_options(text, options);
-    let mut i = 0;
-    loop {
-        let reply = reader.next(pool, at);
-        if i >= n {
-            return Replied {
-                reply,
-                state: reader.state,
-            };
-        }
-        i += 1;
+    for _ in 0..n {
+        reader.next(pool, at);
     }
-}
-
-// The object of the first n records of an array, which is lent.
-fn write_front(records: [Record; 64], n: usize, pool: &[u8], out: &mut [u8]) -> Written
-    requires { n ≤ 64 }
-    ensures { WriteObject (take n records) pool.now out.old result out.new }
-{
-    writer::create_object_file_representation(&records[..n], pool, out)
+    let reply = reader.next(pool, at);
+    Replied {
+        reply,
+        state: reader.state,
+    }
 }
 
 // The object of the first n records of an array, or of all where it has fewer.
 pub fn object_of(records: [Record; 64], n: usize, pool: &[u8], out: &mut [u8]) -> Written
     ensures { WriteObject (take n records) pool.now out.old result out.new }
 {
-    if n > MOST {
-        return write_front(records, MOST, pool, out);
-    }
-    write_front(records, n, pool, out)
+    let front = n.min(records.len());
+    writer::create_object_file_representation(&records[..front], pool, out)
 }

@@ -4,18 +4,17 @@ use Rattle.std.proofs.Common.{◌≡◌, ℕ, Bool, true, false, ◌&&◌, eqb, 
 use mathlib.Core.Option.{Option, none, some}
 use Rattle.std.specs.Prelude.{if◌then◌else◌}
 use Rattle.record.specs.Refusals.{Refusal, bad_window}
-use Rattle.marks.specs.Marks.{row_length, first_unused, UnusedClear}
+use Rattle.marks.specs.Marks.{row_length, first_unused, told_unused, UnusedClear}
 use Rattle.marks.proofs.Below.{split}
 use Rattle.marks.proofs.UnusedBits.{none_is, none_unused}
 use Rattle.steps.specs.declared.LoaderError.TheVariants.{BadWindow}
-use Rattle.steps.specs.declared.Loading.{Loading}
-use Rattle.steps.specs.declared.Loading.TheVariants.{Accepted, Refused}
+use Rattle.steps.specs.Aliases.{Loading}
 use Rattle.steps.specs.Steps.{Tally, Verdict, accepted, refused}
 use Rattle.steps.specs.Source.{Source}
 use Rattle.steps.specs.Sites.{Loaded}
 use Rattle.steps.specs.Told.{tallied, told_loading, is_accepted}
 use Rattle.window.specs.Load.{load_window}
-use Rattle.window.proofs.Loads.{passed, turned_away, row, plain_sizes, fit_window, sizes_kept}
+use Rattle.window.proofs.Loads.{passed, row, plain_sizes, fit_window, sizes_kept}
 use Rattle.light.specs.declared.Color.TheVariants.{Broken}
 use Rattle.light.specs.declared.Light.{Light}
 use Rattle.light.specs.declared.Dumped.{Dumped}
@@ -24,13 +23,15 @@ use Rattle.light.specs.Light.{told_count, load_for, count_in, said_in, outcome, 
 use Rattle.light.specs.After.{is_none, is_row, goes_with, taken, said_after, After, AfterUnique, AfterAlike, AfterLoad, AfterLoadWindow, Examples}
 use Rattle.light.specs.Helpers.{Held, Tells, GoesWith}
 use Rattle.light.proofs.Claims.{same_color, same_dumped}
+use Rattle.std.specs.Prelude.{Ok, None, Some, not}
+use Rattle.std.specs.Option.{is_some}
+use Rattle.marks.specs.Aliases.{Unused}
+use Rattle.steps.specs.Aliases.{refuse}
+use Rattle.std.specs.Prelude.{Err}
 
 -- ---- an answer and marks
 
 module _ (answer : Loading) (places : ℕ) (marks : List ℕ) where
-  pub goes_refused : is_accepted answer ≡ false → GoesWith answer places marks true
-  goes_refused e = let (w, n, q) = turned_away answer e in record { answer_is = rw q }
-
   module _ (e : is_accepted answer ≡ true) where
     goes_by_row : (r : Bool) → r ≡ is_row places marks → GoesWith answer places marks r
     goes_by_row r s = let (t, q) = passed answer e in record { answer_is = rw q s }
@@ -42,6 +43,12 @@ module _ (answer : Loading) (places : ℕ) (marks : List ℕ) where
     pub goes_by_unused : length marks ≡ row_length places → (o : Option ℕ) → first_unused places marks ≡ o → GoesWith answer places marks (is_none o)
     unfolding is_row
     goes_by_unused s o u = goes_by_row (is_none o) (rw (eq-eqb (length marks) (row_length places) s, u))
+
+    pub goes_by_found : length marks ≡ row_length places → (o : Unused) (r : Bool) → first_unused places marks ≡ told_unused o → is_some o ≡ not r → GoesWith answer places marks r
+    goes_by_found s None true u e = goes_by_unused s none u
+    goes_by_found s None false u e = let z : ◌≡◌ {A = ℕ} 0 1 = cc in absurd (omega arith)
+    goes_by_found s (Some p) true u e = let z : ◌≡◌ {A = ℕ} 0 1 = cc in absurd (omega arith)
+    goes_by_found s (Some p) false u e = goes_by_unused s (some p) u
 
 -- a row marks no place outside
 row_clear : (places : ℕ) (marks : List ℕ) → is_row places marks ≡ true → UnusedClear places marks
@@ -64,15 +71,15 @@ goes_held answer page marks g t e i m =
 module _ (l : Light) (answer : Loading) (page marks : List ℕ) where
   -- 16
   not_taken : (eqb (length page) l.length && goes_with (told_loading answer) (length page) marks) ≡ false
-      → After l answer page marks (record { color = Broken; answer = Refused BadWindow 0; light = l })
+      → After l answer page marks (record { color = Broken; answer = refuse BadWindow 0; light = l })
   unfolding said_after taken said_in color
   not_taken e = record { color_is = rw e; answer_is = rw e; light_is = rw e }
 
-  pub after_other_length : ¬ (length page ≡ l.length) → After l answer page marks (record { color = Broken; answer = Refused BadWindow 0; light = l })
+  pub after_other_length : ¬ (length page ≡ l.length) → After l answer page marks (record { color = Broken; answer = refuse BadWindow 0; light = l })
   after_other_length n = not_taken (rw (ne_eqb (length page) l.length n))
 
   module _ (size : length page ≡ l.length) where
-    pub after_other_marks : goes_with (told_loading answer) (length page) marks ≡ false → After l answer page marks (record { color = Broken; answer = Refused BadWindow 0; light = l })
+    pub after_other_marks : goes_with (told_loading answer) (length page) marks ≡ false → After l answer page marks (record { color = Broken; answer = refuse BadWindow 0; light = l })
     after_other_marks g = not_taken (rw (eq-eqb (length page) l.length size, g))
 
     pub after_told : goes_with (told_loading answer) (length page) marks ≡ true → (r : Dumped) → Tells l answer page marks r → After l answer page marks r
@@ -107,10 +114,10 @@ module _ (l : Light) (page marks : List ℕ) where
       go false = refl
 
   said_alike : (a a' : Loading) → is_accepted a ≡ is_accepted a' → said_after l (told_loading a) page marks ≡ said_after l (told_loading a') page marks
-  said_alike (Accepted t) (Accepted t') e = said_accepted (tallied t) (tallied t')
-  said_alike (Accepted t) (Refused w' n') e = let z : ◌≡◌ {A = ℕ} 0 1 = cc in absurd (omega arith)
-  said_alike (Refused w n) (Accepted t') e = let z : ◌≡◌ {A = ℕ} 0 1 = cc in absurd (omega arith)
-  said_alike (Refused w n) (Refused w' n') e = said_refused _ n ∙ sym (said_refused _ n')
+  said_alike (Ok t) (Ok t') e = said_accepted (tallied t) (tallied t')
+  said_alike (Ok t) (Err z) e = let z : ◌≡◌ {A = ℕ} 0 1 = cc in absurd (omega arith)
+  said_alike (Err z) (Ok t') e = let z : ◌≡◌ {A = ℕ} 0 1 = cc in absurd (omega arith)
+  said_alike (Err z) (Err z') e = said_refused _ z.line ∙ sym (said_refused _ z'.line)
 
 pub after_alike : AfterAlike
 after_alike l a a' page marks r r' e x y =

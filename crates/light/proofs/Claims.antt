@@ -23,17 +23,17 @@ use Rattle.window.specs.Loads.{Alike}
 use Rattle.window.proofs.Loads.{load_answer, load_unfit, non_interference, refusal_changes_nothing as window-keeps}
 use Rattle.intel.specs.Placing.{intel, intel_by}
 use Rattle.srecload.specs.Placing.{s_records}
+use Rattle.light.specs.Aliases.{Made}
 use Rattle.light.specs.declared.Color.{Color as CodeColor}
 use Rattle.light.specs.declared.Color.TheVariants.{Broken, NoCount, First, Green, Stale, Restarted}
-use Rattle.light.specs.declared.Count.TheVariants.{Unknown}
 use Rattle.light.specs.declared.Light.{Light}
-use Rattle.light.specs.declared.Made.TheVariants as made
 use Rattle.light.specs.declared.Dumped.{Dumped}
 use Rattle.light.specs.Colors.{broken, green, stale, restarted, refused_one, uncounted, counted, forward, compared, color}
 use Rattle.light.specs.Light.{told_color, told_count, load_for, count_in, said_in, outcome, light_after, Examples}
 use Rattle.light.specs.Claims.{count_of, stated_for, said_by, said, StatesCount, MeansGreen, GreenMeans, NothingAfter, RefusalChangesNothing, BadWindowWhatever, OutsideNoCount, BadPlaceExactly, SetUpUnique, OneDump, DumpUnique, DumpSrecordsUnique}
 use Rattle.light.proofs.Turns.{green_by}
 use Rattle.light.proofs.Places.{outcome_is_said}
+use Rattle.std.specs.Prelude.{None, Some}
 
 -- ---- examples
 
@@ -122,7 +122,7 @@ pub bad_place_exactly : BadPlaceExactly
 bad_place_exactly first length high low r x = rw x.answer (go (leb length high) refl (leb length low) refl)
   where
     go : (a : Bool) → leb length high ≡ a → (b : Bool) → leb length low ≡ b
-        → ((if a || b then made.BadPlace else made.Light (record { first = first; length = length; high = high; low = low; known = Unknown })) ≡ made.BadPlace) ↔ ((length ≤ high) ⊎ (length ≤ low))
+        → ((if◌then◌else◌ {A = Made} (a || b) None (Some (record { first = first; length = length; high = high; low = low; known = None }))) ≡ None) ↔ ((length ≤ high) ⊎ (length ≤ low))
     go true p b q = (λ e. inl (leb-true length high p), λ h. refl)
     go false p true q = (λ e. inr (leb-true length low q), λ h. refl)
     go false p false q = (λ e. let z : ◌≡◌ {A = ℕ} 0 1 = cc in absurd (omega arith), λ h. absurd (neither h))

@@ -6,7 +6,7 @@ use Rattle.std.proofs.Math.Option.{Option, none, some}
 use Rattle.std.specs.Prelude.{if◌then◌else◌}
 use Rattle.record.specs.Refusals.{bad_window, missing_end_of_file_record}
 use Rattle.marks.specs.Marks.{row_length, first_unused}
-use Rattle.steps.specs.declared.Loading.{Loading}
+use Rattle.steps.specs.Aliases.{Loading}
 use Rattle.steps.specs.Steps.{nothing_yet, Verdict, accepted, refused}
 use Rattle.steps.specs.Source.{Source}
 use Rattle.steps.specs.Told.{told_loading, is_accepted}

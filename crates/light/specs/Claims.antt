@@ -12,13 +12,12 @@ use Rattle.steps.specs.Told.{told_loading}
 use Rattle.window.specs.Window.{unfit, window, one_window}
 use Rattle.intel.specs.Placing.{intel}
 use Rattle.srecload.specs.Placing.{s_records}
-use Rattle.light.specs.declared.Count.TheVariants.{Unknown}
 use Rattle.light.specs.declared.Light.{Light}
-use Rattle.light.specs.declared.Made.{Made}
-use Rattle.light.specs.declared.Made.TheVariants.{BadPlace}
+use Rattle.light.specs.Aliases.{Made}
 use Rattle.light.specs.declared.Dumped.{Dumped}
 use Rattle.light.specs.Colors.{Color, broken, no_count, green, Outcome, refused_one, uncounted, counted, forward, colors, LastCount, Shows, Sixteen}
 use Rattle.light.specs.Light.{told_color, told_count, load_for, SetUp, Dumps}
+use Rattle.std.specs.Prelude.{None}
 
 -- ---- what a dump says, from its steps and the lengths of its buffers alone
 
@@ -104,7 +103,7 @@ EachShows says Shown history (c ∷ cs) =
 
 -- the same without computing, for a light that knows no count at first
 abbrev pub ShowsHistory : Type 0
-ShowsHistory = (l : Light) (cs : List Call) → l.known ≡ Unknown → InTurn l cs → EachShows (said_of l) (λ (c : Call) (k : Color). shown c ≡ k) [] cs
+ShowsHistory = (l : Light) (cs : List Call) → l.known ≡ None → InTurn l cs → EachShows (said_of l) (λ (c : Call) (k : Color). shown c ≡ k) [] cs
 
 -- the same dump twice running, with buffers of equal sizes and whatever contents, is never green the second time
 abbrev pub NeverGreenTwice : Type 0
@@ -159,7 +158,7 @@ StatesBy srecords l text page marks count = StatesCount s_records l text page ma
 -- so it is over any number of dumps in turn, for a light that knows no count at first
 abbrev pub GreenInHistory : Type 0
 GreenInHistory =
-    (l : Light) (cs : List Call) → l.known ≡ Unknown → InTurn l cs
+    (l : Light) (cs : List Call) → l.known ≡ None → InTurn l cs
     → EachGreen (said_of l) (λ (c : Call). shown c ≡ green) (λ (c : Call). StatesBy c.kind l c.text c.page c.marks) [] cs
 
 -- what stands after the line at which a dump is decided changes neither its color nor what is remembered, whatever the buffers held
@@ -194,7 +193,7 @@ OutsideNoCount =
 
 -- BadPlace exactly where a place lies outside
 abbrev pub BadPlaceExactly : Type 0
-BadPlaceExactly = (first length high low : ℕ) (r : Made) → SetUp first length high low r → (r ≡ BadPlace) ↔ ((length ≤ high) ⊎ (length ≤ low))
+BadPlaceExactly = (first length high low : ℕ) (r : Made) → SetUp first length high low r → (r ≡ None) ↔ ((length ≤ high) ⊎ (length ≤ low))
 
 abbrev pub SetUpUnique : Type 0
 SetUpUnique = (first length high low : ℕ) (r r' : Made) → SetUp first length high low r → SetUp first length high low r' → r ≡ r'

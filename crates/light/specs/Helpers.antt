@@ -2,17 +2,17 @@
 -- Assumes nothing.
 use Rattle.std.specs.Prelude.{◌≡◌, ℕ, ◌<◌, Bool, List, length}
 use Rattle.marks.specs.Marks.{Marked}
-use Rattle.steps.specs.declared.Loading.{Loading}
+use Rattle.steps.specs.Aliases.{Loading}
 use Rattle.steps.specs.Steps.{Tally, accepted}
 use Rattle.steps.specs.Told.{told_loading}
 use Rattle.light.specs.declared.Color.{Color as CodeColor}
-use Rattle.light.specs.declared.Count.{Count}
-use Rattle.light.specs.declared.Count.TheVariants.{Unknown, Known}
+use Rattle.light.specs.Aliases.{Count}
 use Rattle.light.specs.declared.Light.{Light}
 use Rattle.light.specs.declared.Dumped.{Dumped}
 use Rattle.light.specs.Colors.{Outcome, uncounted, counted, compared, color}
 use Rattle.light.specs.Light.{told_color, told_count, count_in, said_in, light_after}
 use Rattle.light.specs.After.{goes_with}
+use Rattle.std.specs.Prelude.{None, Some}
 
 -- the color of a count, by the one that was known
 pub record Compared (known : Count) (count : ℕ) (r : CodeColor) : Type 0 where
@@ -24,8 +24,8 @@ MarkedInside page marks = (i : ℕ) → Marked marks i → i < length page
 
 -- a count of the code, as an outcome
 abbrev pub told_in : Count → Outcome
-told_in Unknown = uncounted
-told_in (Known n) = counted n
+told_in None = uncounted
+told_in (Some n) = counted n
 
 pub record Counts (page marks : List ℕ) (high low : ℕ) (r : Count) : Type 0 where
   pub count_is : told_in r ≡ count_in high low page marks

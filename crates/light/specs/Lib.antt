@@ -3,3 +3,4 @@ pub mod Light
 pub mod After
 pub mod Claims
 pub mod Helpers
+pub mod Aliases

@@ -15,13 +15,12 @@ use Rattle.window.specs.Load.{load_window}
 use Rattle.intel.specs.Placing.{intel}
 use Rattle.light.specs.declared.Color.{Color as CodeColor}
 use Rattle.light.specs.declared.Color.TheVariants.{Broken, NoCount, First, Green, Stale, Restarted}
-use Rattle.light.specs.declared.Count.{Count}
-use Rattle.light.specs.declared.Count.TheVariants.{Unknown, Known}
+use Rattle.light.specs.Aliases.{Count}
 use Rattle.light.specs.declared.Light.{Light}
-use Rattle.light.specs.declared.Made.{Made}
-use Rattle.light.specs.declared.Made.TheVariants as made
+use Rattle.light.specs.Aliases.{Made}
 use Rattle.light.specs.declared.Dumped.{Dumped}
 use Rattle.light.specs.Colors.{Color, broken, no_count, first_seen, green, stale, restarted, Outcome, refused_one, uncounted, counted, color}
+use Rattle.std.specs.Prelude.{None, Some}
 
 -- ---- what the code tells
 
@@ -34,16 +33,16 @@ told_color Stale = stale
 told_color Restarted = restarted
 
 abbrev pub told_count : Count → Option ℕ
-told_count Unknown = none
-told_count (Known n) = some n
+told_count None = none
+told_count (Some n) = some n
 
 -- ---- set-up
 
 -- BadPlace for a place outside the window; else a light that knows no count
 abbrev pub made_of : (first length high low : ℕ) → Made
 made_of first length high low =
-    if nat_le length high || nat_le length low then made.BadPlace else
-    made.Light (record { first = first; length = length; high = high; low = low; known = Unknown })
+    if nat_le length high || nat_le length low then None else
+    Some (record { first = first; length = length; high = high; low = low; known = None })
 
 -- the contract of `set_up`
 pub record SetUp (first length high low : ℕ) (r : Made) : Type 0 where
@@ -80,7 +79,7 @@ outcome src l text page marks = let d = load_for src l text page marks in said_i
 abbrev pub light_after : Light → Outcome → Light
 light_after l refused_one = l
 light_after l uncounted = l
-light_after l (counted n) = record { first = l.first; length = l.length; high = l.high; low = l.low; known = Known n }
+light_after l (counted n) = record { first = l.first; length = l.length; high = l.high; low = l.low; known = Some n }
 
 -- the contract of `dump`, and of `dump_srecords`
 pub record Dumps {S : Type 0} (src : Source S) (l : Light) (text page₀ marks₀ : List ℕ) (r : Dumped) (page' marks' : List ℕ) : Type 0 where
@@ -93,7 +92,7 @@ pub record Dumps {S : Type 0} (src : Source S) (l : Light) (text page₀ marks�
 -- ---- examples: a light of 4 places from address 0 on, with the count at two of them
 
 abbrev pub lamp : (high low : ℕ) → Light
-lamp high low = record { first = 0; length = 4; high = high; low = low; known = Unknown }
+lamp high low = record { first = 0; length = 4; high = high; low = low; known = None }
 
 -- 0005 at the places 0 and 1; 0006 there; a high byte alone; the end
 abbrev pub five : List ℕ
@@ -110,7 +109,7 @@ E = text ":00000001FF"
 
 -- a light for a window that ends beyond 2^32
 abbrev pub beyond : Light
-beyond = record { first = 0xFFFFFFFF; length = 2; high = 0; low = 1; known = Unknown }
+beyond = record { first = 0xFFFFFFFF; length = 2; high = 0; low = 1; known = None }
 
 pub record Examples : Type 0 where
   pub states_five : outcome intel (lamp 0 1) (five ++ (LF ∷ E)) (9 ∷ 9 ∷ 9 ∷ 9 ∷ []) (0 ∷ []) ≡ counted 5
@@ -124,11 +123,11 @@ pub record Examples : Type 0 where
   -- both places may be the same
   pub one_place : outcome intel (lamp 1 1) (five ++ (LF ∷ E)) (9 ∷ 9 ∷ 9 ∷ 9 ∷ []) (0 ∷ []) ≡ counted 0x0505
   -- a place is not an address
-  pub not_an_address : made_of 0x12000 8 0x12000 0x12001 ≡ made.BadPlace
+  pub not_an_address : made_of 0x12000 8 0x12000 0x12001 ≡ None
   -- a light made up by hand
   pub by_hand : outcome intel (lamp 0 9) (five ++ (LF ∷ E)) (9 ∷ 9 ∷ 9 ∷ 9 ∷ []) (0 ∷ []) ≡ uncounted
   -- a window that ends beyond 2^32 is set up, and each of its dumps is refused
-  pub set_up_beyond : made_of 0xFFFFFFFF 2 0 1 ≡ made.Light beyond
+  pub set_up_beyond : made_of 0xFFFFFFFF 2 0 1 ≡ Some beyond
   pub refused_beyond : (load_for intel beyond E (9 ∷ 9 ∷ []) (0 ∷ [])).answer ≡ refused bad_window 0
   -- a page of 5 places for 4, and marks of 2 bytes for 1
   pub longer_page : (load_for intel (lamp 0 1) E (9 ∷ 9 ∷ 9 ∷ 9 ∷ 9 ∷ []) (0 ∷ [])).answer ≡ refused bad_window 0

@@ -9,28 +9,28 @@ use lib.Dec.{eqb}
 use lib.ListN.{length, drop, replicate}
 use Rattle.marks.specs.Claims.{Bytes}
 use Rattle.marks.proofs.Rows.{zeros_bytes}
-use Rattle.steps.specs.declared.Loading.{Loading}
-use Rattle.steps.specs.declared.Loading.TheVariants.{Accepted, Refused}
+use Rattle.steps.specs.Aliases.{Loading}
 use Rattle.window.specs.Window.{unfit}
 use Rattle.commit.proofs.Claims as committing
-use Rattle.intake_tail.specs.declared.Kind.{Kind}
-use Rattle.intake_tail.specs.declared.Intake.{Intake}
-use Rattle.intake_tail.specs.declared.Reply.{Reply}
-use Rattle.intake_tail.specs.declared.Reply.TheVariants as reply
-use Rattle.intake_tail.specs.declared.Ending.{Ending}
-use Rattle.intake_tail.specs.declared.Ending.TheVariants as ending
-use Rattle.intake_tail.specs.Claims as intake
-use Rattle.intake_tail.specs.Intake.{spoilt}
-use Rattle.intake_tail.specs.Ending.{Finishes}
-use Rattle.intake_tail.proofs.Unique as feeding
-use Rattle.intake_tail.proofs.Finishing as finishing
+use Rattle.intake.specs.declared.Kind.{Kind}
+use Rattle.intake.specs.declared.Intake.{Intake}
+use Rattle.intake.specs.declared.Reply.{Reply}
+use Rattle.intake.specs.declared.Reply.TheVariants as reply
+use Rattle.intake.specs.Aliases.{Ending}
+use Rattle.intake.specs.Claims as intake
+use Rattle.intake.specs.Intake.{spoilt}
+use Rattle.intake.specs.Ending.{Finishes}
+use Rattle.intake.proofs.Unique as feeding
+use Rattle.intake.proofs.Finishing as finishing
 use Rattle.listen.specs.declared.Listener.{Listener}
 use Rattle.listen.specs.declared.Listener.TheVariants.{Front, Within, Ready}
 use Rattle.listen.specs.declared.Said.{Said}
 use Rattle.listen.specs.declared.Step.{Step}
-use Rattle.listen.specs.declared.Committed.{Committed}
+use Rattle.listen.specs.Aliases.{Committed}
 use Rattle.listen.specs.Listener.{blanks, begun, step_by, decided_by, end_by, too_small, FedTo, FromFront, HearsSo, Unread, Tested, PausesWithin, PausesSo, commit_by, Commits}
 use Rattle.listen.specs.Answers.{BeginUnique, SameCarry, OneStep, FeedUnique, PauseUnique, CommitUnique}
+use Rattle.std.specs.Prelude.{None, Ok, Some}
+use Rattle.std.specs.Prelude.{Err}
 
 pub begin_unique : BeginUnique
 begin_unique kind known r r' x y = x.answer ∙ sym y.answer
@@ -60,8 +60,8 @@ module _ (t : Bool) (l : Listener) (carry : List ℕ) (first : ℕ) (stage state
 
 -- where a load has decided, the carry may hold anything
 carried_decided : (tail : Bool) (kind : Kind) (l : Loading) (used : ℕ) (c c' : List ℕ) → Carried (decided_by tail kind l used) c c'
-carried_decided true kind (Accepted t) used c c' = tt
-carried_decided true kind (Refused e line) used c c' = tt
+carried_decided true kind (Ok t) used c c' = tt
+carried_decided true kind (Err z) used c c' = tt
 carried_decided false kind l used c c' = tt
 
 carried_by : (s : Intake) (before whole : ℕ) (a : Reply) (c c' : List ℕ) → intake.SameCarry a c c' → Carried (step_by s before whole a) c c'
@@ -104,8 +104,8 @@ feed_unique l chunk carry first stage stated r r' c c' p p' m m' few x y =
 module _ (first : ℕ) (stage : List ℕ) (r r' : Step) (c c' p p' m m' : List ℕ) (carry stated : List ℕ) (few : Bytes stated) where
   -- a load that has ended leaves anything in the carry, unless it was too small
   carried_end : (s : Intake) → spoilt s carry ≡ false → (e : Ending) → Finishes s carry first stage stated e c p m → Carried (end_by s e) c c'
-  carried_end s big (ending.Decided l) f = tt
-  carried_end s big ending.CarryTooSmall f = go (unfit first (length stage) (length stated)) refl
+  carried_end s big (Some l) f = tt
+  carried_end s big None f = go (unfit first (length stage) (length stated)) refl
     where
       go : (u : Bool) → unfit first (length stage) (length stated) ≡ u → c ≡ c'
       go true u = let h = (f.bad_window big u).0 in let z : ◌≡◌ {A = ℕ} 0 1 = cc in absurd (omega arith)

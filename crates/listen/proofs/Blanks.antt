@@ -34,9 +34,6 @@ blank_after n b = let e : n + suc b.at ≡ n + 1 + b.at = omega arith in ap (λ 
 blank_is : (b : Blank) → b ≡ after_so_many 0 b
 blank_is b = let e : b.at ≡ 0 + b.at = omega arith in ap (λ (m : ℕ). record { at = m; cr = b.cr }) e
 
-pub stands_first : (chunk : List ℕ) (cr : Bool) → Stands chunk cr cr 0
-stands_first chunk cr = let b = blanks cr chunk in (omega arith, blank_is b)
-
 module _ (chunk : List ℕ) (cr waits : Bool) (at : ℕ) (h : at < length chunk) (stands : Stands chunk cr waits at) where
   pub stands_next : is_blank (get_or chunk at 0) waits ≡ true → Stands chunk cr (eqb (get_or chunk at 0) CR) (at + 1)
   unfolding blanks

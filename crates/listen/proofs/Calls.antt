@@ -11,8 +11,7 @@ use borrow.Author.Tests.{eqb-true}
 use lib.Seq.{drop-append-le, drop-append-add, drop-drop}
 use Rattle.marks.specs.Claims.{Bytes}
 use Rattle.chunks.specs.Rows.{joined}
-use Rattle.steps.specs.declared.Loading.{Loading}
-use Rattle.steps.specs.declared.Loading.TheVariants.{Accepted, Refused}
+use Rattle.steps.specs.Aliases.{Loading}
 use Rattle.steps.specs.Steps.{stated as stated-in}
 use Rattle.steps.specs.Source.{steps_of}
 use Rattle.steps.specs.declared.Tally.{Tally}
@@ -22,30 +21,30 @@ use Rattle.window.specs.Window.{unfit, window}
 use Rattle.window.specs.Promises.{Painted}
 use Rattle.window.specs.Load.{load_window}
 use Rattle.commit.proofs.Claims.{commits_as_load}
-use Rattle.intake_tail.specs.declared.Kind.{Kind}
-use Rattle.intake_tail.specs.declared.Intake.{Intake}
-use Rattle.intake_tail.specs.declared.Reply.{Reply}
-use Rattle.intake_tail.specs.declared.Reply.TheVariants as reply
-use Rattle.intake_tail.specs.declared.Ending.{Ending}
-use Rattle.intake_tail.specs.declared.Ending.TheVariants as ending
-use Rattle.intake_tail.specs.Ways.{way_of}
-use Rattle.intake_tail.specs.Intake.{Feeds, new_tail, spoilt}
-use Rattle.intake_tail.specs.Ending.{Finishes}
-use Rattle.intake_tail.specs.Rows.{Row, no_chunk, and_then, cr_before, text_of, AsLoad, UsedThrough, PassedThrough}
-use Rattle.intake_tail.proofs.Before.{joined_one}
-use Rattle.intake_tail.proofs.Rows.{come_to, row_decides, row_ends}
-use Rattle.intake_tail.proofs.Tails.{tail_decides}
+use Rattle.intake.specs.declared.Kind.{Kind}
+use Rattle.intake.specs.declared.Intake.{Intake}
+use Rattle.intake.specs.declared.Reply.{Reply}
+use Rattle.intake.specs.declared.Reply.TheVariants as reply
+use Rattle.intake.specs.Aliases.{Ending}
+use Rattle.intake.specs.Ways.{way_of}
+use Rattle.intake.specs.Intake.{Feeds, new_tail, spoilt}
+use Rattle.intake.specs.Ending.{Finishes}
+use Rattle.intake.specs.Rows.{Row, no_chunk, and_then, cr_before, text_of, AsLoad, UsedThrough, PassedThrough}
+use Rattle.intake.proofs.Before.{joined_one}
+use Rattle.intake.proofs.Rows.{come_to, row_decides, row_ends}
+use Rattle.intake.proofs.Tails.{tail_decides}
 use Rattle.listen.specs.declared.Blank.{Blank}
 use Rattle.listen.specs.declared.Listener.{Listener}
 use Rattle.listen.specs.declared.Listener.TheVariants.{Front, Within, Ready}
 use Rattle.listen.specs.declared.Said.TheVariants.{WantsMore, Decided, Passed, CarryTooSmall}
 use Rattle.listen.specs.declared.Step.{Step}
-use Rattle.listen.specs.declared.Committed.{Committed}
-use Rattle.listen.specs.declared.Committed.TheVariants.{Done}
+use Rattle.listen.specs.Aliases.{Committed}
 use Rattle.listen.specs.Listener.{blanks, step, step_by, decided_by, end_by, after, after_end, too_small, begun, FedTo, FromFront, HearsSo, Hears, PausesSo, commit_by, Commits}
 use Rattle.listen.specs.Calls as calls
 use Rattle.listen.specs.Calls.{Listens, BeginsText, dump_in, kind_of, DumpDecides, DumpCommits, DumpEnds, EndCommits, TailPasses, PauseBegins}
 use Rattle.listen.proofs.Blanks.{after_so_many, blanks_on, blanks_begun, blanks_begin}
+use Rattle.std.specs.Prelude.{None, Ok, Some}
+use Rattle.std.specs.Prelude.{Err}
 
 -- ---- what a step says of the load's reply
 
@@ -55,8 +54,8 @@ wanted s before whole (reply.Decided l used) e = go s.tail l e
   where
     go : (t : Bool) (l : Loading) → (decided_by t s.kind l (before + used)).said ≡ WantsMore
         → (s' : Intake) × (reply.Decided l used ≡ reply.WantsMore s') × ((decided_by t s.kind l (before + used)).listener ≡ Within s')
-    go true (Accepted t) f = let z : ◌≡◌ {A = ℕ} 0 1 = cc in absurd (omega arith)
-    go true (Refused r n) f = let z : ◌≡◌ {A = ℕ} 0 1 = cc in absurd (omega arith)
+    go true (Ok t) f = let z : ◌≡◌ {A = ℕ} 0 1 = cc in absurd (omega arith)
+    go true (Err z) f = let z : ◌≡◌ {A = ℕ} 0 1 = cc in absurd (omega arith)
     go false l f = let z : ◌≡◌ {A = ℕ} 0 1 = cc in absurd (omega arith)
 wanted s before whole reply.CarryTooSmall e = let z : ◌≡◌ {A = ℕ} 0 1 = cc in absurd (omega arith)
 
@@ -293,9 +292,9 @@ dump_decides kind cr first l₀ carry₀ stage₀ stated₀ b fit bytes l carry 
 
 -- what was staged as a load states it is committed as that load leaves it
 loaded_commits : (kind : Kind) (text : List ℕ) (first : ℕ) (page marks stage₀ stated₀ stage' stated' : List ℕ) (t : Tally)
-    → AsLoad (way_of kind false).source text first page marks stage₀ (replicate (length stated₀) 0) (Accepted t) stage' stated' → length page ≡ length stage₀ → length marks ≡ length stated₀
+    → AsLoad (way_of kind false).source text first page marks stage₀ (replicate (length stated₀) 0) (Ok t) stage' stated' → length page ≡ length stage₀ → length marks ≡ length stated₀
     → (done : Committed) (page' marks' : List ℕ) → Commits (Ready kind) stage' stated' page marks done page' marks'
-    → (done ≡ Done (Front kind false)) × (page' ≡ (load_window (way_of kind false).source text first page marks).page) × (marks' ≡ (load_window (way_of kind false).source text first page marks).marks)
+    → (done ≡ Ok (Front kind false)) × (page' ≡ (load_window (way_of kind false).source text first page marks).page) × (marks' ≡ (load_window (way_of kind false).source text first page marks).marks)
 loaded_commits kind text first page marks stage₀ stated₀ stage' stated' t load even rows done page' marks' ready =
     let src = (way_of kind false).source in
     let paints = subst (λ (n : ℕ). Painted (window first (length page)) (stated-in (steps_of src text)) stage₀ (replicate n 0) stage' stated') (sym rows) (load.paints (tallied t) load.answer) in
@@ -304,7 +303,7 @@ loaded_commits kind text first page marks stage₀ stated₀ stage' stated' t lo
 
 pub dump_commits : DumpCommits
 dump_commits kind cr first l₀ carry₀ stage₀ stated₀ b fit bytes l carry stage stated row chunk r carry' stage' stated' t h told page marks done page' marks' c more short even rows =
-    let (load, _, _, there) = dump_decides kind cr first l₀ carry₀ stage₀ stated₀ b fit bytes l carry stage stated row chunk r carry' stage' stated' (Accepted t) h told more page marks short even rows in
+    let (load, _, _, there) = dump_decides kind cr first l₀ carry₀ stage₀ stated₀ b fit bytes l carry stage stated row chunk r carry' stage' stated' (Ok t) h told more page marks short even rows in
     loaded_commits kind (dump_in cr (bytes ++ (chunk ++ more))) first page marks stage₀ stated₀ stage' stated' t load even rows done page' marks'
     (subst (λ (x : Listener). Commits x stage' stated' page marks done page' marks') there c)
 
@@ -315,12 +314,12 @@ module _ (kind : Kind) (cr : Bool) (first : ℕ) (carry₀ stage₀ stated₀ : 
   abbrev EndedSo : (text : List ℕ) → Type 0
   EndedSo text = AsLoad (way_of kind false).source text first page marks stage₀ (replicate (length stated₀) 0) answer stage' stated' × (r.listener ≡ after_end kind answer)
 
-  by_end : (s : Intake) (e : Ending) → r ≡ end_by s e → (e ≡ ending.Decided answer) × (r.listener ≡ after_end s.kind answer)
-  by_end s (ending.Decided l) is =
+  by_end : (s : Intake) (e : Ending) → r ≡ end_by s e → (e ≡ Some answer) × (r.listener ≡ after_end s.kind answer)
+  by_end s (Some l) is =
       let h : Decided l ≡ Decided answer = sym (ap (λ (z : Step). z.said) is) ∙ told in
       let k : l ≡ answer = cc in
-      (ap ending.Decided k, ap (λ (z : Step). z.listener) is ∙ ap (after_end s.kind) k)
-  by_end s ending.CarryTooSmall is = let h : CarryTooSmall ≡ Decided answer = sym (ap (λ (z : Step). z.said) is) ∙ told in let z : ◌≡◌ {A = ℕ} 0 1 = cc in absurd (omega arith)
+      (ap Some k, ap (λ (z : Step). z.listener) is ∙ ap (after_end s.kind) k)
+  by_end s None is = let h : CarryTooSmall ≡ Decided answer = sym (ap (λ (z : Step). z.said) is) ∙ told in let z : ◌≡◌ {A = ℕ} 0 1 = cc in absurd (omega arith)
 
   ends_there : (bytes : List ℕ) (l : Listener) (carry stage stated : List ℕ) → Come kind cr first carry₀ stage₀ stated₀ bytes l carry stage stated → PausesSo l carry first stage stated r carry' stage' stated'
       → suc (length (dump_in cr bytes)) < 2 ^ 64 → EndedSo (dump_in cr bytes)
@@ -349,15 +348,15 @@ dump_ends kind cr first l₀ carry₀ stage₀ stated₀ b fit bytes l carry sta
 
 pub end_commits : EndCommits
 end_commits kind cr first l₀ carry₀ stage₀ stated₀ b fit bytes l carry stage stated row r carry' stage' stated' t h told page marks done page' marks' c short even rows =
-    let (load, there) = dump_ends kind cr first l₀ carry₀ stage₀ stated₀ b fit bytes l carry stage stated row r carry' stage' stated' (Accepted t) h told page marks short even rows in
+    let (load, there) = dump_ends kind cr first l₀ carry₀ stage₀ stated₀ b fit bytes l carry stage stated row r carry' stage' stated' (Ok t) h told page marks short even rows in
     loaded_commits kind (dump_in cr bytes) first page marks stage₀ stated₀ stage' stated' t load even rows done page' marks'
     (subst (λ (x : Listener). Commits x stage' stated' page marks done page' marks') there c)
 
 end_begins : (s : Intake) (carry : List ℕ) (first : ℕ) (stage stated carry' stage' stated' : List ℕ) (e : Ending) → Finishes s carry first stage stated e carry' stage' stated' → spoilt s carry ≡ false
     → unfit first (length stage) (length stated) ≡ false → BeginsText (end_by s e).listener s.kind false
-end_begins s carry first stage stated carry' stage' stated' (ending.Decided (Accepted t)) f big fit = (refl, refl)
-end_begins s carry first stage stated carry' stage' stated' (ending.Decided (Refused r n)) f big fit = (refl, refl)
-end_begins s carry first stage stated carry' stage' stated' ending.CarryTooSmall f big fit = absurd (f.ends big fit)
+end_begins s carry first stage stated carry' stage' stated' (Some (Ok t)) f big fit = (refl, refl)
+end_begins s carry first stage stated carry' stage' stated' (Some (Err z)) f big fit = (refl, refl)
+end_begins s carry first stage stated carry' stage' stated' None f big fit = absurd (f.ends big fit)
 
 pauses_begin : (l : Listener) (carry : List ℕ) (first : ℕ) (stage stated : List ℕ) (r : Step) (carry' stage' stated' : List ℕ) → too_small l (length carry) ≡ false → unfit first (length stage) (length stated) ≡ false
     → PausesSo l carry first stage stated r carry' stage' stated' → BeginsText r.listener (kind_of l) false

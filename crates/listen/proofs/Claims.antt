@@ -10,7 +10,7 @@ use lib.ListN.{length}
 use lib.Seq.{drop-length}
 use Rattle.steps.specs.Steps.{Verdict, accepted, refused, stated}
 use Rattle.steps.specs.Source.{Source}
-use Rattle.intake_tail.specs.Past.{EndsAlike}
+use Rattle.intake.specs.Past.{EndsAlike}
 use Rattle.listen.specs.Listen.{Mode, front, within, skipping, Saying, said, reaching, mode_after, Listened, first, is_end, listen, pause, stretch, listen_on}
 use Rattle.listen.specs.Skipping.{dump_steps, NoneEnds}
 use Rattle.listen.specs.Claims.{IsDump, Good, says_load, in_a_row, RowIsSaid, TailIsSkipped, OneIsLost, NoneIsLost, NeverTwo, KnownAfterAPause, GoodAreSaid, TailNeverReady, CostsOne, NoneAfterAPause}

@@ -17,7 +17,7 @@ use Rattle.steps.specs.Source as source
 use Rattle.steps.specs.Taken.{Standing, at_first, Went, on, stopped, placed_by, onward, acted, at_line}
 use Rattle.steps.proofs.Source.{count_refuses, start_refuses}
 use Rattle.steps.proofs.Taken.{acts_are}
-use Rattle.intake_tail.specs.Past.{ends, EndsAlike}
+use Rattle.intake.specs.Past.{ends, EndsAlike}
 use Rattle.listen.specs.Listen.{is_end}
 use Rattle.listen.specs.Claims.{DecidedByLast}
 use Rattle.listen.proofs.Following.{onward_steps, acts, after, Comes, same_decision}

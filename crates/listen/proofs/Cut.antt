@@ -21,7 +21,7 @@ use Rattle.steps.specs.Steps.{fails, nothing_yet, Tally, accepted, by, decision}
 use Rattle.steps.specs.Source.{Source}
 use Rattle.intel.specs.Placing.{act, intel_by, intel}
 use Rattle.srecload.specs.Placing.{s_act, s_records}
-use Rattle.intake_tail.specs.Past.{EndsAlike}
+use Rattle.intake.specs.Past.{EndsAlike}
 use Rattle.listen.specs.Listen.{front, skipping, Listened, silent, is_end, listen}
 use Rattle.listen.specs.Skipping.{dump_steps}
 use Rattle.listen.specs.Claims.{DecidedByLast, EndsWhole, CutTailIsSkipped, CutTailNeverReady, HexEndsWhole, SRecordsEndWhole}

@@ -12,24 +12,23 @@ use borrow.Author.Tests.{eqb-true}
 use Rattle.digits.proofs.Tests.{if_true, if_false}
 use Rattle.reader.specs.Lines.{LF, CR, at_LF, ends_line, first_line, lines, through}
 use Rattle.chunks.specs.Rows.{joined}
-use Rattle.steps.specs.declared.Loading.{Loading}
-use Rattle.steps.specs.declared.Loading.TheVariants.{Accepted, Refused}
+use Rattle.steps.specs.Aliases.{Loading}
 use Rattle.steps.specs.Steps.{nothing_yet, Verdict, by, decision, verdict, stated as stated-in}
 use Rattle.steps.specs.Source.{Source, steps_of}
 use Rattle.steps.specs.Told.{told_loading}
 use Rattle.window.specs.Window.{unfit, within}
 use Rattle.window.proofs.Loads.{load_answer}
-use Rattle.intake_tail.specs.declared.Kind.{Kind}
-use Rattle.intake_tail.specs.declared.Kind.TheVariants.{Hex, SRecords}
-use Rattle.intake_tail.specs.declared.Reply.{Reply}
-use Rattle.intake_tail.specs.declared.Reply.TheVariants as reply
-use Rattle.intake_tail.specs.Past.{past}
-use Rattle.intake_tail.specs.Intake.{Feeds, new_tail}
-use Rattle.intake_tail.specs.declared.Intake.{Intake}
-use Rattle.intake_tail.specs.Ways.{way_of}
-use Rattle.intake_tail.specs.Rows.{Row, cr_before, text_of, AsLoad}
-use Rattle.intake_tail.proofs.Following.{stops_fit}
-use Rattle.intake_tail.proofs.Rows.{row_decides, row_waits}
+use Rattle.intake.specs.declared.Kind.{Kind}
+use Rattle.intake.specs.declared.Kind.TheVariants.{Hex, SRecords}
+use Rattle.intake.specs.declared.Reply.{Reply}
+use Rattle.intake.specs.declared.Reply.TheVariants as reply
+use Rattle.intake.specs.Past.{past}
+use Rattle.intake.specs.Intake.{Feeds, new_tail}
+use Rattle.intake.specs.declared.Intake.{Intake}
+use Rattle.intake.specs.Ways.{way_of}
+use Rattle.intake.specs.Rows.{Row, cr_before, text_of, AsLoad}
+use Rattle.intake.proofs.Following.{stops_fit}
+use Rattle.intake.proofs.Rows.{row_decides, row_waits}
 use Rattle.listen.specs.declared.Blank.{Blank}
 use Rattle.listen.specs.declared.Listener.{Listener}
 use Rattle.listen.specs.declared.Listener.TheVariants.{Front, Within, Ready}
@@ -43,6 +42,8 @@ use Rattle.listen.specs.Texts.{WaitsForMore}
 use Rattle.listen.proofs.Blanks.{after_so_many, blanks_on, blanks_begun, blanks_begin}
 use Rattle.listen.proofs.Texts.{drops_empty_lines, hears_a_dump, hears_a_tail, pauses_in_a_dump}
 use Rattle.listen.proofs.Calls.{BlankSo, Come, come, fit_there, open_decided, dump_decides, dump_ends, Passing, passing, tail_fit}
+use Rattle.std.specs.Prelude.{Ok}
+use Rattle.std.specs.Prelude.{Err}
 
 -- ---- the dump in a text
 
@@ -229,8 +230,8 @@ module _ (kind : Kind) (first : ℕ) (carry₀ stage₀ stated₀ : List ℕ) (f
         ∙ ap (λ (m : ℕ). listen (way_of kind false).source (within first (length stage₀)) front (lines (drop m chunk ++ more))) at
       where
         used_by : (t : Bool) (l : Loading) (n : ℕ) → (decided_by t s.kind l n).used ≡ n
-        used_by true (Accepted t) n = refl
-        used_by true (Refused q m) n = refl
+        used_by true (Ok t) n = refl
+        used_by true (Err z) n = refl
         used_by false l n = refl
 
         used_is : (l : Loading) (used : ℕ) → r ≡ step_by s 0 (length chunk) (reply.Decided l used) → used ≡ r.used

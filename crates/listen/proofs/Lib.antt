@@ -1,9 +1,7 @@
 pub mod Following
 pub mod Fronts
 pub mod Blanks
-pub mod Telling
 pub mod Testing
-pub mod Pausing
 pub mod Exactly
 pub mod Closing
 pub mod Claims

@@ -9,7 +9,7 @@ use native.Mathlib.Omega.{arith}
 use lib.ListN.{length, drop}
 use Rattle.steps.specs.Steps.{Step, step, nothing_yet, Verdict, accepted, by, turn, decision}
 use Rattle.steps.specs.Source.{Source, steps}
-use Rattle.intake_tail.specs.Past.{ends_text, passed, past}
+use Rattle.intake.specs.Past.{ends_text, passed, past}
 use Rattle.listen.specs.Listen.{front, skipping, silent, is_end, listen}
 use Rattle.listen.specs.Claims.{SkipsAsPast}
 use Rattle.listen.proofs.Exactly.{skips_on, skips_last}

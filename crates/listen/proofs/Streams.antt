@@ -10,26 +10,24 @@ use lib.ListN.{length, drop, replicate, length-append, length-drop, length-repli
 use lib.Seq.{drop-length}
 use Rattle.digits.proofs.Tests.{if_true, if_false}
 use Rattle.reader.specs.Lines.{lines}
-use Rattle.steps.specs.declared.Loading.{Loading}
-use Rattle.steps.specs.declared.Loading.TheVariants.{Accepted, Refused}
+use Rattle.steps.specs.Aliases.{Loading}
 use Rattle.steps.specs.Steps.{Verdict, stated as stated-in}
 use Rattle.steps.specs.Source.{Source, steps_of}
 use Rattle.steps.specs.Told.{told_loading}
 use Rattle.steps.proofs.Places.{length_painted}
 use Rattle.window.specs.Window.{unfit, within, window}
-use Rattle.intake_tail.specs.declared.Kind.{Kind}
-use Rattle.intake_tail.specs.declared.Intake.{Intake}
-use Rattle.intake_tail.specs.declared.Reply.{Reply}
-use Rattle.intake_tail.specs.declared.Reply.TheVariants as reply
-use Rattle.intake_tail.specs.Ways.{Way, way_of}
-use Rattle.intake_tail.specs.Intake.{spoilt, Feeds, FeedsSo, new_tail}
-use Rattle.intake_tail.specs.Rows.{cr_before}
-use Rattle.intake_tail.proofs.Rows.{come_to}
+use Rattle.intake.specs.declared.Kind.{Kind}
+use Rattle.intake.specs.declared.Intake.{Intake}
+use Rattle.intake.specs.declared.Reply.{Reply}
+use Rattle.intake.specs.declared.Reply.TheVariants as reply
+use Rattle.intake.specs.Ways.{Way, way_of}
+use Rattle.intake.specs.Intake.{spoilt, Feeds, FeedsSo, new_tail}
+use Rattle.intake.specs.Rows.{cr_before}
+use Rattle.intake.proofs.Rows.{come_to}
 use Rattle.listen.specs.declared.Listener.{Listener}
 use Rattle.listen.specs.declared.Listener.TheVariants.{Front, Within, Ready}
 use Rattle.listen.specs.declared.Said.TheVariants.{WantsMore, Decided, Passed, CarryTooSmall}
 use Rattle.listen.specs.declared.Step.{Step}
-use Rattle.listen.specs.declared.Committed.TheVariants.{Done}
 use Rattle.listen.specs.declared.Blank.{Blank}
 use Rattle.listen.specs.Listen.{Mode, front, skipping, Saying, said, reaching, mode_after, Listened, first as saying-first, listen}
 use Rattle.listen.specs.Listener.{begins, is_blank, blanks, begun, step_by, decided_by, after, too_small, FromFront, HearsSo, Hears, commit_by, Commits}
@@ -38,6 +36,8 @@ use Rattle.listen.specs.Calls as calls
 use Rattle.listen.proofs.Calls.{wanted, Come, come, fit_there, Passing, dump_decides, tail_passes}
 use Rattle.listen.proofs.Calls as rows
 use Rattle.listen.proofs.Heard.{dump_is_heard, tail_is_heard}
+use Rattle.std.specs.Prelude.{Ok}
+use Rattle.std.specs.Prelude.{Err}
 
 -- ---- sizes
 
@@ -88,8 +88,8 @@ wants_all : (l : Listener) (chunk carry : List ℕ) (first : ℕ) (stage stated 
 wants_all l chunk carry first stage stated r carry' stage' stated' h more = so l h
   where
     by_decided : (t : Bool) (kind : Kind) (x : Loading) (n : ℕ) → (decided_by t kind x n).said ≡ WantsMore → ⊥
-    by_decided true kind (Accepted t) n e = let z : ◌≡◌ {A = ℕ} 0 1 = cc in absurd (omega arith)
-    by_decided true kind (Refused q m) n e = let z : ◌≡◌ {A = ℕ} 0 1 = cc in absurd (omega arith)
+    by_decided true kind (Ok t) n e = let z : ◌≡◌ {A = ℕ} 0 1 = cc in absurd (omega arith)
+    by_decided true kind (Err z) n e = let z : ◌≡◌ {A = ℕ} 0 1 = cc in absurd (omega arith)
     by_decided false kind x n e = let z : ◌≡◌ {A = ℕ} 0 1 = cc in absurd (omega arith)
 
     by_step : (s : Intake) (before : ℕ) (a : Reply) → r ≡ step_by s before (length chunk) a → r.used ≡ length chunk
@@ -145,13 +145,13 @@ ready_first {first = first} k (calls.and_then {bytes} {l} {carry} {stage} {state
     absurd (wants_unready l chunk carry first stage stated r carry' stage' stated' k h more e)
 
 -- a commit that is done was of a dump that is ready
-pub done_so : (l : Listener) (stage stated page marks : List ℕ) (l' : Listener) (page' marks' : List ℕ) → Commits l stage stated page marks (Done l') page' marks'
+pub done_so : (l : Listener) (stage stated page marks : List ℕ) (l' : Listener) (page' marks' : List ℕ) → Commits l stage stated page marks (Ok l') page' marks'
     → (k : Kind) × (l ≡ Ready k) × (l' ≡ Front k false)
 done_so (Front k c) stage stated page marks l' page' marks' x = let q = x.answer in let z : ◌≡◌ {A = ℕ} 0 1 = cc in absurd (omega arith)
 done_so (Within s) stage stated page marks l' page' marks' x = let q = x.answer in let z : ◌≡◌ {A = ℕ} 0 1 = cc in absurd (omega arith)
 done_so (Ready k) stage stated page marks l' page' marks' x = (k, refl, go x.fits x.answer)
   where
-    go : (b : Bool) → Done l' ≡ commit_by k b → l' ≡ Front k false
+    go : (b : Bool) → Ok l' ≡ commit_by k b → l' ≡ Front k false
     go true e = cc
     go false e = let z : ◌≡◌ {A = ℕ} 0 1 = cc in absurd (omega arith)
 
@@ -247,8 +247,8 @@ module _ (kind : Kind) (known : Bool) (first : ℕ) (stage₀ stated₀ stream :
   since_more chunk r carry' stage' stated' (in_tail carry₁ stage₁ stated₁ p m row) h e = in_tail carry₁ stage₁ stated₁ p m (calls.and_then chunk r carry' stage' stated' row h e)
 
   since_after : (answer : Loading) (carry stage stated : List ℕ) → length stage ≡ length stage₀ → length stated ≡ length stated₀ → Since (mode_after (told_loading answer)) [] (after kind answer) carry stage stated
-  since_after (Accepted t) carry stage stated p m = in_text (Ready kind) carry stage stated (refl, refl) p m calls.no_chunk
-  since_after (Refused q n) carry stage stated p m = in_tail carry stage stated p m calls.no_chunk
+  since_after (Ok t) carry stage stated p m = in_text (Ready kind) carry stage stated (refl, refl) p m calls.no_chunk
+  since_after (Err z) carry stage stated p m = in_tail carry stage stated p m calls.no_chunk
 
   fit_at : (stage stated : List ℕ) → length stage ≡ length stage₀ → length stated ≡ length stated₀ → unfit first (length stage) (length stated) ≡ false
   fit_at stage stated p m = rw (p, m) fit

@@ -14,7 +14,7 @@ use Rattle.reader.specs.Lines.{LF, ends_line, first_line, lines, later, through}
 use Rattle.reader.proofs.Cutting.{lines_closed, through_head}
 use Rattle.steps.specs.Steps.{nothing_yet, Verdict, accepted, refused, Decision, by, decision, verdict, stated}
 use Rattle.steps.specs.Source.{Source, steps_of}
-use Rattle.intake_tail.specs.Past.{past}
+use Rattle.intake.specs.Past.{past}
 use Rattle.listen.specs.Listen.{front, skipping, Saying, said, reaching, mode_after, Listened, silent, first, hear, listen, pause, stretch}
 use Rattle.listen.specs.Skipping.{dump_steps}
 use Rattle.listen.specs.Claims.{Begins}

@@ -13,23 +13,21 @@ use lib.Seq.{drop-append-le, drop-append-add, drop-length}
 use borrow.Author.Tests.{le-ltb}
 use Rattle.reader.specs.Lines.{through}
 use Rattle.chunks.specs.Rows.{joined}
-use Rattle.steps.specs.declared.Loading.{Loading}
-use Rattle.steps.specs.declared.Loading.TheVariants.{Accepted, Refused}
+use Rattle.steps.specs.Aliases.{Loading}
 use Rattle.steps.specs.Steps.{nothing_yet, Verdict, Decision, by, decision}
 use Rattle.steps.specs.Source.{steps_of}
 use Rattle.window.specs.Window.{unfit, within}
-use Rattle.intake_tail.specs.declared.Kind.{Kind}
-use Rattle.intake_tail.specs.declared.Intake.{Intake}
-use Rattle.intake_tail.specs.declared.Reply.{Reply}
-use Rattle.intake_tail.specs.declared.Reply.TheVariants as reply
-use Rattle.intake_tail.specs.declared.Ending.{Ending}
-use Rattle.intake_tail.specs.declared.Ending.TheVariants as ending
-use Rattle.intake_tail.specs.Ways.{way_of}
-use Rattle.intake_tail.specs.Intake.{new_tail, spoilt, Feeds}
-use Rattle.intake_tail.specs.Ending.{Finishes}
-use Rattle.intake_tail.specs.Rows.{no_chunk, cr_before, text_of, FirstEnd}
-use Rattle.intake_tail.proofs.Rows.{come_to, row_waits, row_carries}
-use Rattle.intake_tail.proofs.Tails as tails
+use Rattle.intake.specs.declared.Kind.{Kind}
+use Rattle.intake.specs.declared.Intake.{Intake}
+use Rattle.intake.specs.declared.Reply.{Reply}
+use Rattle.intake.specs.declared.Reply.TheVariants as reply
+use Rattle.intake.specs.Aliases.{Ending}
+use Rattle.intake.specs.Ways.{way_of}
+use Rattle.intake.specs.Intake.{new_tail, spoilt, Feeds}
+use Rattle.intake.specs.Ending.{Finishes}
+use Rattle.intake.specs.Rows.{no_chunk, cr_before, text_of, FirstEnd}
+use Rattle.intake.proofs.Rows.{come_to, row_waits, row_carries}
+use Rattle.intake.proofs.Tails as tails
 use Rattle.listen.specs.declared.Blank.{Blank}
 use Rattle.listen.specs.declared.Listener.{Listener}
 use Rattle.listen.specs.declared.Listener.TheVariants.{Front, Within, Ready}
@@ -40,6 +38,9 @@ use Rattle.listen.specs.Calls.{dump_in}
 use Rattle.listen.specs.Waiting.{EighteenExactly, DumpSays, DumpWaits, TailSays, TailWaits}
 use Rattle.listen.proofs.Blanks.{blanks_on, blanks_begun}
 use Rattle.listen.proofs.Calls.{BlankSo, DumpSo, Come, come, fit_there, Passing, passing, tail_fit, tail_passes}
+use Rattle.std.specs.Prelude.{None, Ok, Some}
+use Rattle.steps.specs.Aliases.{refuse}
+use Rattle.std.specs.Prelude.{Err}
 
 -- ---- what a row can say
 
@@ -57,8 +58,8 @@ module _ (s : Intake) (before whole : ℕ) (bytes carry : List ℕ) (first : ℕ
   tail_by_reply : (a : Reply) → Feeds s bytes carry first stage stated a carry' stage' stated' → s.tail ≡ true
       → ((step_by s before whole a).said ≡ WantsMore) ⊎ (((step_by s before whole a).said ≡ Passed) ⊎ ((answer : Loading) × ((step_by s before whole a).said ≡ Decided answer)))
   tail_by_reply (reply.WantsMore s') f e = inl refl
-  tail_by_reply (reply.Decided (Accepted t) used) f e = inr (inl (ap (λ (b : Bool). (decided_by b s.kind (Accepted t) (before + used)).said) e))
-  tail_by_reply (reply.Decided (Refused w n) used) f e = inr (inr (Refused w n, ap (λ (b : Bool). (decided_by b s.kind (Refused w n) (before + used)).said) e))
+  tail_by_reply (reply.Decided (Ok t) used) f e = inr (inl (ap (λ (b : Bool). (decided_by b s.kind (Ok t) (before + used)).said) e))
+  tail_by_reply (reply.Decided (Err z) used) f e = inr (inr (refuse z.why z.line, ap (λ (b : Bool). (decided_by b s.kind (refuse z.why z.line) (before + used)).said) e))
   tail_by_reply reply.CarryTooSmall f e = absurd (f.feeds big fit).0
 
 -- a new load fits a carry of 522 bytes
@@ -70,8 +71,8 @@ new_fits s carry e h = rw (e, le-ltb (length carry) 522 h)
 -- a carry that fits is not refused with 18
 module _ (chunk carry : List ℕ) (first : ℕ) (stage stated : List ℕ) (r : Step) (carry' stage' stated' : List ℕ) (told : r.said ≡ CarryTooSmall) where
   by_decided : (t : Bool) (kind : Kind) (l : Loading) (used : ℕ) → (decided_by t kind l used).said ≡ CarryTooSmall → ⊥
-  by_decided true kind (Accepted t) used e = let z : ◌≡◌ {A = ℕ} 0 1 = cc in absurd (omega arith)
-  by_decided true kind (Refused w n) used e = let z : ◌≡◌ {A = ℕ} 0 1 = cc in absurd (omega arith)
+  by_decided true kind (Ok t) used e = let z : ◌≡◌ {A = ℕ} 0 1 = cc in absurd (omega arith)
+  by_decided true kind (Err z) used e = let z : ◌≡◌ {A = ℕ} 0 1 = cc in absurd (omega arith)
   by_decided false kind l used e = let z : ◌≡◌ {A = ℕ} 0 1 = cc in absurd (omega arith)
 
   fed_unspoilt : (s : Intake) (before whole : ℕ) (bytes marks : List ℕ) → spoilt s carry ≡ false → unfit first (length stage) (length marks) ≡ false → (a : Reply)
@@ -98,8 +99,8 @@ module _ (chunk carry : List ℕ) (first : ℕ) (stage stated : List ℕ) (r : S
     chunk_unspoilt (Ready kind) big f = front_unspoilt kind false big f
 
     ended_unspoilt : (s : Intake) → spoilt s carry ≡ false → (e : Ending) → Finishes s carry first stage stated e carry' stage' stated' → r ≡ end_by s e → ⊥
-    ended_unspoilt s big (ending.Decided l) f e = let q = sym (ap (λ (z : Step). z.said) e) ∙ told in let z : ◌≡◌ {A = ℕ} 0 1 = cc in absurd (omega arith)
-    ended_unspoilt s big ending.CarryTooSmall f e = f.ends big fit
+    ended_unspoilt s big (Some l) f e = let q = sym (ap (λ (z : Step). z.said) e) ∙ told in let z : ◌≡◌ {A = ℕ} 0 1 = cc in absurd (omega arith)
+    ended_unspoilt s big None f e = f.ends big fit
 
     pause_unspoilt : (l : Listener) → too_small l (length carry) ≡ false → PausesSo l carry first stage stated r carry' stage' stated' → ⊥
     pause_unspoilt (Front kind cr) big p = let q = sym (ap (λ (z : Step). z.said) p.answer) ∙ told in let z : ◌≡◌ {A = ℕ} 0 1 = cc in absurd (omega arith)

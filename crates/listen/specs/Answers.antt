@@ -2,13 +2,13 @@
 -- Assumes nothing.
 use Rattle.std.specs.Prelude.{ℕ, ◌≡◌, Bool, List, take}
 use Rattle.marks.specs.Claims.{Bytes}
-use Rattle.intake_tail.specs.declared.Kind.{Kind}
+use Rattle.intake.specs.declared.Kind.{Kind}
 use Rattle.listen.specs.declared.Listener.{Listener}
 use Rattle.listen.specs.declared.Listener.TheVariants.{Front, Within, Ready}
 use Rattle.listen.specs.declared.Said.{Said}
 use Rattle.listen.specs.declared.Said.TheVariants.{WantsMore, Decided, Passed, Quiet, CarryTooSmall}
 use Rattle.listen.specs.declared.Step.{Step}
-use Rattle.listen.specs.declared.Committed.{Committed}
+use Rattle.listen.specs.Aliases.{Committed}
 use Rattle.listen.specs.Listener.{Begins, Hears, Pauses, Commits}
 
 abbrev pub BeginUnique : Type 0

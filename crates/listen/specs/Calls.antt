@@ -4,26 +4,25 @@
 use Rattle.std.specs.Prelude.{ℕ, suc, ◌^◌, ◌≤◌, ◌<◌, ◌≡◌, Bool, true, false, List, [], ◌∷◌, ◌++◌, map, length, drop, replicate}
 use Rattle.marks.specs.Claims.{Bytes}
 use Rattle.reader.specs.Lines.{lines}
-use Rattle.steps.specs.declared.Loading.{Loading}
-use Rattle.steps.specs.declared.Loading.TheVariants.{Accepted}
+use Rattle.steps.specs.Aliases.{Loading}
 use Rattle.steps.specs.declared.Tally.{Tally}
 use Rattle.steps.specs.Steps.{Verdict, stated as stated-in}
 use Rattle.steps.specs.Source.{steps_of}
 use Rattle.steps.specs.Told.{told_loading}
 use Rattle.window.specs.Window.{unfit, within}
 use Rattle.window.specs.Load.{load_window}
-use Rattle.intake_tail.specs.declared.Kind.{Kind}
-use Rattle.intake_tail.specs.Ways.{way_of}
-use Rattle.intake_tail.specs.Intake.{new_tail}
-use Rattle.intake_tail.specs.Rows.{cr_before, AsLoad, UsedThrough, PassedThrough}
+use Rattle.intake.specs.declared.Kind.{Kind}
+use Rattle.intake.specs.Ways.{way_of}
+use Rattle.intake.specs.Intake.{new_tail}
+use Rattle.intake.specs.Rows.{cr_before, AsLoad, UsedThrough, PassedThrough}
 use Rattle.listen.specs.declared.Listener.{Listener}
 use Rattle.listen.specs.declared.Listener.TheVariants.{Front, Within, Ready}
 use Rattle.listen.specs.declared.Said.TheVariants.{WantsMore, Decided, Passed}
 use Rattle.listen.specs.declared.Step.{Step}
-use Rattle.listen.specs.declared.Committed.{Committed}
-use Rattle.listen.specs.declared.Committed.TheVariants.{Done}
+use Rattle.listen.specs.Aliases.{Committed}
 use Rattle.listen.specs.Listen.{Mode, front, skipping, Saying, said, reaching, mode_after, first as saying-first, listen, stretch}
 use Rattle.listen.specs.Listener.{begins, blanks, after, after_end, too_small, Hears, Pauses, Commits}
+use Rattle.std.specs.Prelude.{Ok}
 
 -- ---- a row
 
@@ -68,11 +67,11 @@ abbrev pub DumpCommits : Type 0
 DumpCommits =
     (kind : Kind) (cr : Bool) (first : ℕ) (l₀ : Listener) (carry₀ stage₀ stated₀ : List ℕ) → BeginsText l₀ kind cr → unfit first (length stage₀) (length stated₀) ≡ false
     → (bytes : List ℕ) (l : Listener) (carry stage stated : List ℕ) → Listens first l₀ carry₀ stage₀ stated₀ bytes l carry stage stated
-    → (chunk : List ℕ) (r : Step) (carry' stage' stated' : List ℕ) (t : Tally) → Hears l chunk carry first stage stated r carry' stage' stated' → r.said ≡ Decided (Accepted t)
+    → (chunk : List ℕ) (r : Step) (carry' stage' stated' : List ℕ) (t : Tally) → Hears l chunk carry first stage stated r carry' stage' stated' → r.said ≡ Decided (Ok t)
     → (page marks : List ℕ) (done : Committed) (page' marks' : List ℕ) → Commits r.listener stage' stated' page marks done page' marks'
     → (more : List ℕ) → let text = dump_in cr (bytes ++ (chunk ++ more)) in
     suc (length text) < 2 ^ 64 → length page ≡ length stage₀ → length marks ≡ length stated₀
-    → (done ≡ Done (Front kind false)) × (page' ≡ (load_window (way_of kind false).source text first page marks).page) × (marks' ≡ (load_window (way_of kind false).source text first page marks).marks)
+    → (done ≡ Ok (Front kind false)) × (page' ≡ (load_window (way_of kind false).source text first page marks).page) × (marks' ≡ (load_window (way_of kind false).source text first page marks).marks)
 
 -- so what is said is what `listen` says of the lines, and what is left is heard as from where listening stands
 abbrev pub DumpIsHeard : Type 0
@@ -101,11 +100,11 @@ abbrev pub EndCommits : Type 0
 EndCommits =
     (kind : Kind) (cr : Bool) (first : ℕ) (l₀ : Listener) (carry₀ stage₀ stated₀ : List ℕ) → BeginsText l₀ kind cr → unfit first (length stage₀) (length stated₀) ≡ false
     → (bytes : List ℕ) (l : Listener) (carry stage stated : List ℕ) → Listens first l₀ carry₀ stage₀ stated₀ bytes l carry stage stated
-    → (r : Step) (carry' stage' stated' : List ℕ) (t : Tally) → Pauses l carry first stage stated r carry' stage' stated' → r.said ≡ Decided (Accepted t)
+    → (r : Step) (carry' stage' stated' : List ℕ) (t : Tally) → Pauses l carry first stage stated r carry' stage' stated' → r.said ≡ Decided (Ok t)
     → (page marks : List ℕ) (done : Committed) (page' marks' : List ℕ) → Commits r.listener stage' stated' page marks done page' marks'
     → let text = dump_in cr bytes in
     suc (length text) < 2 ^ 64 → length page ≡ length stage₀ → length marks ≡ length stated₀
-    → (done ≡ Done (Front kind false)) × (page' ≡ (load_window (way_of kind false).source text first page marks).page) × (marks' ≡ (load_window (way_of kind false).source text first page marks).marks)
+    → (done ≡ Ok (Front kind false)) × (page' ≡ (load_window (way_of kind false).source text first page marks).page) × (marks' ≡ (load_window (way_of kind false).source text first page marks).marks)
 
 -- and what is said of it is what `listen` says of the lines up to a pause
 abbrev pub EndIsHeard : Type 0
@@ -172,7 +171,7 @@ pub data Calls (first : ℕ) (l₀ : Listener) (carry₀ stage₀ stated₀ stre
       → Calls first l₀ carry₀ stage₀ stated₀ stream answers left l carry stage stated → left ≡ chunk ++ more → Hears l chunk carry first stage stated r carry' stage' stated' → r.said ≡ Passed
       → Calls first l₀ carry₀ stage₀ stated₀ stream answers (drop r.used chunk ++ more) r.listener carry' stage' stated'
   committing : {answers : List Loading} {left : List ℕ} {l : Listener} {carry stage stated : List ℕ} (page marks : List ℕ) (l' : Listener) (page' marks' : List ℕ)
-      → Calls first l₀ carry₀ stage₀ stated₀ stream answers left l carry stage stated → Commits l stage stated page marks (Done l') page' marks'
+      → Calls first l₀ carry₀ stage₀ stated₀ stream answers left l carry stage stated → Commits l stage stated page marks (Ok l') page' marks'
       → Calls first l₀ carry₀ stage₀ stated₀ stream answers left l' carry stage stated
 
 abbrev pub verdict_of : Saying → Verdict

@@ -8,7 +8,7 @@ use Rattle.steps.specs.Steps.{fails, nothing_yet, Tally, Verdict, accepted, refu
 use Rattle.steps.specs.Source.{Source}
 use Rattle.intel.specs.Placing.{intel}
 use Rattle.srecload.specs.Placing.{s_records}
-use Rattle.intake_tail.specs.Past.{past, EndsAlike}
+use Rattle.intake.specs.Past.{past, EndsAlike}
 use Rattle.listen.specs.Listen.{Mode, front, skipping, Saying, said, Listened, silent, first, is_end, listen, stretch, listen_on}
 use Rattle.listen.specs.Skipping.{dump_steps, NoneEnds, Place, beginning, unknown, place_of, HeardAs}
 use Rattle.listen.specs.Parts.{Part, lines_of, all_of, AsLoad, said_of, said_in_all, reaches_of, to_page}

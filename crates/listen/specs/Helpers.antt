@@ -1,10 +1,10 @@
 -- The contracts of a listener's private functions.
 -- Assumes nothing.
 use Rattle.std.specs.Prelude.{ℕ, ◌+◌, ◌≤◌, ◌≡◌, Bool, List, length, replicate}
-use Rattle.intake_tail.specs.declared.Kind.{Kind}
-use Rattle.intake_tail.specs.declared.Intake.{Intake}
-use Rattle.intake_tail.specs.declared.Reply.{Reply}
-use Rattle.intake_tail.specs.declared.Reply.TheVariants.{WantsMore, Decided, CarryTooSmall}
+use Rattle.intake.specs.declared.Kind.{Kind}
+use Rattle.intake.specs.declared.Intake.{Intake}
+use Rattle.intake.specs.declared.Reply.{Reply}
+use Rattle.intake.specs.declared.Reply.TheVariants.{WantsMore, Decided, CarryTooSmall}
 use Rattle.listen.specs.Listener.{begun}
 
 -- a decision after so many bytes of a chunk: with those before them they are at most the whole

@@ -9,3 +9,4 @@ pub mod Answers
 pub mod Texts
 pub mod Calls
 pub mod Waiting
+pub mod Aliases

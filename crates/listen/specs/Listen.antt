@@ -8,7 +8,7 @@ use Rattle.record.specs.Refusals.{missing_end_of_file_record}
 use Rattle.steps.specs.Steps.{Placement, Verdict, accepted, refused}
 use Rattle.steps.specs.Source.{Source}
 use Rattle.steps.specs.Taken.{Standing, at_first, Went, on, stopped, at_line}
-use Rattle.intake_tail.specs.Past.{ends_text}
+use Rattle.intake.specs.Past.{ends_text}
 
 -- where a listener stands between two lines: at the front of the next dump, within a dump after so many of its lines, or skipping through the next
 -- end record

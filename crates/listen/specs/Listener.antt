@@ -5,26 +5,26 @@ use Rattle.std.specs.Prelude.{ℕ, suc, ◌+◌, ◌≡◌, Bool, true, false, n
 use Rattle.std.specs.Prelude.{if◌then◌else◌}
 use Rattle.reader.specs.Lines.{LF, CR}
 use Rattle.steps.specs.declared.LoaderError.TheVariants.{BadWindow}
-use Rattle.steps.specs.declared.Loading.{Loading}
-use Rattle.steps.specs.declared.Loading.TheVariants.{Accepted, Refused}
+use Rattle.steps.specs.Aliases.{Loading}
 use Rattle.window.specs.Window.{unfit}
 use Rattle.commit.specs.Commit.{Commit}
-use Rattle.intake_tail.specs.declared.Kind.{Kind}
-use Rattle.intake_tail.specs.declared.Intake.{Intake}
-use Rattle.intake_tail.specs.declared.Reply.{Reply}
-use Rattle.intake_tail.specs.declared.Reply.TheVariants as reply
-use Rattle.intake_tail.specs.declared.Ending.{Ending}
-use Rattle.intake_tail.specs.declared.Ending.TheVariants as ending
-use Rattle.intake_tail.specs.Intake.{new_intake, new_tail, Feeds}
-use Rattle.intake_tail.specs.Ending.{Finishes}
+use Rattle.intake.specs.declared.Kind.{Kind}
+use Rattle.intake.specs.declared.Intake.{Intake}
+use Rattle.intake.specs.declared.Reply.{Reply}
+use Rattle.intake.specs.declared.Reply.TheVariants as reply
+use Rattle.intake.specs.Aliases.{Ending}
+use Rattle.intake.specs.Intake.{new_intake, new_tail, Feeds}
+use Rattle.intake.specs.Ending.{Finishes}
 use Rattle.listen.specs.declared.Listener.{Listener}
 use Rattle.listen.specs.declared.Listener.TheVariants.{Front, Within, Ready}
 use Rattle.listen.specs.declared.Said.{Said}
 use Rattle.listen.specs.declared.Said.TheVariants.{WantsMore, Decided, Passed, Quiet, CarryTooSmall}
 use Rattle.listen.specs.declared.Step.{Step}
-use Rattle.listen.specs.declared.Committed.{Committed}
-use Rattle.listen.specs.declared.Committed.TheVariants as committed
+use Rattle.listen.specs.Aliases.{Committed}
+use Rattle.listen.specs.declared.CommitError.TheVariants as committed
 use Rattle.listen.specs.declared.Blank.{Blank}
+use Rattle.std.specs.Prelude.{Err, None, Ok, Some}
+use Rattle.steps.specs.Aliases.{refuse}
 
 -- at a known beginning, or at an unknown place
 abbrev pub begins : Kind → (known : Bool) → Listener
@@ -55,18 +55,18 @@ step said used l = record { said = said; used = used; listener = l }
 
 -- after a dump of this kind: one that is accepted is ready, and what follows a refused one is passed over
 abbrev pub after : Kind → Loading → Listener
-after kind (Accepted t) = Ready kind
-after kind (Refused e line) = Within (new_tail kind)
+after kind (Ok t) = Ready kind
+after kind (Err z) = Within (new_tail kind)
 
 -- after the end of one: what follows is a known beginning
 abbrev pub after_end : Kind → Loading → Listener
-after_end kind (Accepted t) = Ready kind
-after_end kind (Refused e line) = Front kind false
+after_end kind (Ok t) = Ready kind
+after_end kind (Err z) = Front kind false
 
 -- a load has decided: it was passing over, and the end record has come, or a dump is decided
 abbrev pub decided_by : (tail : Bool) → Kind → Loading → (used : ℕ) → Step
-decided_by true kind (Accepted t) used = step Passed used (Front kind false)
-decided_by true kind (Refused e line) used = step (Decided (Refused e line)) used (after kind (Refused e line))
+decided_by true kind (Ok t) used = step Passed used (Front kind false)
+decided_by true kind (Err z) used = step (Decided (refuse z.why z.line)) used (after kind (refuse z.why z.line))
 decided_by false kind l used = step (Decided l) used (after kind l)
 
 -- by what a load replied to a chunk: so many bytes were passed before it, and the whole has so many
@@ -118,7 +118,7 @@ pub record Unread (l : Listener) (said : Said) (carry stage stated : List ℕ) (
 pub record Tested (too_small : Bool) (l : Listener) (carry : List ℕ) (first : ℕ) (stage stated : List ℕ) (r : Step) (carry' stage' stated' : List ℕ) (Wanted : Type 0) : Type 0 where
   pub small : too_small ≡ true → Unread l CarryTooSmall carry stage stated r carry' stage' stated'
   pub bad_window : too_small ≡ false → unfit first (length stage) (length stated) ≡ true
-      → Unread l (Decided (Refused BadWindow 0)) carry stage stated r carry' stage' stated'
+      → Unread l (Decided (refuse BadWindow 0)) carry stage stated r carry' stage' stated'
   pub else_so : too_small ≡ false → unfit first (length stage) (length stated) ≡ false → Wanted
 
 -- the contract of `feed`
@@ -130,8 +130,8 @@ Hears l chunk carry first stage stated r carry' stage' stated' =
 
 -- by how a load ended
 abbrev pub end_by : Intake → Ending → Step
-end_by s (ending.Decided l) = step (Decided l) 0 (after_end s.kind l)
-end_by s ending.CarryTooSmall = step CarryTooSmall 0 (Within s)
+end_by s (Some l) = step (Decided l) 0 (after_end s.kind l)
+end_by s None = step CarryTooSmall 0 (Within s)
 
 -- a dump ends here; a tail is dropped
 pub record PausesWithin (s : Intake) (carry : List ℕ) (first : ℕ) (stage stated : List ℕ) (r : Step) (carry' stage' stated' : List ℕ) : Type 0 where
@@ -153,11 +153,11 @@ Pauses l carry first stage stated r carry' stage' stated' =
 
 -- by whether the sizes fit
 abbrev pub commit_by : Kind → (fits : Bool) → Committed
-commit_by kind fits = if fits then committed.Done (Front kind false) else committed.BadWindow
+commit_by kind fits = if fits then Ok (Front kind false) else (Err committed.BadWindow)
 
 -- nothing is ready
 pub record IsNotReady (page marks : List ℕ) (r : Committed) (page' marks' : List ℕ) : Type 0 where
-  pub answer : r ≡ committed.NotReady
+  pub answer : r ≡ (Err committed.NotReady)
   pub page_is : page' ≡ page
   pub marks_are : marks' ≡ marks
 

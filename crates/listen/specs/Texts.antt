@@ -6,7 +6,7 @@ use Rattle.std.proofs.Math.Option.{Option, none, some}
 use Rattle.reader.specs.Lines.{LF, CR, lines, through}
 use Rattle.steps.specs.Steps.{nothing_yet, Verdict, Decision, by, decision, verdict, stated}
 use Rattle.steps.specs.Source.{Source, steps_of}
-use Rattle.intake_tail.specs.Past.{past}
+use Rattle.intake.specs.Past.{past}
 use Rattle.listen.specs.Listen.{front, skipping, said, reaching, mode_after, silent, first, listen, stretch}
 use Rattle.listen.specs.Claims.{Begins}
 

@@ -4,14 +4,14 @@
 use Rattle.std.specs.Prelude.{ℕ, suc, ◌^◌, ◌≤◌, ◌<◌, ◌≡◌, ◌↔◌, ◌⊎◌, Bool, true, false, List, ◌++◌, length}
 use Rattle.std.proofs.Math.Option.{none, some}
 use Rattle.reader.specs.Lines.{through}
-use Rattle.steps.specs.declared.Loading.{Loading}
+use Rattle.steps.specs.Aliases.{Loading}
 use Rattle.steps.specs.Steps.{nothing_yet, Verdict, by, decision}
 use Rattle.steps.specs.Source.{steps_of}
 use Rattle.window.specs.Window.{unfit, within}
-use Rattle.intake_tail.specs.declared.Kind.{Kind}
-use Rattle.intake_tail.specs.Ways.{way_of}
-use Rattle.intake_tail.specs.Intake.{new_tail}
-use Rattle.intake_tail.specs.Rows.{FirstEnd}
+use Rattle.intake.specs.declared.Kind.{Kind}
+use Rattle.intake.specs.Ways.{way_of}
+use Rattle.intake.specs.Intake.{new_tail}
+use Rattle.intake.specs.Rows.{FirstEnd}
 use Rattle.listen.specs.declared.Listener.{Listener}
 use Rattle.listen.specs.declared.Listener.TheVariants.{Within}
 use Rattle.listen.specs.declared.Said.TheVariants.{WantsMore, Decided, Passed, CarryTooSmall}

@@ -1,17 +1,13 @@
 #![tactic(auto)]
 // A line that is listened to, dump after dump: each is taken into a staging page, and committed to the page once it is accepted.
-ghost use Rattle.std.specs.Prelude.{◌≡◌, true, eqb, ltb, length};
+ghost use Rattle.std.specs.Prelude.{◌≡◌, true, ltb, length};
+ghost use Rattle.steps.specs.Aliases.{refuse};
 ghost use Rattle.listen.specs.Listener.{Begins, is_blank, blanks, after, after_end, decided_by, step_by, step, FromFront, too_small, Tested, Hears, Pauses, PausesWithin, Commits};
 ghost use Rattle.listen.specs.Helpers.{Fits, Starts};
 
-use intake_tail::{Ending, Intake, Kind, Reply};
-use loader::Base;
-use record::char_counts;
+use intake::{Intake, Kind, Reply};
+use record::{char_counts, chars};
 use steps::{LoaderError, Loading};
-
-const LF: u8 = 10;
-
-const CR: u8 = 13;
 
 // Where listening stands.
 #[derive(Clone, Copy)]
@@ -47,15 +43,17 @@ pub struct Step {
     pub listener: Listener,
 }
 
-// What a commit comes to.
+// Why nothing is committed.
 #[derive(Clone, Copy)]
-pub enum Committed {
-    Done(Listener),
+pub enum CommitError {
     // No dump is ready.
     NotReady,
     // The sizes of page, marks and staging do not fit.
     BadWindow,
 }
+
+// What a commit comes to: where listening stands after it, or why it was not done.
+pub type Committed = Result<Listener, CommitError>;
 
 // Empty lines that are passed: so many bytes, and whether a CR waits after them.
 #[derive(Clone, Copy)]
@@ -68,37 +66,24 @@ struct Blank {
 fn is_blank(byte: u8, cr: bool) -> bool
     ensures { result ≡ is_blank byte cr }
 {
-    if byte == LF {
-        return true;
-    }
-    if byte == CR {
-        return !cr;
-    }
-    false
-}
-
-// Does a CR wait after a byte of an empty line?
-fn is_cr(byte: u8) -> bool
-    ensures { result ≡ eqb byte 13 }
-{
-    byte == CR
+    byte == chars::LF || (byte == chars::CR && !cr)
 }
 
 // The empty lines at the front of a chunk, where a CR may wait before it.
 fn pass_blank(chunk: &[u8], cr: bool) -> Blank
     ensures { result ≡ blanks cr chunk.now }
 {
-    let mut at = 0;
     let mut waits = cr;
-    while at < chunk.len() {
-        let byte = chunk[at];
-        if !is_blank(byte, waits) {
+    for (at, byte) in chunk.iter().enumerate() {
+        if !is_blank(*byte, waits) {
             return Blank { at, cr: waits };
         }
-        waits = is_cr(byte);
-        at += 1;
+        waits = *byte == chars::CR;
     }
-    Blank { at, cr: waits }
+    Blank {
+        at: chunk.len(),
+        cr: waits,
+    }
 }
 
 // Nothing was used, and listening stands there.
@@ -114,39 +99,36 @@ fn stay(said: Said, l: Listener) -> Step
 
 // A window or staging that is refused: nothing was read.
 fn refuse(l: Listener) -> Step
-    ensures { result ≡ step (Said.Decided (Loading.Refused LoaderError.BadWindow 0)) 0 l }
+    ensures { result ≡ step (Said.Decided (refuse LoaderError.BadWindow 0)) 0 l }
 {
-    stay(
-        Said::Decided(Loading::Refused(LoaderError::BadWindow, 0)),
-        l,
-    )
+    stay(Said::Decided(Err(LoaderError::BadWindow.at(0))), l)
 }
 
 // Where listening stands after a dump of this kind that was decided so.
 fn follow(kind: Kind, answer: Loading) -> Listener
     ensures { result ≡ after kind answer }
 {
-    if answer.is_accepted() {
-        return Listener::Ready(kind);
+    match answer {
+        Ok(_) => Listener::Ready(kind),
+        Err(_) => Listener::Within(Intake::begin_tail(kind)),
     }
-    Listener::Within(Intake::begin_tail(kind))
 }
 
 // What was passed over is decided: the end record has come. A load that passes over refuses no line; if it did, the refusal would be told.
 fn end_tail(kind: Kind, answer: Loading, used: usize) -> Step
     ensures { result ≡ decided_by true kind answer used }
 {
-    if answer.is_accepted() {
-        return Step {
+    match answer {
+        Ok(_) => Step {
             said: Said::Passed,
             used,
             listener: Listener::Front(kind, false),
-        };
-    }
-    Step {
-        said: Said::Decided(answer),
-        used,
-        listener: follow(kind, answer),
+        },
+        Err(_) => Step {
+            said: Said::Decided(answer),
+            used,
+            listener: follow(kind, answer),
+        },
     }
 }
 
@@ -154,14 +136,13 @@ fn end_tail(kind: Kind, answer: Loading, used: usize) -> Step
 fn decide(s: Intake, answer: Loading, used: usize) -> Step
     ensures { result ≡ decided_by s.tail s.kind answer used }
 {
-    let kind = s.kind;
     if s.tail {
-        return end_tail(kind, answer, used);
+        return end_tail(s.kind, answer, used);
     }
     Step {
         said: Said::Decided(answer),
         used,
-        listener: follow(kind, answer),
+        listener: follow(s.kind, answer),
     }
 }
 
@@ -185,18 +166,9 @@ fn tell(s: Intake, before: usize, whole: usize, reply: Reply) -> Step
 fn start(kind: Kind, cr: bool, stated: &mut [u8]) -> Intake
     ensures { Starts kind cr stated.old result stated.new }
 {
-    let new = Intake::begin(kind, stated);
-    let base: Base = new.base;
-    let tally = new.tally;
     Intake {
-        kind,
-        tail: new.tail,
-        line: new.line,
-        used: new.used,
-        skipped: new.skipped,
         cr,
-        base,
-        tally,
+        ..Intake::begin(kind, stated)
     }
 }
 
@@ -213,17 +185,16 @@ fn feed_front(
     ensures { FromFront kind cr chunk.now carry.old first stage.old stated.old result carry.new stage.new stated.new }
 {
     let blank = pass_blank(chunk, cr);
-    let at = blank.at;
-    if at == chunk.len() {
+    if blank.at == chunk.len() {
         return Step {
             said: Said::WantsMore,
-            used: at,
+            used: blank.at,
             listener: Listener::Front(kind, blank.cr),
         };
     }
     let s = start(kind, blank.cr, stated);
-    let reply = s.feed(&chunk[at..], carry, first, stage, stated);
-    tell(s, at, chunk.len(), reply)
+    let reply = s.feed(&chunk[blank.at..], carry, first, stage, stated);
+    tell(s, blank.at, chunk.len(), reply)
 }
 
 // The same after the tests that come before all else.
@@ -259,24 +230,23 @@ fn feed_within(
 ) -> Step
     ensures { Hears (Listener.Within s) chunk.now carry.old first stage.old stated.old result carry.new stage.new stated.new }
 {
-    let reply = s.feed(chunk, carry, first, stage, stated);
-    if let Reply::Decided(answer, used) = reply {
-        if window::is_unfit(first, stage.len(), stated.len()) {
-            return refuse(Listener::Within(s));
+    match s.feed(chunk, carry, first, stage, stated) {
+        Reply::Decided(_, _) if window::is_unfit(first, stage.len(), stated.len()) => {
+            refuse(Listener::Within(s))
         }
-        return decide(s, answer, used);
+        reply => tell(s, 0, chunk.len(), reply),
     }
-    tell(s, 0, chunk.len(), reply)
 }
 
 // The end of a dump of this kind that was decided so: what comes is a known beginning.
 fn close(kind: Kind, answer: Loading) -> Step
     ensures { result ≡ step (Said.Decided answer) 0 (after_end kind answer) }
 {
-    if answer.is_accepted() {
-        return stay(Said::Decided(answer), Listener::Ready(kind));
-    }
-    stay(Said::Decided(answer), Listener::Front(kind, false))
+    let listener = match answer {
+        Ok(_) => Listener::Ready(kind),
+        Err(_) => Listener::Front(kind, false),
+    };
+    stay(Said::Decided(answer), listener)
 }
 
 // A pause in a dump, or while everything is passed over.
@@ -289,13 +259,12 @@ fn pause_within(
 ) -> Step
     ensures { PausesWithin s carry.old first stage.old stated.old result carry.new stage.new stated.new }
 {
-    let kind = s.kind;
     if s.tail {
-        return stay(Said::Quiet, Listener::Front(kind, false));
+        return stay(Said::Quiet, Listener::Front(s.kind, false));
     }
     match s.finish(carry, first, stage, stated) {
-        Ending::Decided(answer) => close(kind, answer),
-        Ending::CarryTooSmall => stay(Said::CarryTooSmall, Listener::Within(s)),
+        Some(answer) => close(s.kind, answer),
+        None => stay(Said::CarryTooSmall, Listener::Within(s)),
     }
 }
 
@@ -303,13 +272,9 @@ fn pause_within(
 fn is_too_small(l: Listener, carry: usize) -> bool
     ensures { result ≡ too_small l carry }
 {
-    if carry < char_counts::MOST_KEPT {
-        return true;
-    }
     match l {
-        Listener::Front(_, _) => false,
-        Listener::Within(s) => s.used > char_counts::MOST_KEPT,
-        Listener::Ready(_) => false,
+        Listener::Within(s) => carry < char_counts::MOST_KEPT || s.used > char_counts::MOST_KEPT,
+        _ => carry < char_counts::MOST_KEPT,
     }
 }
 
@@ -319,9 +284,10 @@ impl Listener {
         ensures { Begins kind known result }
     {
         if known {
-            return Listener::Front(kind, false);
+            Listener::Front(kind, false)
+        } else {
+            Listener::Within(Intake::begin_tail(kind))
         }
-        Listener::Within(Intake::begin_tail(kind))
     }
 
     // Feeds a chunk, up to the line that decides a dump. What is left of the chunk is for the next call.
@@ -359,7 +325,7 @@ impl Listener {
         match self {
             Listener::Front(kind, _) => stay(Said::Quiet, Listener::Front(kind, false)),
             Listener::Within(s) => pause_within(s, carry, first, stage, stated),
-            Listener::Ready(kind) => stay(Said::Quiet, Listener::Ready(kind)),
+            Listener::Ready(_) => stay(Said::Quiet, self),
         }
     }
 
@@ -367,15 +333,13 @@ impl Listener {
     pub fn commit(self, stage: &[u8], stated: &[u8], page: &mut [u8], marks: &mut [u8]) -> Committed
         ensures { Commits self stage.now stated.now page.old marks.old result page.new marks.new }
     {
-        match self {
-            Listener::Front(_, _) => Committed::NotReady,
-            Listener::Within(_) => Committed::NotReady,
-            Listener::Ready(kind) => {
-                if commit::commit(stage, stated, page, marks) {
-                    return Committed::Done(Listener::Front(kind, false));
-                }
-                Committed::BadWindow
-            }
+        let Listener::Ready(kind) = self else {
+            return Err(CommitError::NotReady);
+        };
+        if commit::commit(stage, stated, page, marks) {
+            Ok(Listener::Front(kind, false))
+        } else {
+            Err(CommitError::BadWindow)
         }
     }
 }

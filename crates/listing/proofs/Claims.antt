@@ -6,12 +6,12 @@ use mathlib.Core.Bool.{Bool}
 use mathlib.Core.List.{List}
 use Rattle.record.specs.Line.{judge}
 use Rattle.reader.specs.Row.{row}
-use Rattle.listing.specs.declared.Listed.{Listed}
-use Rattle.listing.specs.declared.Listed.TheVariants.{Wrote, NoRoom}
+use Rattle.listing.specs.Aliases.{Listed}
 use Rattle.listing.specs.Listing.{listing}
 use Rattle.listing.specs.Listed.{ToldListed, wrote, no_room, told_listed, Writes}
 use Rattle.listing.specs.Claims.{Example, ExamplePlace, ListUnique, ListReplyUnique, ListFirstUnique, ListLastUnique, ShownAsListed, RoomForEach, ListingOptionsUnique, VerdictAfterUnique, ExitStatusUnique, TextStatusUnique}
 use Rattle.listing.proofs.Turning.{spoken}
+use Rattle.std.specs.Prelude.{None, Some}
 
 pub example : Example
 unfolding listing row judge
@@ -22,13 +22,13 @@ unfolding listing row judge
 example_place = refl
 
 untold : ToldListed → Listed
-untold (wrote n) = Wrote n
-untold no_room = NoRoom
+untold (wrote n) = Some n
+untold no_room = None
 
 untold_told : (r : Listed) → untold (told_listed r) ≡ r
 unfolding untold
-untold_told (Wrote n) = refl
-untold_told NoRoom = refl
+untold_told (Some n) = refl
+untold_told None = refl
 
 writes_unique : {b : Bool} {xs out : List ℕ} (r r' : Listed) (o o' : List ℕ) → Writes b xs out r o → Writes b xs out r' o' → (r ≡ r') × (o ≡ o')
 writes_unique r r' o o' x y =

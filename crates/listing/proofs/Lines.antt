@@ -14,8 +14,7 @@ use Rattle.record.specs.declared.Record.{Record}
 use Rattle.record.specs.declared.Record.TheVariants.{Data, EndOfFile, ExtendedSegmentAddress, StartSegmentAddress, ExtendedLinearAddress, StartLinearAddress}
 use Rattle.reader.specs.declared.ReaderError.{ReaderError}
 use Rattle.reader.specs.declared.ReaderError.TheVariants.{MissingStartCode, RecordTooShort, RecordTooLong, RecordNotEvenLength, ContainsInvalidCharacters, ChecksumMismatch, PayloadLengthMismatch, UnsupportedRecordType, InvalidLengthForType, PoolFull}
-use Rattle.reader.specs.declared.Reply.{Reply}
-use Rattle.reader.specs.declared.Reply.TheVariants.{Read, Refused, Done}
+use Rattle.reader.specs.Aliases.{Reply}
 use Rattle.digits.proofs.Tests.{split, both}
 use Rattle.reader.specs.Told.{refusal_of}
 use Rattle.listing.specs.Listing.{decimal, values_shown, record_entry, refusal_entry, count_line}
@@ -24,6 +23,7 @@ use Rattle.listing.specs.Helpers.{FitsIn}
 use Rattle.listing.proofs.Decimal.{decimal_length}
 use Rattle.listing.proofs.Entry.{data_length, payload_most}
 use Rattle.listing.proofs.Whole.{count_line_length}
+use Rattle.std.specs.Prelude.{Err, None, Ok, Some}
 
 -- ---- whether there is room
 
@@ -63,7 +63,7 @@ refusal_most InvalidLengthForType = omega arith
 refusal_most PoolFull = omega arith
 
 module _ (pool out : List ℕ) where
-  record_fits : (r : Record) → record_room r (length pool) (length out) ≡ true → FitsIn (Read r) pool out 0
+  record_fits : (r : Record) → record_room r (length pool) (length out) ≡ true → FitsIn (Some (Ok r)) pool out 0
   unfolding record_entry spelt
   record_fits (Data offset at len) e =
       let b = both (leb (at + len) (length pool)) (leb (2 * len + 32) (length out)) e in
@@ -78,9 +78,9 @@ module _ (pool out : List ℕ) where
   record_fits (StartLinearAddress a) e = record { lies = tt; room = omega (arith, leb-true 32 (length out) e) }
 
   pub reply_fits : (reply : Reply) → reply_room reply (length pool) (length out) ≡ true → FitsIn reply pool out 0
-  reply_fits (Read r) e = record_fits r e
-  reply_fits (Refused x) e = record { lies = tt; room = omega (arith, leb-true 32 (length out) e, length-append (refusal_entry (refusal_of x)) (10 ∷ []), refusal_most x) }
-  reply_fits Done e = record { lies = tt; room = omega arith }
+  reply_fits (Some (Ok r)) e = record_fits r e
+  reply_fits (Some (Err x)) e = record { lies = tt; room = omega (arith, leb-true 32 (length out) e, length-append (refusal_entry (refusal_of x)) (10 ∷ []), refusal_most x) }
+  reply_fits None e = record { lies = tt; room = omega arith }
 
 -- a count of 64 bits has at most twenty digits
 pub count_fits : (count : ℕ) → count < 2 ^ 64 → length (count_line count) ≤ 32

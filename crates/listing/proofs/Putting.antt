@@ -7,7 +7,7 @@ use native.Mathlib.Omega.{arith}
 use native.Mathlib.Nat.{add-zero}
 use native.Mathlib.Numerals.{add-one}
 use lib.ListN.{length, get_or, take, set, length-append}
-use lib.Seq.{length-take-le, take-length, take-suc}
+use lib.Seq.{length-take-le, take-suc}
 use Rattle.digits.specs.Spelling.{spelt}
 use Rattle.digits.proofs.Spelt.{spelt_length, spelt_append}
 use Rattle.digits.proofs.Pasting.{pasted_none, pasted_one, pasted_more}
@@ -44,6 +44,3 @@ module _ (out : List ℕ) (at : ℕ) where
   bytes_place s i p o h a =
       let n : length (spelt (take i s)) ≡ 2 * i = spelt_length (take i s) ∙ ap (λ (k : ℕ). 2 * k) (length-take-le i s h) in
       omega (arith, a.place)
-
-  pub bytes_last : (s : List ℕ) (i p : ℕ) (o : List ℕ) → i ≡ length s → Puts out at (spelt (take i s)) p o → Puts out at (spelt s) p o
-  bytes_last s i p o e a = put_as (ap (λ (k : ℕ). spelt (take k s)) e ∙ ap spelt (take-length s)) a

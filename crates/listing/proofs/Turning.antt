@@ -19,9 +19,7 @@ use Rattle.record.specs.declared.Record.{Record}
 use Rattle.record.specs.declared.Record.TheVariants.{Data, EndOfFile, ExtendedSegmentAddress, StartSegmentAddress, ExtendedLinearAddress, StartLinearAddress}
 use Rattle.record.proofs.Writing.{said_is_sayable}
 use Rattle.record.proofs.Standing.{Stands, stands}
-use Rattle.reader.specs.declared.Answer.TheVariants as answer
-use Rattle.reader.specs.declared.Reply.{Reply}
-use Rattle.reader.specs.declared.Reply.TheVariants.{Read, Refused, Done}
+use Rattle.reader.specs.Aliases.{Reply}
 use Rattle.reader.specs.declared.State.{State}
 use Rattle.reader.specs.declared.Replied.{Replied}
 use Rattle.reader.specs.Told.{refuses, done, told, refusal_of}
@@ -34,12 +32,14 @@ use Rattle.reader.proofs.Along.{heard, ended as finished, unread_judged}
 use Rattle.reader.proofs.Stays.{never_done}
 use Rattle.listing.specs.Listing.{record_entry, refusal_entry, entry, ended, shown, entries, listing_options, answers}
 use Rattle.listing.specs.Listed.{record_room, reply_room}
-use Rattle.listing.specs.Helpers.{Puts, is_done, Lies, FitsIn, EntriesPut}
+use Rattle.listing.specs.Helpers.{Puts, Lies, FitsIn, EntriesPut}
 use Rattle.listing.specs.declared.Verdict.{Verdict}
 use Rattle.listing.specs.Status.{after_record, after_said, after_reply}
 use Rattle.listing.proofs.Putting.{put_none, put_then, put_as}
 use Rattle.listing.proofs.Entry.{not_full}
 use Rattle.reader.proofs.Texts.{lines_few, cut_behind}
+use Rattle.std.specs.Prelude.{Err, None, Ok, Some}
+use Rattle.std.specs.Option.{is_some}
 
 -- ---- one reply
 
@@ -52,10 +52,10 @@ pub record Spoken (said : Said) (n : ℕ) (reply : Reply) (pool' : List ℕ) : T
   pub lies : Lies reply pool'
   pub room : (out : ℕ) → 542 ≤ out → reply_room reply (length pool') out ≡ true
 
-reply_is : (reply : Reply) (r : Record) → told_reply reply ≡ told (answer.Read r) → reply ≡ Read r
-reply_is (Read x) r e = let a = told_apart (answer.Read x) (answer.Read r) e in ap Read (cc)
-reply_is (Refused x) r e = let z : ◌≡◌ {A = ℕ} 0 1 = cc in absurd (omega arith)
-reply_is Done r e = let z : ◌≡◌ {A = ℕ} 0 1 = cc in absurd (omega arith)
+reply_is : (reply : Reply) (r : Record) → told_reply reply ≡ told (Ok r) → reply ≡ Some (Ok r)
+reply_is (Some (Ok x)) r e = ap Some (told_apart (Ok x) (Ok r) e)
+reply_is (Some (Err x)) r e = let z : ◌≡◌ {A = ℕ} 0 1 = cc in absurd (omega arith)
+reply_is None r e = let z : ◌≡◌ {A = ℕ} 0 1 = cc in absurd (omega arith)
 
 module _ (pool : List ℕ) (size : 255 ≤ length pool) (reply : Reply) (pool' : List ℕ) where
   -- a refused line
@@ -64,8 +64,8 @@ module _ (pool : List ℕ) (size : 255 ≤ length pool) (reply : Reply) (pool' :
   spoken_wrong line r j t = go reply t
     where
       go : (reply : Reply) → told_reply reply ≡ refuses r → Spoken (wrong r) (length pool) reply pool'
-      go (Read x) t = let z : ◌≡◌ {A = ℕ} 0 1 = cc in absurd (omega arith)
-      go (Refused e) t =
+      go (Some (Ok x)) t = let z : ◌≡◌ {A = ℕ} 0 1 = cc in absurd (omega arith)
+      go (Some (Err e)) t =
           let n : number_of r < 10 = not_full line r (subst (Stands line) j (stands line)) in
           let same : refusal_of e ≡ r = cc in
           record {
@@ -76,7 +76,7 @@ module _ (pool : List ℕ) (size : 255 ≤ length pool) (reply : Reply) (pool' :
             lies = tt;
             room = λ out h. le-leb 32 out (omega arith);
           }
-      go Done t = let z : ◌≡◌ {A = ℕ} 0 1 = cc in absurd (omega arith)
+      go None t = let z : ◌≡◌ {A = ℕ} 0 1 = cc in absurd (omega arith)
 
   -- a record, by what it means
   pub record Meant (m : Meaning) : Type 0 where
@@ -88,14 +88,14 @@ module _ (pool : List ℕ) (size : 255 ≤ length pool) (reply : Reply) (pool' :
     pub room : (out : ℕ) → 542 ≤ out → reply_room reply (length pool') out ≡ true
 
   -- a record without payload
-  plain : (r : Record) → ((out : ℕ) → record_room r (length pool') out ≡ leb 32 out) → reply ≡ Read r → (out : ℕ) → 542 ≤ out → reply_room reply (length pool') out ≡ true
+  plain : (r : Record) → ((out : ℕ) → record_room r (length pool') out ≡ leb 32 out) → reply ≡ Some (Ok r) → (out : ℕ) → 542 ≤ out → reply_room reply (length pool') out ≡ true
   plain r f e out h = ap (λ (x : Reply). reply_room x (length pool') out) e ∙ f out ∙ le-leb 32 out (omega arith)
 
   meant_as : (m : Meaning) → Sayable m → told_reply reply ≡ given m (length pool) 0 → pool' ≡ kept m pool 0 → Meant m
   unfolding given kept is_full ends_row is_end
   meant_as (data_at offset bytes) (o, l, b) t p =
       let w : leb (0 + length bytes) (length pool) ≡ true = le-leb (0 + length bytes) (length pool) (omega arith) in
-      let e : reply ≡ Read (Data offset 0 (length bytes)) = reply_is reply (Data offset 0 (length bytes)) (t ∙ rw w) in
+      let e : reply ≡ Some (Ok (Data offset 0 (length bytes))) = reply_is reply (Data offset 0 (length bytes)) (t ∙ rw w) in
       let q : pool' ≡ pasted pool 0 bytes = p ∙ rw w in
       let n : length (pasted pool 0 bytes) ≡ length bytes + length (drop (0 + length bytes) pool) = length-append bytes (drop (0 + length bytes) pool) in
       record {
@@ -181,26 +181,26 @@ module _ (input : List ℕ) (s : State) (pool : List ℕ) (way : UnderWay input 
             };
       }
 
-  pub turned : is_done step.reply ≡ false → Shown input s step.reply step.state pool'
+  pub turned : is_some step.reply ≡ true → Shown input s step.reply step.state pool'
   turned d = go (unread s input) refl
     where
-      not_done : (reply : Reply) → is_done reply ≡ false → told_reply reply ≡ done → ⊥
-      not_done (Read r) d e = let z : ◌≡◌ {A = ℕ} 0 1 = cc in omega arith
-      not_done (Refused r) d e = let z : ◌≡◌ {A = ℕ} 0 1 = cc in omega arith
-      not_done Done d e = let z : ◌≡◌ {A = ℕ} 0 1 = cc in omega arith
+      not_done : (reply : Reply) → is_some reply ≡ true → told_reply reply ≡ done → ⊥
+      not_done (Some (Ok r)) d e = let z : ◌≡◌ {A = ℕ} 0 1 = cc in omega arith
+      not_done (Some (Err r)) d e = let z : ◌≡◌ {A = ℕ} 0 1 = cc in omega arith
+      not_done None d e = let z : ◌≡◌ {A = ℕ} 0 1 = cc in omega arith
 
       go : (u : List Numbered) → unread s input ≡ u → Shown input s step.reply step.state pool'
       go [] u = absurd (not_done step.reply d (met.answer ∙ (finished s input pool 0 way.countable u).tells))
       go (on n said ∷ more) u = heard_said n said more u
 
-  pub ran_out : is_done step.reply ≡ true → left s input ≡ []
+  pub ran_out : is_some step.reply ≡ false → left s input ≡ []
   unfolding through_stop
   ran_out d = go (unread s input) refl
     where
-      is_told : (reply : Reply) → is_done reply ≡ true → told_reply reply ≡ done
-      is_told (Read r) d = let z : ◌≡◌ {A = ℕ} 0 1 = cc in absurd (omega arith)
-      is_told (Refused r) d = let z : ◌≡◌ {A = ℕ} 0 1 = cc in absurd (omega arith)
-      is_told Done d = refl
+      is_told : (reply : Reply) → is_some reply ≡ false → told_reply reply ≡ done
+      is_told (Some (Ok r)) d = let z : ◌≡◌ {A = ℕ} 0 1 = cc in absurd (omega arith)
+      is_told (Some (Err r)) d = let z : ◌≡◌ {A = ℕ} 0 1 = cc in absurd (omega arith)
+      is_told None d = refl
 
       go : (u : List Numbered) → unread s input ≡ u → left s input ≡ []
       go [] u = ap (through_stop listing_options) u

@@ -10,8 +10,7 @@ use borrow.Author.Tests.{lt-ltb, le-ltb, le-leb, lt-leb, leb-true}
 use Rattle.digits.specs.Common.{text}
 use Rattle.std.specs.Prelude.{if◌then◌else◌}
 use Rattle.digits.proofs.Tests.{split}
-use Rattle.listing.specs.declared.Listed.{Listed}
-use Rattle.listing.specs.declared.Listed.TheVariants.{Wrote, NoRoom}
+use Rattle.listing.specs.Aliases.{Listed}
 use Rattle.listing.specs.Listing.{decimal, ended, heading, count_line, entries, answers, listing}
 use Rattle.listing.specs.Listed.{wrote, no_room, told_listed, text_room, Writes, Lists}
 use Rattle.listing.specs.Helpers.{Puts}
@@ -19,6 +18,7 @@ use Rattle.listing.specs.Claims.{Fits}
 use Rattle.listing.proofs.Decimal.{decimal_length}
 use Rattle.listing.proofs.Putting.{put_as}
 use Rattle.listing.proofs.Sizes.{answers_most, answers_room}
+use Rattle.std.specs.Prelude.{None, Some}
 
 pub count_line_length : (count : ℕ) → length (count_line count) ≡ length (decimal count) + 9
 count_line_length count = omega (arith, length-append (decimal count ++ text " answers") (10 ∷ []), length-append (decimal count) (text " answers"))
@@ -46,24 +46,24 @@ fits input =
     (λ h. omega (arith, ap length (listing_long input h)))
 
 module _ (room' : Bool) (xs out : List ℕ) where
-  pub writes_none : room' ≡ false → Writes room' xs out NoRoom out
+  pub writes_none : room' ≡ false → Writes room' xs out None out
   writes_none e = record { answer = rw e; left = rw e }
 
-  pub writes_put : (r : ℕ) (out' : List ℕ) → room' ≡ true → Puts out 0 xs r out' → Writes room' xs out (Wrote r) out'
+  pub writes_put : (r : ℕ) (out' : List ℕ) → room' ≡ true → Puts out 0 xs r out' → Writes room' xs out (Some r) out'
   writes_put r out' e p =
       let z : 0 + length xs ≡ length xs = omega arith in
       record { answer = rw e (ap wrote (p.place ∙ z)); left = rw e (p.left ∙ ap (λ (k : ℕ). xs ++ drop k out) z) }
 
 module _ (input out : List ℕ) where
-  pub lists_full : length out < 3 * length input + 32 → Lists input out NoRoom out
+  pub lists_full : length out < 3 * length input + 32 → Lists input out None out
   lists_full h = writes_none (text_room (length input) (length out)) (listing input) out (lt-leb (3 * length input + 32) (length out) h)
 
-  pub lists_wrote : (r : ℕ) (out' xs : List ℕ) → 3 * length input + 32 ≤ length out → xs ≡ listing input → Puts out 0 xs r out' → Lists input out (Wrote r) out'
+  pub lists_wrote : (r : ℕ) (out' xs : List ℕ) → 3 * length input + 32 ≤ length out → xs ≡ listing input → Puts out 0 xs r out' → Lists input out (Some r) out'
   lists_wrote r out' xs h e p =
       writes_put (text_room (length input) (length out)) (listing input) out r out' (le-leb (3 * length input + 32) (length out) h) (put_as out 0 e p)
 
 -- what was written lies within the output
-pub wrote_inside : (input out : List ℕ) (r : Listed) (out' : List ℕ) (n : ℕ) → Lists input out r out' → r ≡ Wrote n → n ≤ length out
+pub wrote_inside : (input out : List ℕ) (r : Listed) (out' : List ℕ) (n : ℕ) → Lists input out r out' → r ≡ Some n → n ≤ length out
 wrote_inside input out r out' n l e = go (text_room (length input) (length out)) refl (ap told_listed (sym e) ∙ l.answer)
   where
     go : (b : Bool) → text_room (length input) (length out) ≡ b → wrote n ≡ (if b then wrote (length (listing input)) else no_room) → n ≤ length out

@@ -4,12 +4,12 @@ use Rattle.std.specs.Prelude.{ℕ, ◌+◌, ◌*◌, ◌≤◌, ◌<◌, ◌≡�
 use Rattle.digits.specs.Common.{Every, text}
 use Rattle.record.specs.Line.{says, judge}
 use Rattle.reader.specs.declared.ReaderOptions.{ReaderOptions}
-use Rattle.reader.specs.declared.Reply.{Reply}
+use Rattle.reader.specs.Aliases.{Reply}
 use Rattle.reader.specs.Answer.{answered, poured}
 use Rattle.reader.specs.Lines.{lines}
 use Rattle.reader.specs.Row.{Numbered, on, sayings}
 use Rattle.reader.specs.Text.{told_reply}
-use Rattle.listing.specs.declared.Listed.{Listed}
+use Rattle.listing.specs.Aliases.{Listed}
 use Rattle.listing.specs.declared.Verdict.{Verdict}
 use Rattle.listing.specs.Listing.{entry, ended, shown, answers, listing}
 use Rattle.listing.specs.Listed.{reply_room, Lists, ListsReply, ListsFirst, ListsLast}

@@ -1,6 +1,6 @@
 -- What the helpers of `list` and of `list_reply` ask of and promise each other.
 -- Assumes nothing.
-use Rattle.std.specs.Prelude.{ℕ, ◌+◌, ◌≤◌, ◌≡◌, Bool, true, false, List, [], ◌∷◌, ◌++◌, length}
+use Rattle.std.specs.Prelude.{ℕ, ◌+◌, ◌≤◌, ◌≡◌, List, [], ◌∷◌, ◌++◌, length}
 use Rattle.digits.specs.Common.{text, pasted}
 use Rattle.record.specs.Written.{two_bytes}
 use Rattle.digits.specs.Spelling.{spelt}
@@ -8,9 +8,9 @@ use Rattle.record.specs.Record.{meant, Inside}
 use Rattle.record.specs.declared.Record.{Record}
 use Rattle.reader.specs.declared.Values.{Values}
 use Rattle.reader.specs.declared.Values.TheVariants.{Nothing, Position, Byte, Bytes}
-use Rattle.reader.specs.declared.Reply.{Reply}
-use Rattle.reader.specs.declared.Reply.TheVariants.{Read, Refused, Done}
+use Rattle.reader.specs.Aliases.{Reply}
 use Rattle.listing.specs.Listing.{spaced, record_entry, shown, entries, answers}
+use Rattle.std.specs.Prelude.{Err, None, Ok, Some}
 
 -- these characters stand in the output from a place on, and the place behind them is answered
 pub record Puts (out : List ℕ) (at : ℕ) (characters : List ℕ) (r : ℕ) (out' : List ℕ) : Type 0 where
@@ -34,15 +34,10 @@ pub record Printable (given : Record) (pool out : List ℕ) (at : ℕ) : Type 0 
   pub lies : Inside given (length pool)
   pub room : at + length (record_entry (meant given pool)) ≤ length out
 
-abbrev pub is_done : Reply → Bool
-is_done (Read r) = false
-is_done (Refused e) = false
-is_done Done = true
-
 abbrev pub Lies : Reply → (pool : List ℕ) → Type 0
-Lies (Read r) pool = Inside r (length pool)
-Lies (Refused e) pool = Unit
-Lies Done pool = Unit
+Lies (Some (Ok r)) pool = Inside r (length pool)
+Lies (Some (Err e)) pool = Unit
+Lies None pool = Unit
 
 pub record FitsIn (reply : Reply) (pool out : List ℕ) (at : ℕ) : Type 0 where
   pub lies : Lies reply pool

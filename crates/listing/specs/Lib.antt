@@ -3,3 +3,4 @@ pub mod Listed
 pub mod Helpers
 pub mod Status
 pub mod Claims
+pub mod Aliases

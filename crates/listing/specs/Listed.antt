@@ -4,19 +4,18 @@ use Rattle.std.specs.Prelude.{ℕ, ◌+◌, ◌*◌, ◌≡◌, Bool, ◌&&◌, 
 use Rattle.std.specs.Prelude.{if◌then◌else◌}
 use Rattle.record.specs.declared.Record.{Record}
 use Rattle.record.specs.declared.Record.TheVariants.{Data, EndOfFile, ExtendedSegmentAddress, StartSegmentAddress, ExtendedLinearAddress, StartLinearAddress}
-use Rattle.reader.specs.declared.Reply.{Reply}
-use Rattle.reader.specs.declared.Reply.TheVariants.{Read, Refused, Done}
-use Rattle.listing.specs.declared.Listed.{Listed}
-use Rattle.listing.specs.declared.Listed.TheVariants.{Wrote, NoRoom}
+use Rattle.reader.specs.Aliases.{Reply}
+use Rattle.listing.specs.Aliases.{Listed}
 use Rattle.listing.specs.Listing.{shown, heading, count_line, listing}
+use Rattle.std.specs.Prelude.{Err, None, Ok, Some}
 
 pub data ToldListed : Type 0 where
   wrote : (n : ℕ) → ToldListed
   no_room : ToldListed
 
 abbrev pub told_listed : Listed → ToldListed
-told_listed (Wrote n) = wrote n
-told_listed NoRoom = no_room
+told_listed (Some n) = wrote n
+told_listed None = no_room
 
 -- the characters stand at the output's beginning where there is room, and else the output is as it was
 pub record Writes (room : Bool) (characters out : List ℕ) (r : Listed) (out' : List ℕ) : Type 0 where
@@ -41,9 +40,9 @@ record_room (ExtendedLinearAddress a) pool out = line_room 0 out
 record_room (StartLinearAddress a) pool out = line_room 0 out
 
 abbrev pub reply_room : Reply → (pool out : ℕ) → Bool
-reply_room (Read r) pool out = record_room r pool out
-reply_room (Refused e) pool out = line_room 0 out
-reply_room Done pool out = line_room 0 out
+reply_room (Some (Ok r)) pool out = record_room r pool out
+reply_room (Some (Err e)) pool out = line_room 0 out
+reply_room None pool out = line_room 0 out
 
 -- the contract of `list`
 abbrev pub Lists : (input out : List ℕ) (r : Listed) (out' : List ℕ) → Type 0

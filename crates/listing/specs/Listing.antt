@@ -11,11 +11,11 @@ use Rattle.record.specs.Written.{two_bytes, four_bytes}
 use Rattle.digits.specs.Spelling.{capital_digit, spelt}
 use Rattle.record.specs.Record.{meant}
 use Rattle.reader.specs.declared.ReaderOptions.{ReaderOptions}
-use Rattle.reader.specs.declared.Reply.{Reply}
-use Rattle.reader.specs.declared.Reply.TheVariants.{Read, Refused, Done}
+use Rattle.reader.specs.Aliases.{Reply}
 use Rattle.reader.specs.Lines.{LF}
 use Rattle.reader.specs.Row.{Numbered, on, row}
 use Rattle.reader.specs.Told.{refusal_of}
+use Rattle.std.specs.Prelude.{Err, None, Ok, Some}
 
 -- a number in decimal, of at most so many digits: the last digit stands behind those of a tenth of the number
 unfoldable pub digits : (most n : ℕ) → List ℕ
@@ -67,9 +67,9 @@ ended line = line ++ (LF ∷ [])
 
 -- the line of a reply, whose payload lies in the pool; none of "done"
 abbrev pub shown : Reply → (pool : List ℕ) → List ℕ
-shown (Read r) pool = ended (record_entry (meant r pool))
-shown (Refused e) pool = ended (refusal_entry (refusal_of e))
-shown Done pool = []
+shown (Some (Ok r)) pool = ended (record_entry (meant r pool))
+shown (Some (Err e)) pool = ended (refusal_entry (refusal_of e))
+shown None pool = []
 
 abbrev pub heading : List ℕ
 heading = ended (text "records")

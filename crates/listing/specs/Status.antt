@@ -6,11 +6,11 @@ use Rattle.record.specs.Line.{Said, says, wrong}
 use Rattle.record.specs.Meaning.{meaning}
 use Rattle.record.specs.Record.{type_of}
 use Rattle.reader.specs.declared.ReaderOptions.{ReaderOptions}
-use Rattle.reader.specs.declared.Reply.{Reply}
-use Rattle.reader.specs.declared.Reply.TheVariants.{Read, Refused, Done}
+use Rattle.reader.specs.Aliases.{Reply}
 use Rattle.reader.specs.Row.{Numbered, on, is_end, row}
 use Rattle.listing.specs.declared.Verdict.{Verdict}
 use Rattle.listing.specs.Listing.{listing_options, answers}
+use Rattle.std.specs.Prelude.{Err, None, Ok, Some}
 
 abbrev pub is_record : Said → Bool
 is_record (says kind address payload) = true
@@ -60,9 +60,9 @@ status_of verdict = if verdict.faulty then 1 else if verdict.ended then 0 else 1
 
 -- after a reply; "done" changes nothing
 abbrev pub after_reply : Verdict → Reply → Verdict
-after_reply verdict (Read r) = after_record verdict (eqb (type_of r) 1)
-after_reply verdict (Refused e) = after_refusal
-after_reply verdict Done = verdict
+after_reply verdict (Some (Ok r)) = after_record verdict (eqb (type_of r) 1)
+after_reply verdict (Some (Err e)) = after_refusal
+after_reply verdict None = verdict
 
 -- ---- contracts
 

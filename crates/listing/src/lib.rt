@@ -8,18 +8,11 @@ ghost use Rattle.record.specs.Meaning.{data_at};
 ghost use Rattle.reader.specs.Told.{refusal_of};
 ghost use Rattle.listing.specs.Listing.{decimal, spaced, record_entry, refusal_entry, shown, heading, count_line, answers};
 ghost use Rattle.listing.specs.Listed.{text_room, line_room, record_room, reply_room, Lists, ListsReply, ListsFirst, ListsLast};
-ghost use Rattle.listing.specs.Helpers.{Puts, Printable, FitsIn, is_done, numbered, values_put, EntriesPut, HasRoom};
+ghost use Rattle.listing.specs.Helpers.{Puts, Printable, FitsIn, numbered, values_put, EntriesPut, HasRoom};
 ghost use Rattle.listing.specs.Status.{no_line, verdict_from, ListingOptions, VerdictAfter, ExitStatus, TextStatus};
 
 use reader::{ReaderError, ReaderOptions, Reply, State, Values};
 use record::{Record, chars};
-
-// What is answered: how many characters were written, or that the output may be too small.
-#[derive(Clone, Copy)]
-pub enum Listed {
-    Wrote(usize),
-    NoRoom,
-}
 
 // What the answers of a text come to so far.
 #[derive(Clone, Copy)]
@@ -63,8 +56,7 @@ fn put_word(x: u16, out: &mut [u8], at: usize) -> usize
     requires { at + 4 ≤ length out.old }
     ensures { Puts out.old at (spelt (two_bytes x)) result out.new }
 {
-    let low = put_byte((x / 256) as u8, out, at);
-    put_byte((x % 256) as u8, out, low)
+    put_bytes(&x.to_be_bytes(), out, at)
 }
 
 // Characters as they are.
@@ -82,10 +74,8 @@ fn put_bytes(s: &[u8], out: &mut [u8], at: usize) -> usize
     ensures { Puts out.old at (spelt s.now) result out.new }
 {
     let mut place = at;
-    let mut i = 0;
-    while i < s.len() {
-        place = put_byte(s[i], out, place);
-        i += 1;
+    for b in s {
+        place = put_byte(*b, out, place);
     }
     place
 }
@@ -200,21 +190,9 @@ fn put_refusal(e: ReaderError, out: &mut [u8], at: usize) -> usize
     ensures { Puts out.old at (refusal_entry (refusal_of e)) result out.new }
 {
     let figures = e.figures();
-    let shown = figures.values;
     let number = put_text(b"! ", out, at);
-    let values = put_decimal(figures.number as usize, out, number);
-    put_values(shown, out, values)
-}
-
-// Whether a reply says that nothing is left.
-fn done(reply: Reply) -> bool
-    ensures { result ≡ is_done reply }
-{
-    match reply {
-        Reply::Done => true,
-        Reply::Read(_) => false,
-        Reply::Refused(_) => false,
-    }
+    let values = put_decimal(usize::from(figures.number), out, number);
+    put_values(figures.values, out, values)
 }
 
 // The line of a reply; none of "done".
@@ -223,15 +201,15 @@ fn put_reply(reply: Reply, pool: &[u8], out: &mut [u8], at: usize) -> usize
     ensures { Puts out.old at (shown reply pool.now) result out.new }
 {
     match reply {
-        Reply::Read(given) => {
+        Some(Ok(given)) => {
             let end = put_record(given, pool, out, at);
             put_char(chars::LF, out, end)
         }
-        Reply::Refused(e) => {
+        Some(Err(e)) => {
             let end = put_refusal(e, out, at);
             put_char(chars::LF, out, end)
         }
-        Reply::Done => at,
+        None => at,
     }
 }
 
@@ -254,13 +232,13 @@ fn put_entries(text: &[u8], out: &mut [u8], at: usize) -> Entries
     let mut state = State::new_with_options(listing_options());
     let mut place = at;
     let mut count = 0;
+    // A loop: each turn reads a line, so there is no index to count.
     loop {
         let step = state.next(text, &mut pool, 0);
-        let reply = step.reply;
-        if done(reply) {
+        if step.reply.is_none() {
             return Entries { at: place, count };
         }
-        place = put_reply(reply, &pool, out, place);
+        place = put_reply(step.reply, &pool, out, place);
         state = step.state;
         count += 1;
     }
@@ -287,10 +265,7 @@ fn put_last(count: usize, out: &mut [u8], at: usize) -> usize
 fn has_room(given: usize, out: usize) -> bool
     ensures { result ≡ line_room given out }
 {
-    if out < 32 {
-        return false;
-    }
-    given <= (out - 32) / 2
+    out >= 32 && given <= (out - 32) / 2
 }
 
 // The same for the line of a record, whose payload must lie in a pool of so many bytes.
@@ -299,19 +274,13 @@ fn record_room(given: Record, pool: usize, out: usize) -> bool
 {
     match given {
         Record::Data { offset: _, at, len } => {
-            if at > pool {
-                return false;
-            }
-            if len > pool - at {
-                return false;
-            }
-            has_room(len, out)
+            at <= pool && len <= pool - at && has_room(len, out)
         }
-        Record::EndOfFile => has_room(0, out),
-        Record::ExtendedSegmentAddress(_) => has_room(0, out),
-        Record::StartSegmentAddress { cs: _, ip: _ } => has_room(0, out),
-        Record::ExtendedLinearAddress(_) => has_room(0, out),
-        Record::StartLinearAddress(_) => has_room(0, out),
+        Record::EndOfFile
+        | Record::ExtendedSegmentAddress(_)
+        | Record::StartSegmentAddress { cs: _, ip: _ }
+        | Record::ExtendedLinearAddress(_)
+        | Record::StartLinearAddress(_) => has_room(0, out),
     }
 }
 
@@ -320,9 +289,8 @@ fn reply_room(reply: Reply, pool: usize, out: usize) -> bool
     ensures { result ≡ reply_room reply pool out }
 {
     match reply {
-        Reply::Read(given) => record_room(given, pool, out),
-        Reply::Refused(_) => has_room(0, out),
-        Reply::Done => has_room(0, out),
+        Some(Ok(given)) => record_room(given, pool, out),
+        Some(Err(_)) | None => has_room(0, out),
     }
 }
 
@@ -331,56 +299,53 @@ fn reply_room(reply: Reply, pool: usize, out: usize) -> bool
 fn text_room(given: usize, out: usize) -> bool
     ensures { result ≡ text_room given out }
 {
-    if out < given {
-        return false;
-    }
-    has_room(given, out - given)
+    given <= out && has_room(given, out - given)
 }
 
 // The listing of a text, at the output's beginning. There is no room in less than 32 bytes and three for each byte of the text.
-pub fn list(text: &[u8], out: &mut [u8]) -> Listed
+pub fn list(text: &[u8], out: &mut [u8]) -> Option<usize>
     ensures { Lists text.now out.old result out.new }
 {
     if !text_room(text.len(), out.len()) {
-        return Listed::NoRoom;
+        return None;
     }
     if text.len() > LONGEST_TEXT {
-        return Listed::Wrote(put_text(b"input too long\n", out, 0));
+        return Some(put_text(b"input too long\n", out, 0));
     }
     let first = put_first(out, 0);
     let entries = put_entries(text, out, first);
-    Listed::Wrote(put_last(entries.count, out, entries.at))
+    Some(put_last(entries.count, out, entries.at))
 }
 
 // The line of a reply, at the output's beginning; none of "done". There is no room in less than 32 bytes and two for each byte
 // of its payload, nor for a payload that does not lie in the pool.
-pub fn list_reply(reply: Reply, pool: &[u8], out: &mut [u8]) -> Listed
+pub fn list_reply(reply: Reply, pool: &[u8], out: &mut [u8]) -> Option<usize>
     ensures { ListsReply reply pool.now out.old result out.new }
 {
     if !reply_room(reply, pool.len(), out.len()) {
-        return Listed::NoRoom;
+        return None;
     }
-    Listed::Wrote(put_reply(reply, pool, out, 0))
+    Some(put_reply(reply, pool, out, 0))
 }
 
 // The first line of a listing, at the output's beginning. There is no room in less than 32 bytes.
-pub fn list_first(out: &mut [u8]) -> Listed
+pub fn list_first(out: &mut [u8]) -> Option<usize>
     ensures { ListsFirst out.old result out.new }
 {
     if !has_room(0, out.len()) {
-        return Listed::NoRoom;
+        return None;
     }
-    Listed::Wrote(put_first(out, 0))
+    Some(put_first(out, 0))
 }
 
 // The last line of a listing of so many answers, likewise.
-pub fn list_last(count: usize, out: &mut [u8]) -> Listed
+pub fn list_last(count: usize, out: &mut [u8]) -> Option<usize>
     ensures { ListsLast count out.old result out.new }
 {
     if !has_room(0, out.len()) {
-        return Listed::NoRoom;
+        return None;
     }
-    Listed::Wrote(put_last(count, out, 0))
+    Some(put_last(count, out, 0))
 }
 
 // What the answers come to with one more reply; "done" changes nothing.
@@ -388,15 +353,15 @@ pub fn verdict_after(verdict: Verdict, reply: Reply) -> Verdict
     ensures { VerdictAfter verdict reply result }
 {
     match reply {
-        Reply::Read(given) => Verdict {
-            faulty: verdict.faulty,
-            ended: given.record_type() == record::types::END_OF_FILE,
+        Some(Ok(given)) => Verdict {
+            ended: matches!(given, Record::EndOfFile),
+            ..verdict
         },
-        Reply::Refused(_) => Verdict {
+        Some(Err(_)) => Verdict {
             faulty: true,
             ended: false,
         },
-        Reply::Done => verdict,
+        None => verdict,
     }
 }
 
@@ -404,13 +369,7 @@ pub fn verdict_after(verdict: Verdict, reply: Reply) -> Verdict
 pub fn exit_status(verdict: Verdict) -> u8
     ensures { ExitStatus verdict result }
 {
-    if verdict.faulty {
-        return 1;
-    }
-    if verdict.ended {
-        return 0;
-    }
-    1
+    u8::from(verdict.faulty || !verdict.ended)
 }
 
 // What the answers of a whole text come to.
@@ -423,13 +382,13 @@ fn text_verdict(text: &[u8]) -> Verdict
         faulty: false,
         ended: false,
     };
+    // A loop: each turn reads a line, so there is no index to count.
     loop {
         let step = state.next(text, &mut pool, 0);
-        let reply = step.reply;
-        if done(reply) {
+        if step.reply.is_none() {
             return verdict;
         }
-        verdict = verdict_after(verdict, reply);
+        verdict = verdict_after(verdict, step.reply);
         state = step.state;
     }
 }

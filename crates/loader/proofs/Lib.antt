@@ -4,7 +4,6 @@ pub mod OneReason
 pub mod Runs
 pub mod Meeting
 pub mod Passes
-pub mod Loads
 pub mod Taking
 pub mod Segments
 pub mod Stored

@@ -1,7 +1,7 @@
 -- What a record comes to, and the base after it. Once its type is known its action computes, and a data record goes by the part of the pool that
 -- holds its bytes.
 -- Assumes nothing.
-use Rattle.std.proofs.Common.{◌≡◌, ℕ, suc, ◌+◌, ◌-◌, ◌≤◌, Bool, true, false, List, [], ◌∷◌, length, take, drop, sym, refl, ap, add-one, arith, length-drop, length-take-le}
+use Rattle.std.proofs.Common.{◌≡◌, ℕ, suc, ◌+◌, ◌-◌, ◌≤◌, Bool, true, false, List, [], ◌∷◌, take, drop, sym, refl, ap, add-one, arith, length-drop, length-take-le}
 use mathlib.Core.Option.{Option, none, some, map}
 use Rattle.std.specs.Prelude.{if◌then◌else◌}
 use Rattle.record.specs.Refusals.{start_conflict}
@@ -15,15 +15,13 @@ use Rattle.steps.specs.Steps.{Placement, Start, cs_with_ip, linear_address, star
 use Rattle.steps.specs.Steps as steps
 use Rattle.steps.specs.Taken.{Standing, on, onward, acted}
 use Rattle.steps.proofs.Starts.{kept_so}
-use Rattle.window.specs.declared.Reach.{Reach}
-use Rattle.window.specs.declared.Reach.TheVariants.{Inside, Outside}
+use Rattle.window.specs.Aliases.{Reach}
 use Rattle.window.specs.Promises.{first_byte, Surveyed, Painted}
 use Rattle.window.proofs.Loads.{painted_nothing}
 use Rattle.loader.specs.declared.Base.{Base as CodeBase}
 use Rattle.loader.specs.declared.Base.TheVariants.{Segment, Linear}
 use Rattle.steps.specs.declared.LoaderError.TheVariants.{OutsideWindow, StartConflict}
-use Rattle.steps.specs.declared.Loading.TheVariants.{Accepted, Refused}
-use Rattle.steps.specs.declared.Start.{Start as CodeStart}
+use Rattle.steps.specs.Aliases.{Stated as CodeStart}
 use Rattle.steps.specs.declared.Tally.{Tally as CodeTally}
 use Rattle.loader.specs.declared.Taken.{Taken}
 use Rattle.loader.specs.declared.Taken.TheVariants.{On, Stop}
@@ -31,6 +29,8 @@ use Rattle.intel.specs.Placing.{Base, base_behind, byte_address, placed, does}
 use Rattle.steps.specs.Told.{told_start}
 use Rattle.loader.specs.Helpers.{based, stated_by, Behind, Met, MeetsStart}
 use Rattle.intel.specs.Records.{LiesIn}
+use Rattle.std.specs.Prelude.{None, Ok, Some}
+use Rattle.steps.specs.Aliases.{refuse}
 
 -- ---- the base behind a record
 
@@ -43,13 +43,20 @@ module _ (base : CodeBase) (x : Record) where
   unfolding base_behind
   behind_linear n e = record { base_is = λ pool. rw e }
 
+-- any other record leaves it
+pub behind_other : (base : CodeBase) (x : Record) → ((n : ℕ) → x ≡ ExtendedSegmentAddress n → ⊥) → ((n : ℕ) → x ≡ ExtendedLinearAddress n → ⊥) → Behind base x base
+unfolding base_behind
+behind_other base (Data offset at len) s l = record { base_is = λ pool. refl }
+behind_other base EndOfFile s l = record { base_is = λ pool. refl }
+behind_other base (ExtendedSegmentAddress n) s l = absurd (s n refl)
+behind_other base (StartSegmentAddress cs ip) s l = record { base_is = λ pool. refl }
+behind_other base (ExtendedLinearAddress n) s l = absurd (l n refl)
+behind_other base (StartLinearAddress n) s l = record { base_is = λ pool. refl }
+
+module _ (base : CodeBase) (x : Record) where
   pub behind_data : (offset at len : ℕ) → x ≡ Data offset at len → Behind base x base
   unfolding base_behind
   behind_data offset at len e = record { base_is = λ pool. rw e }
-
-  pub behind_end : x ≡ EndOfFile → Behind base x base
-  unfolding base_behind
-  behind_end e = record { base_is = λ pool. rw e }
 
   pub behind_cs_ip : (cs ip : ℕ) → x ≡ StartSegmentAddress cs ip → Behind base x base
   unfolding base_behind
@@ -58,11 +65,6 @@ module _ (base : CodeBase) (x : Record) where
   pub behind_eip : (n : ℕ) → x ≡ StartLinearAddress n → Behind base x base
   unfolding base_behind
   behind_eip n e = record { base_is = λ pool. rw e }
-
--- ---- a part of the pool
-
-pub part_small : (at len : ℕ) (pool : List ℕ) → length (take len (drop at pool)) ≤ 255 → length (take (at + len - at) (drop at pool)) ≤ 255
-part_small at len pool h = rw (part_is pool at len) h
 
 -- ---- what it comes to
 
@@ -74,17 +76,17 @@ module _ (inside : ℕ → Bool) (n : ℕ) (base : CodeBase) (tally : CodeTally)
       let l : LiesIn (Data offset at len) pool = rw e at lies in
       s.answer (take len (drop at pool)) (length-take-le len (drop at pool) (omega (arith, l.0, length-drop at pool)))
 
-  pub met_inside : (offset at len : ℕ) → x ≡ Data offset at len → Surveyed (byte_address (based base) offset) len inside Inside
+  pub met_inside : (offset at len : ℕ) → x ≡ Data offset at len → Surveyed (byte_address (based base) offset) len inside None
       → (b : CodeBase) → Behind base x b → Met inside n base tally (meant x pool) (On b (record { records = tally.records + 1; start = tally.start }))
   unfolding acted turn does stated_by
-  met_inside offset at len e s b k = let o = surveyed offset at len e Inside s in record { comes_to = rw (k.base_is pool, e, o, add-one tally.records) }
+  met_inside offset at len e s b k = let o = surveyed offset at len e None s in record { comes_to = rw (k.base_is pool, e, o, add-one tally.records) }
 
-  pub met_outside : (offset at len i : ℕ) → x ≡ Data offset at len → Surveyed (byte_address (based base) offset) len inside (Outside i)
-      → Met inside n base tally (meant x pool) (Stop (Refused (OutsideWindow (byte_address (based base) offset i)) n))
+  pub met_outside : (offset at len i : ℕ) → x ≡ Data offset at len → Surveyed (byte_address (based base) offset) len inside (Some i)
+      → Met inside n base tally (meant x pool) (Stop (refuse (OutsideWindow (byte_address (based base) offset i)) n))
   unfolding acted turn does
-  met_outside offset at len i e s = let o = surveyed offset at len e (Outside i) s in record { comes_to = rw (e, o) }
+  met_outside offset at len i e s = let o = surveyed offset at len e (Some i) s in record { comes_to = rw (e, o) }
 
-  pub met_end : x ≡ EndOfFile → Met inside n base tally (meant x pool) (Stop (Accepted tally))
+  pub met_end : x ≡ EndOfFile → Met inside n base tally (meant x pool) (Stop (Ok tally))
   unfolding acted turn does
   met_end e = record { comes_to = rw e }
 
@@ -103,7 +105,7 @@ module _ (inside : ℕ → Bool) (n : ℕ) (base : CodeBase) (tally : CodeTally)
 -- ---- a start
 
 module _ (n : ℕ) (base : CodeBase) (tally : CodeTally) (stated : CodeStart) where
-  pub start_refused : differ (told_start tally.start) (told_start stated) ≡ true → MeetsStart n base tally stated (Stop (Refused StartConflict n))
+  pub start_refused : differ (told_start tally.start) (told_start stated) ≡ true → MeetsStart n base tally stated (Stop (refuse StartConflict n))
   unfolding acted turn
   start_refused d = record { comes_to = λ inside s e. let h : differ (told_start tally.start) (some s) ≡ true = rw e at d in rw h }
 
@@ -146,11 +148,18 @@ module _ (inside : ℕ → Bool) (n : ℕ) (base : Base) (t : Tally) (st : Stand
 
 -- ---- the second pass
 
-module _ (site : ℕ → Option ℕ) (base : Base) (x : Record) (pool page marks : List ℕ) where
-  -- a record that states nothing leaves page and marks as they are
-  pub idle : stated_by base (meant x pool) ≡ [] → Painted site (stated_by base (meant x pool)) page marks page marks
-  idle e = rw e (painted_nothing site page marks)
+-- a record without data leaves page and marks as they are
+pub idle : (site : ℕ → Option ℕ) (base : Base) (x : Record) (pool page marks : List ℕ) → ((offset at len : ℕ) → x ≡ Data offset at len → ⊥)
+    → Painted site (stated_by base (meant x pool)) page marks page marks
+unfolding stated_by
+idle site base (Data offset at len) pool page marks n = absurd (n offset at len refl)
+idle site base EndOfFile pool page marks n = painted_nothing site page marks
+idle site base (ExtendedSegmentAddress k) pool page marks n = painted_nothing site page marks
+idle site base (StartSegmentAddress cs ip) pool page marks n = painted_nothing site page marks
+idle site base (ExtendedLinearAddress k) pool page marks n = painted_nothing site page marks
+idle site base (StartLinearAddress k) pool page marks n = painted_nothing site page marks
 
+module _ (site : ℕ → Option ℕ) (base : Base) (x : Record) (pool page marks : List ℕ) where
   pub painted_data : (offset at len : ℕ) (page' marks' : List ℕ) → x ≡ Data offset at len
       → Painted site (placed base offset 0 (take (at + len - at) (drop at pool))) page marks page' marks' → Painted site (stated_by base (meant x pool)) page marks page' marks'
   unfolding stated_by

@@ -1,7 +1,7 @@
 -- The two passes, a call at a time: the decision on what is left stays the whole decision, and what is left, painted on page and
 -- marks as they are, stays all of it painted on them as they were.
 -- Assumes nothing.
-use Rattle.std.proofs.Common.{◌≡◌, ℕ, ◌+◌, ◌^◌, ◌<◌, ◌≤◌, Bool, true, false, List, [], ◌∷◌, ◌++◌, length, sym, refl, ap, ◌∙◌, subst, ap₂, arith}
+use Rattle.std.proofs.Common.{◌≡◌, ℕ, ◌+◌, ◌^◌, ◌<◌, Bool, true, false, List, [], ◌∷◌, ◌++◌, length, sym, refl, ap, ◌∙◌, subst, ap₂, arith}
 use mathlib.Core.Option.{Option}
 use Rattle.record.specs.Refusals.{missing_end_of_file_record}
 use Rattle.record.specs.Line.{wrong}
@@ -21,47 +21,30 @@ use Rattle.window.specs.Promises.{Painted}
 use Rattle.window.proofs.Loads.{painting_step}
 use Rattle.loader.specs.declared.Base.{Base as CodeBase}
 use Rattle.loader.specs.declared.Base.TheVariants.{Segment}
-use Rattle.steps.specs.declared.Start.TheVariants.{Unstated}
 use Rattle.steps.specs.declared.Tally.{Tally as CodeTally}
-use Rattle.steps.specs.declared.Loading.{Loading}
+use Rattle.steps.specs.Aliases.{Loading}
 use Rattle.steps.proofs.Taken.{Acts, acts_are}
 use Rattle.loader.specs.declared.Taken.{Taken}
 use Rattle.loader.specs.declared.Taken.TheVariants.{On, Stop}
 use Rattle.loader.specs.declared.Walk.{Walk}
-use Rattle.intel.specs.Placing.{Base, base_behind, does, act, base_after, along, steps_of}
+use Rattle.intel.specs.Placing.{Base, base_behind, does, act, base_after, along, intel}
 use Rattle.steps.specs.Told.{tallied, told_loading}
 use Rattle.window.specs.Load.{SamePainting}
-use Rattle.loader.specs.Helpers.{based, stated_by, Behind, told_taken, states, ahead_of, Met, WrittenOn}
+use Rattle.loader.specs.Helpers.{based, stated_by, Behind, told_taken, states, ahead_of, left_of, stands_in, has_met, Met}
 use Rattle.intel.specs.Records.{left, does_on, UnderWay}
 use Rattle.intel.proofs.Rows.{steps_along}
-use Rattle.intel.proofs.Calls.{One, more_unread, fewer_unread}
+use Rattle.intel.proofs.Calls.{One, more_unread, fewer_unread, start_under_way}
+use Rattle.window.specs.LineByLine.{Begun, JudgedOn, WroteOn}
 use Rattle.loader.proofs.Meeting.{passes}
-
--- ---- the first pass goes on
-
--- so many data records were met, and there are still few enough to be counted
-abbrev pub Few : (text : List ℕ) → Walk → CodeTally → Type 0
-Few text w tally = tally.records + length (unread w.state text) ≤ length text
-
--- a line was judged: the decision on what is left is the decision on what was left
-pub record Onward (inside : ℕ → Bool) (text : List ℕ) (w : Walk) (tally : CodeTally) (w' : Walk) (tally' : CodeTally) : Type 0 where
-  pub under_way : UnderWay text w'.state
-  pub few : Few text w' tally'
-  pub same : decision inside (tallied tally') (ahead_of w' text) ≡ decision inside (tallied tally) (ahead_of w text)
-  pub less : length (unread w'.state text) < length (unread w.state text)
 
 -- ---- the beginning
 
 abbrev pub start : Walk
 start = record { state = new_state default_options; base = Segment 0 }
 
-pub start_few : (text : List ℕ) → Few text start (record { records = 0; start = Unstated })
+pub begun : (text : List ℕ) → length text < 2 ^ 64 → Begun intel stands_in has_met ahead_of start text
 unfolding unread
-start_few text = omega (arith, (lines_few text).0, sayings_few 1 (lines text))
-
-pub start_ahead : (text : List ℕ) → ahead_of start text ≡ steps_of text
-unfolding unread
-start_ahead text = sym (steps_along text)
+begun text h = record { stands = start_under_way text h; met = omega (arith, (lines_few text).0, sayings_few 1 (lines text)); all = sym (steps_along text) }
 
 -- ---- an accepted record's step
 
@@ -98,7 +81,7 @@ module _ (text : List ℕ) (w : Walk) (pool : List ℕ) (r : Replied) (pool' : L
 
   -- ---- the first pass
 
-  pub countable_records : (tally : CodeTally) (x : Record) → Here x → Few text w tally → length text < 2 ^ 64 → tally.records + 1 < 2 ^ 64
+  pub countable_records : (tally : CodeTally) (x : Record) → Here x → has_met w text tally → length text < 2 ^ 64 → tally.records + 1 < 2 ^ 64
   countable_records tally x one few h = omega (arith, few, ap length one.first)
 
   -- what a record came to is what its step comes to, whatever steps follow
@@ -109,8 +92,8 @@ module _ (text : List ℕ) (w : Walk) (pool : List ℕ) (r : Replied) (pool' : L
       let m = meant x pool' in
       subst (Acts inside r.state.line (base_behind base m) (tallied tally) [] (does base m) later) e.comes_to (acts_are inside r.state.line (base_behind base m) (does base m) (tallied tally) [] later)
 
-  pub judged_on : (inside : ℕ → Bool) (tally : CodeTally) (x : Record) → Here x → Few text w tally → (b : CodeBase) (tally' : CodeTally)
-      → Met inside r.state.line w.base tally (meant x pool') (On b tally') → Onward inside text w tally (record { state = r.state; base = b }) tally'
+  pub judged_on : (inside : ℕ → Bool) (tally : CodeTally) (x : Record) → Here x → has_met w text tally → (b : CodeBase) (tally' : CodeTally)
+      → Met inside r.state.line w.base tally (meant x pool') (On b tally') → JudgedOn stands_in has_met ahead_of left_of inside text w tally (record { state = r.state; base = b }) tally'
   judged_on inside tally x one few b tally' e =
       let n = r.state.line in
       let base = based w.base in
@@ -118,8 +101,8 @@ module _ (text : List ℕ) (w : Walk) (pool : List ℕ) (r : Replied) (pool' : L
       let (goes, count) = passes inside n base (tallied tally) (record { state = based b; tally = tallied tally'; stated = stated_by base m }) m e.comes_to in
       let (b_is, same, put) = acts inside tally x (On b tally') (left (based b) (unread r.state text)) e in
       record {
-        under_way = record { options = one.options; countable = one.countable };
-        few = omega (arith, count, shorter x one);
+        stands = record { options = one.options; countable = one.countable };
+        met = omega (arith, count, shorter x one);
         same = sym same ∙ ap (decision inside (tallied tally)) (ap₂ (λ (y : Base) (l : List Numbered). does_on n base m ++ left y l) b_is (sym (unread_more x one goes)) ∙ sym (ahead_step x one));
         less = shorter x one;
       }
@@ -151,9 +134,9 @@ module _ (text : List ℕ) (w : Walk) (pool : List ℕ) (r : Replied) (pool' : L
 
   pub wrote : (site : ℕ → Option ℕ) (page₀ marks₀ page' marks' : List ℕ) (x : Record) (one : Here x) (b : CodeBase)
       → Painted site (stated_by (based w.base) (meant x pool')) page₀ marks₀ page' marks' → Behind w.base x b
-      → WrittenOn site text w page₀ marks₀ (record { state = r.state; base = b }) page' marks'
+      → WroteOn stands_in ahead_of left_of site text w page₀ marks₀ (record { state = r.state; base = b }) page' marks'
   wrote site page₀ marks₀ page' marks' x one b p h =
-      record { under_way = record { options = one.options; countable = one.countable }; less = shorter x one; same = same }
+      record { stands = record { options = one.options; countable = one.countable }; less = shorter x one; same = same }
     where
       ps : List Placement
       ps = stated_by (based w.base) (meant x pool')

@@ -12,15 +12,15 @@ use Rattle.steps.specs.Steps.{Placement, accepted, turn}
 use Rattle.steps.specs.Taken.{Standing, acted, at_line}
 use Rattle.steps.specs.Told.{tallied, told_loading}
 use Rattle.steps.specs.declared.LoaderError.TheVariants.{Line, BadWindow}
-use Rattle.steps.specs.declared.Loading.TheVariants.{Accepted, Refused}
 use Rattle.steps.specs.declared.Tally.{Tally as CodeTally}
 use Rattle.steps.proofs.Told.{told_apart}
-use Rattle.window.specs.Promises.{Painted, PutInside}
+use Rattle.window.specs.Promises.{Painted, PutInside, OneWindow}
 use Rattle.window.specs.Window.{within, window}
-use Rattle.window.specs.Table.{rows_in, site_of, inside_of}
+use Rattle.window.specs.declared.Row.{Row}
+use Rattle.window.specs.Table.{site_of, inside_of}
 use Rattle.window.specs.Taking.{closed}
 use Rattle.window.proofs.Loads.{painted_nothing}
-use Rattle.window.proofs.Alone.{alone, inside_is, alone_painted}
+use Rattle.window.proofs.Alone.{inside_is, alone_painted}
 use Rattle.window.proofs.Spread.{Runs}
 use Rattle.window.proofs.Whole.{whole_inside, whole_stored}
 use Rattle.window.proofs.Taking.{take_closed, take_open, take_once}
@@ -36,20 +36,21 @@ use Rattle.loader.specs.Taking.{TakeLine}
 use Rattle.loader.specs.Claims.{TakeLineUnique}
 use Rattle.loader.proofs.Meeting.{behind_data, met_inside, painted_data}
 use Rattle.loader.proofs.Runs.{runs}
+use Rattle.std.specs.Prelude.{Ok}
+use Rattle.steps.specs.Aliases.{refuse}
 
 -- ---- a record
 
 module _ (n : ℕ) (base : CodeBase) (tally : CodeTally) (x : Record) (pool : List ℕ) (first : ℕ) where
   -- judged and written through the window as a table of its own, upon a page and marks that were left as they were
-  pub took_by_table : (page marks page₁ marks₁ : List ℕ) → (page₁ ≡ page) × (marks₁ ≡ marks) → (t : Taken)
-      → Met (inside_of 1 (rows_in (alone first (length page₁)))) n base tally (meant x pool) t → (page' marks' : List ℕ)
-      → Painted (site_of 1 (rows_in (alone first (length page₁)))) (states (based base) (meant x pool) t) page₁ marks₁ page' marks'
+  pub took_by_table : (page marks page₁ marks₁ : List ℕ) → (page₁ ≡ page) × (marks₁ ≡ marks) → (rows : List Row) → OneWindow first (length page₁) rows → (t : Taken)
+      → Met (inside_of 1 rows) n base tally (meant x pool) t → (page' marks' : List ℕ)
+      → Painted (site_of 1 rows) (states (based base) (meant x pool) t) page₁ marks₁ page' marks'
       → TookRecord n base tally x pool first page marks t page' marks'
-  took_by_table page marks page₁ marks₁ (e, f) t m page' marks' p =
-      rw (← e, ← f) (record {
-        met = rw (inside_is first (length page₁)) at m;
-        paints = alone_painted first (length page₁) (states (based base) (meant x pool) t) page₁ marks₁ page' marks' p;
-      })
+  took_by_table page marks page₁ marks₁ (e, f) rows one t m page' marks' p =
+      let m₁ = rw (one.answer, inside_is first (length page₁)) at m in
+      let p₁ = rw one.answer at p in
+      rw (← e, ← f) (record { met = m₁; paints = alone_painted first (length page₁) (states (based base) (meant x pool) t) page₁ marks₁ page' marks' p₁ })
 
 -- ---- a data record stored at once
 
@@ -92,19 +93,19 @@ module _ (line : List ℕ) (n : ℕ) (base : CodeBase) (tally : CodeTally) (firs
   abbrev Takes : Taken → (page' marks' : List ℕ) → Type 0
   Takes r page' marks' = TakeLine line n base tally first page marks r page' marks'
 
-  pub none_taken : closed tally.records first (length page) (length marks) ≡ true → Takes (Stop (Refused BadWindow 0)) page marks
-  none_taken c = take_closed intel told_taken (Stop (Refused BadWindow 0)) n (based base) (tallied tally) line first page marks c
+  pub none_taken : closed tally.records first (length page) (length marks) ≡ true → Takes (Stop (refuse BadWindow 0)) page marks
+  none_taken c = take_closed intel told_taken (Stop (refuse BadWindow 0)) n (based base) (tallied tally) line first page marks c
 
   module _ (not_closed : closed tally.records first (length page) (length marks) ≡ false) where
     taken : (r : Taken) (ps : List Placement) (page' marks' : List ℕ)
         → at_line intel (within first (length page)) n (record { state = based base; tally = tallied tally; stated = [] }) line ≡ told_taken r ps
         → Painted (window first (length page)) ps page marks page' marks' → Takes r page' marks'
-    taken r ps page' marks' e p = take_open intel told_taken (Stop (Refused BadWindow 0)) n (based base) (tallied tally) line first page marks not_closed r ps page' marks' e p
+    taken r ps page' marks' e p = take_open intel told_taken (Stop (refuse BadWindow 0)) n (based base) (tallied tally) line first page marks not_closed r ps page' marks' e p
 
     -- a line that is refused
-    pub taken_refused : (e : ReaderError) → judge line ≡ wrong (refusal_of e) → Takes (Stop (Refused (Line e) n)) page marks
+    pub taken_refused : (e : ReaderError) → judge line ≡ wrong (refusal_of e) → Takes (Stop (refuse (Line e) n)) page marks
     unfolding at_line acted turn intel_by act base_after
-    taken_refused e j = taken (Stop (Refused (Line e) n)) [] page marks (rw j) (painted_nothing _ page marks)
+    taken_refused e j = taken (Stop (refuse (Line e) n)) [] page marks (rw j) (painted_nothing _ page marks)
 
     -- a record that was taken
     pub taken_read : (pool : List ℕ) (x : Record) → ReadAs line pool x → (r : Taken) (page' marks' : List ℕ)
@@ -121,7 +122,7 @@ based_once (Linear k) (Segment k') e = let z : ◌≡◌ {A = ℕ} 0 1 = cc in a
 based_once (Linear k) (Linear k') e = let h : 65536 * k ≡ 65536 * k' = cc in ap Linear (omega arith)
 
 pub tallied_once : (t t' : CodeTally) → tallied t ≡ tallied t' → t ≡ t'
-tallied_once t t' e = let h : Accepted t ≡ Accepted t' = told_apart (Accepted t) (Accepted t') (ap accepted e) in cc
+tallied_once t t' e = let h : Ok t ≡ Ok t' = told_apart (Ok t) (Ok t') (ap accepted e) in cc
 
 told_once : (r r' : Taken) (ps ps' : List Placement) → told_taken r ps ≡ told_taken r' ps' → (r ≡ r') × (ps ≡ ps')
 told_once (On b t) (On b' t') ps ps' e =

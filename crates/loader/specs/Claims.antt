@@ -13,7 +13,7 @@ use Rattle.reader.specs.Lines.{LF, through}
 use Rattle.reader.specs.Claims.{Offends}
 use Rattle.marks.specs.Marks.{mark_at}
 use Rattle.marks.specs.Claims.{Bytes}
-use Rattle.steps.specs.declared.Loading.{Loading}
+use Rattle.steps.specs.Aliases.{Loading}
 use Rattle.steps.specs.declared.Tally.{Tally as CodeTally}
 use Rattle.steps.specs.Steps.{Placement, cs_with_ip, Tally, Verdict, accepted, refused, by}
 use Rattle.steps.specs.Sites.{OwedAt}

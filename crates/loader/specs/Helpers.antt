@@ -1,29 +1,26 @@
 -- What the loader's private functions promise each other, and what its answers to a line tell.
 -- Assumes nothing.
-use Rattle.std.specs.Prelude.{◌≡◌, ℕ, ◌+◌, ◌<◌, Bool, true, false, List, [], ◌∷◌, length}
-use Rattle.std.proofs.Math.Option.{Option, some}
+use Rattle.std.specs.Prelude.{◌≡◌, ℕ, ◌+◌, ◌≤◌, Bool, true, false, List, [], ◌∷◌, length}
+use Rattle.std.proofs.Math.Option.{some}
 use Rattle.record.specs.Meaning.{Meaning}
 use Rattle.record.specs.Record.{meant}
 use Rattle.record.specs.declared.Record.{Record}
 use Rattle.reader.specs.Along.{unread}
-use Rattle.steps.specs.Steps.{Placement, Start, starts, Step, stated}
+use Rattle.steps.specs.Steps.{Placement, Start, starts, Step}
 use Rattle.steps.specs.Taken.{Went, on, stopped, acted}
 use Rattle.loader.specs.declared.Base.{Base as CodeBase}
 use Rattle.loader.specs.declared.Base.TheVariants.{Segment, Linear}
-use Rattle.steps.specs.declared.Start.{Start as CodeStart}
+use Rattle.steps.specs.Aliases.{Stated as CodeStart}
 use Rattle.steps.specs.declared.Tally.{Tally as CodeTally}
 use Rattle.loader.specs.declared.Taken.{Taken}
 use Rattle.loader.specs.declared.Taken.TheVariants.{On, Stop}
 use Rattle.loader.specs.declared.Walk.{Walk}
-use Rattle.loader.specs.declared.Further.{Further}
-use Rattle.loader.specs.declared.Further.TheVariants as further
 use Rattle.intel.specs.Placing.{Base, segment, linear, base_behind, does}
 unfoldable pub use Rattle.intel.specs.Placing.{stated_by}
 use Rattle.intel.specs.Records.{LiesIn, left, UnderWay}
 use Rattle.steps.specs.Told.{told_start, tallied, told_loading}
 use Rattle.window.specs.Window.{within, window}
 use Rattle.window.specs.Promises.{Painted}
-use Rattle.window.specs.Load.{SamePainting}
 
 -- ---- one record
 
@@ -57,21 +54,22 @@ Meets inside n base tally x t = (pool : List ℕ) → LiesIn x pool → Met insi
 pub record MeetsStart (n : ℕ) (base : CodeBase) (tally : CodeTally) (stated : CodeStart) (t : Taken) : Type 0 where
   pub comes_to : (inside : ℕ → Bool) (s : Start) → told_start stated ≡ some s → acted inside n (based base) (tallied tally) [] (starts s ∷ []) ≡ told_taken t []
 
--- ---- the second pass
+-- ---- a walk
 
--- the steps that a walk has still before it
+-- the steps that it has still before it
 abbrev pub ahead_of : Walk → (text : List ℕ) → List Step
 ahead_of w text = left (based w.base) (unread w.state text)
 
--- a line was written: the walk goes on, or nothing more is stated
-pub record WrittenOn (site : ℕ → Option ℕ) (text : List ℕ) (w : Walk) (page₀ marks₀ : List ℕ) (w' : Walk) (page' marks' : List ℕ) : Type 0 where
-  pub under_way : UnderWay text w'.state
-  pub less : length (unread w'.state text) < length (unread w.state text)
-  pub same : SamePainting site (ahead_of w text) page₀ marks₀ (ahead_of w' text) page' marks'
+-- how much is left to be said
+abbrev pub left_of : Walk → (text : List ℕ) → ℕ
+left_of w text = length (unread w.state text)
 
-abbrev pub Wrote : (site : ℕ → Option ℕ) (text : List ℕ) (w : Walk) (page₀ marks₀ : List ℕ) → Further → (page' marks' : List ℕ) → Type 0
-Wrote site text w page₀ marks₀ (further.On w') page' marks' = WrittenOn site text w page₀ marks₀ w' page' marks'
-Wrote site text w page₀ marks₀ further.End page' marks' = (stated (ahead_of w text) ≡ []) × (page' ≡ page₀) × (marks' ≡ marks₀)
+abbrev pub stands_in : Walk → (text : List ℕ) → Type 0
+stands_in w text = UnderWay text w.state
+
+-- so many data records were met, and there are still few enough to be counted
+abbrev pub has_met : Walk → (text : List ℕ) → CodeTally → Type 0
+has_met w text tally = tally.records + left_of w text ≤ length text
 
 -- ---- one line by itself
 

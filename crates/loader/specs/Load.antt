@@ -2,7 +2,7 @@
 -- Assumes nothing.
 use Rattle.std.specs.Prelude.{ℕ, List}
 use Rattle.std.proofs.Math.Option.{Option}
-use Rattle.steps.specs.declared.Loading.{Loading}
+use Rattle.steps.specs.Aliases.{Loading}
 use Rattle.steps.specs.Steps.{Decision}
 use Rattle.steps.specs.Sites.{Loaded}
 use Rattle.window.specs.Load.{stopping_by_window, load_window, LoadWindow}

@@ -6,7 +6,7 @@ use Rattle.digits.specs.Common.{Every}
 use Rattle.record.specs.Refusals.{Refusal, contains_invalid_characters, record_too_short, checksum_mismatch}
 use Rattle.record.specs.Noise.{Slip}
 use Rattle.reader.specs.Lines.{LF, CR}
-use Rattle.steps.specs.declared.Loading.{Loading}
+use Rattle.steps.specs.Aliases.{Loading}
 use Rattle.steps.specs.Steps.{Tally, Verdict, accepted, refused}
 use Rattle.steps.specs.Sites.{Loaded}
 use Rattle.loader.specs.Load.{load, Load}

@@ -1,30 +1,28 @@
 #![tactic(auto)]
 // A text loaded into a page with marks: the whole text is judged first, then it is written. One line can be taken by itself.
-ghost use Rattle.std.specs.Prelude.{◌≡◌, ◌+◌, ◌-◌, ◌^◌, ◌<◌, ◌≤◌, min, false, length};
+ghost use Rattle.std.specs.Prelude.{◌≡◌, ◌+◌, ◌-◌, ◌^◌, ◌<◌, ◌≤◌, min, false, length, Some};
 ghost use Rattle.record.specs.Record.{meant};
 ghost use Rattle.reader.specs.Text.{new_state, default_options};
 ghost use Rattle.steps.specs.Steps.{nothing_yet, decision, verdict};
 ghost use Rattle.steps.specs.Told.{told_loading};
 ghost use Rattle.window.specs.Window.{unfit};
-ghost use Rattle.window.specs.Table.{rows_in, site_of, inside_of, Sound};
+ghost use Rattle.window.specs.Table.{site_of, inside_of, Sound};
 ghost use Rattle.window.specs.Tables.{LoadTable};
 ghost use Rattle.window.specs.Promises.{Surveyed, Painted};
-ghost use Rattle.intel.specs.Placing.{intel, byte_address, placed, placements, steps_of};
+ghost use Rattle.intel.specs.Placing.{Base, intel, byte_address, placed, placements, steps_of};
 ghost use Rattle.loader.specs.Load.{Load};
 ghost use Rattle.loader.specs.Taking.{TakeLine};
-ghost use Rattle.loader.specs.Helpers.{based, stated_by, Behind, MeetsStart, Meets, Wrote, PutWhole, TookRecord};
+ghost use Rattle.loader.specs.Helpers.{based, stated_by, Behind, MeetsStart, Meets, PutWhole, TookRecord};
 ghost use Rattle.intel.specs.Records.{Short, LiesIn, UnderWay};
 
-use reader::{Answer, ReaderError, Reply, State};
+use reader::State;
 use record::{Record, payload_sizes};
 use steps::{LoaderError, Loading, Start, Tally};
-use window::{Reach, owners};
+use window::by_line::{self, LineByLine, Turn};
+use window::{Row, owners};
 
 // How many bytes a segment has.
 const SEGMENT: usize = 65536;
-
-// The most data records that a tally can count.
-const MOST_RECORDS: usize = 18446744073709551615;
 
 // The number of the latest type 02 or 04 record; before any, segment 0.
 #[derive(Clone, Copy)]
@@ -33,7 +31,7 @@ pub enum Base {
     Linear(u16),
 }
 
-// What a line comes to: the base and the tally after it, or the answer of the load.
+// What a line comes to: the base and the tally after it, or the answer of the load. It is no `Result`: an answer that stops the load may be an acceptance.
 #[derive(Clone, Copy)]
 pub enum Taken {
     On(Base, Tally),
@@ -42,16 +40,9 @@ pub enum Taken {
 
 // Where a pass stands in a text, and the base in force there.
 #[derive(Clone, Copy)]
-struct Walk {
+pub struct Walk {
     base: Base,
     state: State,
-}
-
-// What a line comes to in the second pass: the walk after it, or the end.
-#[derive(Clone, Copy)]
-enum Further {
-    On(Walk),
-    End,
 }
 
 // The address of byte i of a data record: in a segment the offset wraps at 65,536, under a linear base the sum wraps at 2^32.
@@ -62,7 +53,7 @@ fn byte_address(base: Base, offset: u16, i: usize) -> u32
     let reach = (offset as u32) + (i as u32);
     match base {
         Base::Segment(number) => 16 * (number as u32) + reach % 65536,
-        Base::Linear(number) => std::num::wrapping_add_u32(65536 * (number as u32), reach),
+        Base::Linear(number) => (65536 * (number as u32)).wrapping_add(reach),
     }
 }
 
@@ -73,14 +64,7 @@ fn base_behind(base: Base, given: Record) -> Base
     match given {
         Record::ExtendedSegmentAddress(number) => Base::Segment(number),
         Record::ExtendedLinearAddress(number) => Base::Linear(number),
-        Record::Data {
-            offset: _,
-            at: _,
-            len: _,
-        } => base,
-        Record::EndOfFile => base,
-        Record::StartSegmentAddress { cs: _, ip: _ } => base,
-        Record::StartLinearAddress(_) => base,
+        _ => base,
     }
 }
 
@@ -88,36 +72,22 @@ fn base_behind(base: Base, given: Record) -> Base
 fn first_run(offset: u16, len: usize) -> usize
     ensures { result ≡ min len (65536 - offset) }
 {
-    let room = SEGMENT - (offset as usize);
-    if len <= room {
-        return len;
-    }
-    room
+    len.min(SEGMENT - (offset as usize))
 }
 
 // Where the bytes of a data record lie.
-fn survey(base: Base, offset: u16, len: usize, owner: usize, rows: &[usize]) -> Reach
+fn survey(base: Base, offset: u16, len: usize, owner: usize, rows: &[Row]) -> Option<usize>
     requires { len ≤ 255 }
-    ensures { Surveyed (byte_address (based base) offset) len (inside_of owner (rows_in rows.now)) result }
+    ensures { Surveyed (byte_address (based base) offset) len (inside_of owner rows.now) result }
 {
     let run = first_run(offset, len);
-    if run == len {
-        return window::first_outside(owner, rows, byte_address(base, offset, 0), len as u32);
+    let low = window::first_outside(owner, rows, byte_address(base, offset, 0), run as u32);
+    if run == len || low.is_some() {
+        return low;
     }
-    match window::first_outside(owner, rows, byte_address(base, offset, 0), run as u32) {
-        Reach::Outside(i) => Reach::Outside(i),
-        Reach::Inside => {
-            match window::first_outside(
-                owner,
-                rows,
-                byte_address(base, offset, run),
-                (len - run) as u32,
-            ) {
-                Reach::Outside(i) => Reach::Outside(run + i),
-                Reach::Inside => Reach::Inside,
-            }
-        }
-    }
+    let rest = (len - run) as u32;
+    let i = window::first_outside(owner, rows, byte_address(base, offset, run), rest)?;
+    Some(run + i)
 }
 
 // Stores the bytes of a data record and marks their places, each at its own address.
@@ -126,12 +96,12 @@ fn put(
     offset: u16,
     bytes: &[u8],
     owner: usize,
-    rows: &[usize],
+    rows: &[Row],
     page: &mut [u8],
     marks: &mut [u8],
 )
-    requires { (length bytes.now ≤ 255) × Sound (length page.old) (rows_in rows.now) }
-    ensures { Painted (site_of owner (rows_in rows.now)) (placed (based base) offset 0 bytes.now) page.old marks.old page.new marks.new }
+    requires { (length bytes.now ≤ 255) × Sound (length page.old) rows.now }
+    ensures { Painted (site_of owner rows.now) (placed (based base) offset 0 bytes.now) page.old marks.old page.new marks.new }
 {
     let run = first_run(offset, bytes.len());
     window::put_run(
@@ -156,106 +126,47 @@ fn put(
 
 // What a start comes to, on the line with this number: it is kept if it is the first or the same again, and else it is refused.
 fn judge_start(number: usize, base: Base, tally: Tally, stated: Start) -> Taken
-    ensures { MeetsStart number base tally stated result }
+    ensures { MeetsStart number base tally (Some stated) result }
 {
-    let first = tally.start;
-    if stated.differs_from(first) {
-        return Taken::Stop(Loading::Refused(LoaderError::StartConflict, number));
+    let start = Some(stated);
+    if steps::differs_from(start, tally.start) {
+        return Taken::Stop(Err(LoaderError::StartConflict.at(number)));
     }
-    Taken::On(
-        base,
-        Tally {
-            records: tally.records,
-            start: stated,
-        },
-    )
+    Taken::On(base, Tally { start, ..tally })
 }
 
 // What a record comes to, on the line with this number, with the base and the tally before it. Nothing is written.
 fn judge_record(
     owner: usize,
-    rows: &[usize],
+    rows: &[Row],
     number: usize,
     base: Base,
     tally: Tally,
     given: Record,
 ) -> Taken
     requires { Short given × (tally.records + 1 < 2 ^ 64) }
-    ensures { Meets (inside_of owner (rows_in rows.now)) number base tally given result }
+    ensures { Meets (inside_of owner rows.now) number base tally given result }
 {
-    let start = tally.start;
-    let after = base_behind(base, given);
     match given {
         Record::Data { offset, at: _, len } => match survey(base, offset, len, owner, rows) {
-            Reach::Inside => Taken::On(
-                after,
-                Tally {
-                    records: tally.records + 1,
-                    start,
-                },
-            ),
-            Reach::Outside(i) => {
+            None => {
+                let records = tally.records + 1;
+                Taken::On(base, Tally { records, ..tally })
+            }
+            Some(i) => {
                 let address = byte_address(base, offset, i);
-                Taken::Stop(Loading::Refused(LoaderError::OutsideWindow(address), number))
+                Taken::Stop(Err(LoaderError::OutsideWindow(address).at(number)))
             }
         },
-        Record::EndOfFile => Taken::Stop(Loading::Accepted(tally)),
-        Record::ExtendedSegmentAddress(_) => Taken::On(after, tally),
-        Record::StartSegmentAddress { cs, ip } => judge_start(
-            number,
-            after,
-            tally,
-            Start::Segment { cs, ip },
-        ),
-        Record::ExtendedLinearAddress(_) => Taken::On(after, tally),
-        Record::StartLinearAddress(address) => judge_start(
-            number,
-            after,
-            tally,
-            Start::Linear(address),
-        ),
-    }
-}
-
-// At the beginning of a text.
-fn begin() -> Walk
-    ensures { result ≡ record { state = new_state default_options; base = Base.Segment 0 } }
-{
-    Walk {
-        state: State::new(),
-        base: Base::Segment(0),
-    }
-}
-
-// The first pass: the answer to a text for windows that are not refused. Nothing is written.
-fn judge_text(text: &[u8], owner: usize, rows: &[usize]) -> Loading
-    ensures { told_loading result ≡ verdict (decision (inside_of owner (rows_in rows.now)) nothing_yet (steps_of text.now)) }
-{
-    let mut pool = [0u8; payload_sizes::MOST_DATA];
-    let mut w = begin();
-    let mut tally = Tally {
-        records: 0,
-        start: Start::Unstated,
-    };
-    loop {
-        let state = w.state;
-        let base = w.base;
-        let step = state.next(text, &mut pool, 0);
-        let behind = step.state;
-        let reply = step.reply;
-        match reply {
-            Reply::Read(given) => match judge_record(owner, rows, behind.line, base, tally, given) {
-                Taken::On(after, t) => {
-                    w = Walk {
-                        state: behind,
-                        base: after,
-                    };
-                    tally = t;
-                }
-                Taken::Stop(answer) => return answer,
-            },
-            Reply::Refused(e) => return Loading::Refused(LoaderError::Line(e), behind.line),
-            Reply::Done => return Loading::Refused(LoaderError::MissingEndOfFileRecord, 0),
+        Record::EndOfFile => Taken::Stop(Ok(tally)),
+        Record::ExtendedSegmentAddress(_) | Record::ExtendedLinearAddress(_) => {
+            Taken::On(base_behind(base, given), tally)
+        }
+        Record::StartSegmentAddress { cs, ip } => {
+            judge_start(number, base, tally, Start::Segment { cs, ip })
+        }
+        Record::StartLinearAddress(address) => {
+            judge_start(number, base, tally, Start::Linear(address))
         }
     }
 }
@@ -264,72 +175,85 @@ fn judge_text(text: &[u8], owner: usize, rows: &[usize]) -> Loading
 fn write_record(
     pool: &[u8],
     owner: usize,
-    rows: &[usize],
+    rows: &[Row],
     base: Base,
     given: Record,
     page: &mut [u8],
     marks: &mut [u8],
 )
-    requires { LiesIn given pool.now × Sound (length page.old) (rows_in rows.now) }
-    ensures { Painted (site_of owner (rows_in rows.now)) (stated_by (based base) (meant given pool.now)) page.old marks.old page.new marks.new }
+    requires { LiesIn given pool.now × Sound (length page.old) rows.now }
+    ensures { Painted (site_of owner rows.now) (stated_by (based base) (meant given pool.now)) page.old marks.old page.new marks.new }
 {
-    match given {
-        Record::Data { offset, at, len } => {
-            let end = at + len;
-            put(base, offset, &pool[at..end], owner, rows, page, marks);
-        }
-        Record::EndOfFile => {}
-        Record::ExtendedSegmentAddress(_) => {}
-        Record::StartSegmentAddress { cs: _, ip: _ } => {}
-        Record::ExtendedLinearAddress(_) => {}
-        Record::StartLinearAddress(_) => {}
+    if let Record::Data { offset, at, len } = given {
+        put(base, offset, &pool[at..at + len], owner, rows, page, marks);
     }
 }
 
-// The next line in the second pass.
-fn write_next(
-    text: &[u8],
-    pool: &mut [u8],
-    owner: usize,
-    rows: &[usize],
-    w: Walk,
-    page: &mut [u8],
-    marks: &mut [u8],
-) -> Further
-    requires { UnderWay text.now w.state × (length pool.old ≡ 255) × Sound (length page.old) (rows_in rows.now) }
-    ensures { Wrote (site_of owner (rows_in rows.now)) text.now w page.old marks.old result page.new marks.new }
-{
-    let state = w.state;
-    let base = w.base;
-    let step = state.next(text, pool, 0);
-    let behind = step.state;
-    let reply = step.reply;
-    match reply {
-        Reply::Read(given) => {
-            write_record(pool, owner, rows, base, given, page, marks);
-            Further::On(Walk {
-                state: behind,
-                base: base_behind(base, given),
-            })
-        }
-        Reply::Refused(_) => Further::End,
-        Reply::Done => Further::End,
-    }
-}
+impl LineByLine for Walk {
+    ghost use Rattle.loader.specs.Helpers.{stands_in, has_met, ahead_of, left_of};
 
-// The second pass: all that a text states, onto page and marks.
-fn write_text(text: &[u8], owner: usize, rows: &[usize], page: &mut [u8], marks: &mut [u8])
-    requires { Sound (length page.old) (rows_in rows.now) }
-    ensures { Painted (site_of owner (rows_in rows.now)) (placements text.now) page.old marks.old page.new marks.new }
-{
-    let mut pool = [0u8; payload_sizes::MOST_DATA];
-    let mut w = begin();
-    loop {
-        match write_next(text, &mut pool, owner, rows, w, page, marks) {
-            Further::On(next) => {
-                w = next;
+    ghost Kept = { Base };
+
+    ghost source = { intel };
+
+    ghost stands_in = { stands_in };
+
+    ghost has_met = { has_met };
+
+    ghost ahead = { ahead_of };
+
+    ghost left = { left_of };
+
+    fn begin() -> Walk {
+        Walk {
+            state: State::new(),
+            base: Base::Segment(0),
+        }
+    }
+
+    fn judge_next(
+        self,
+        text: &[u8],
+        pool: &mut [u8],
+        owner: usize,
+        rows: &[Row],
+        tally: Tally,
+    ) -> Turn<Walk> {
+        let step = self.state.next(text, pool, 0);
+        let line = step.state.line;
+        match step.reply {
+            Some(Ok(given)) => match judge_record(owner, rows, line, self.base, tally, given) {
+                Taken::On(base, t) => {
+                    let state = step.state;
+                    Turn::On(Walk { base, state }, t)
+                }
+                Taken::Stop(answer) => Turn::Stop(answer),
+            },
+            Some(Err(e)) => Turn::Stop(Err(LoaderError::Line(e).at(line))),
+            None => Turn::Stop(Err(LoaderError::MissingEndOfFileRecord.at(0))),
+        }
+    }
+
+    fn write_next(
+        self,
+        text: &[u8],
+        pool: &mut [u8],
+        owner: usize,
+        rows: &[Row],
+        page: &mut [u8],
+        marks: &mut [u8],
+    ) -> Option<Walk> {
+        let step = self.state.next(text, pool, 0);
+        match step.reply {
+            Some(Ok(given)) => {
+                write_record(pool, owner, rows, self.base, given, page, marks);
+                Some(Walk {
+                    base: base_behind(self.base, given),
+                    state: step.state,
+                })
             }
-            Further::End => return,
+            Some(Err(_)) => None,
+            None => None,
         }
     }
 }
@@ -350,14 +274,8 @@ fn put_whole(
         if first_run(offset, len) < len {
             return false;
         }
-        let end = at + len;
-        return window::put_inside(
-            first,
-            byte_address(base, offset, 0),
-            &pool[at..end],
-            page,
-            marks,
-        );
+        let address = byte_address(base, offset, 0);
+        return window::put_inside(first, address, &pool[at..at + len], page, marks);
     }
     false
 }
@@ -376,24 +294,16 @@ fn take_record(
     requires { LiesIn given pool.now × (tally.records + 1 < 2 ^ 64) × (unfit first (length page.old) (length marks.old) ≡ false) }
     ensures { TookRecord number base tally given pool.now first page.old marks.old result page.new marks.new }
 {
-    let start = tally.start;
     if put_whole(pool, base, given, first, page, marks) {
-        return Taken::On(
-            base,
-            Tally {
-                records: tally.records + 1,
-                start,
-            },
-        );
+        let records = tally.records + 1;
+        return Taken::On(base, Tally { records, ..tally });
     }
-    let rows = [owners::FIRST, first as usize, page.len(), 0];
-    match judge_record(owners::FIRST, &rows, number, base, tally, given) {
-        Taken::On(next, t) => {
-            write_record(pool, owners::FIRST, &rows, base, given, page, marks);
-            Taken::On(next, t)
-        }
-        Taken::Stop(answer) => Taken::Stop(answer),
+    let rows = window::one_window(first, page.len());
+    let taken = judge_record(owners::FIRST, &rows, number, base, tally, given);
+    if let Taken::On(..) = taken {
+        write_record(pool, owners::FIRST, &rows, base, given, page, marks);
     }
+    taken
 }
 
 // Takes one line of a text into a page with marks: judged as the loader judges it, with the number that a refusal names, from the base and the tally that the lines before it left. If it lets the load go on, what it states is stored and marked. A window that is refused, and a tally that can count no more, are 16, with line 0.
@@ -408,13 +318,13 @@ pub fn take_line(
 ) -> Taken
     ensures { TakeLine line.now number base tally first page.old marks.old result page.new marks.new }
 {
-    if window::is_unfit(first, page.len(), marks.len()) || tally.records == MOST_RECORDS {
-        return Taken::Stop(Loading::Refused(LoaderError::BadWindow, 0));
+    if window::is_unfit(first, page.len(), marks.len()) || tally.records == usize::MAX {
+        return Taken::Stop(Err(LoaderError::BadWindow.at(0)));
     }
     let mut pool = [0u8; payload_sizes::MOST_DATA];
     match reader::read_record(line, &mut pool, 0) {
-        Answer::Read(given) => take_record(&pool, number, base, tally, given, first, page, marks),
-        Answer::Refused(e) => Taken::Stop(Loading::Refused(LoaderError::Line(e), number)),
+        Ok(given) => take_record(&pool, number, base, tally, given, first, page, marks),
+        Err(e) => Taken::Stop(Err(LoaderError::Line(e).at(number))),
     }
 }
 
@@ -422,35 +332,18 @@ pub fn take_line(
 pub fn load(text: &[u8], first: u32, page: &mut [u8], marks: &mut [u8]) -> Loading
     ensures { Load text.now first page.old marks.old result page.new marks.new }
 {
-    if window::is_unfit(first, page.len(), marks.len()) {
-        return Loading::Refused(LoaderError::BadWindow, 0);
-    }
-    let rows = [owners::FIRST, first as usize, page.len(), 0];
-    let answer = judge_text(text, owners::FIRST, &rows);
-    if answer.is_accepted() {
-        marks::clear(marks);
-        write_text(text, owners::FIRST, &rows, page, marks);
-    }
-    answer
+    by_line::load_through_window::<Walk>(text, first, page, marks)
 }
 
 // Loads a text for one owner through a window table into a shared pool. A mark for each of the owner's places says whether the text states it; every other byte and mark stays.
 pub fn load_table(
     text: &[u8],
     owner: usize,
-    rows: &[usize],
+    rows: &[Row],
     pool: &mut [u8],
     marks: &mut [u8],
 ) -> Loading
-    ensures { LoadTable intel owner (rows_in rows.now) text.now pool.old marks.old result pool.new marks.new }
+    ensures { LoadTable intel owner rows.now text.now pool.old marks.old result pool.new marks.new }
 {
-    if window::is_bad_table(owner, rows, pool.len(), marks.len()) {
-        return Loading::Refused(LoaderError::BadTable, 0);
-    }
-    let answer = judge_text(text, owner, rows);
-    if answer.is_accepted() {
-        window::clear_marks(owner, rows, marks);
-        write_text(text, owner, rows, pool, marks);
-    }
-    answer
+    by_line::load_through_table::<Walk>(text, owner, rows, pool, marks)
 }

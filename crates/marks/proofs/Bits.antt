@@ -7,7 +7,8 @@ use native.Mathlib.Omega.{arith}
 use native.Mathlib.Nat.{pow-suc, zero-div}
 use lib.Pow.{shr-shr}
 use lib.Arith.{bin_ind}
-use lib.Bits.{bit_or, or_step, or_lt, and_step, and_le_l}
+use Rattle.std.proofs.lemmas.Nat.{and-not, and_comm}
+use lib.Bits.{bit_and, bit_or, or_step, or_lt, and_step, and_le_l}
 use lib.Dec.{T, eqb, leb, eqb→eq, leb→le}
 use borrow.Author.Tests.{eq-eqb, ne_eqb}
 use Rattle.marks.specs.Marks.{bit, with_bits, number}
@@ -79,10 +80,6 @@ bit_with on a b zero = bit_first (with_bits on a b) ∙ odd on a b ∙ ap₂ (di
 bit_with on a b (suc i) =
     bit_after (with_bits on a b) i ∙ ap (λ (x : ℕ). bit x i) (half on a b) ∙ bit_with on (a / 2) (b / 2) i
     ∙ ap₂ (digit on) (sym (bit_after a i)) (sym (bit_after b i))
-
-bit_or_lem : (a b i : ℕ) → bit (bit_or a b) i ≡ max (bit a i) (bit b i)
-unfolding with_bits digit
-bit_or_lem = bit_with true
 
 or_half : (a b : ℕ) → bit_or a b / 2 ≡ bit_or (a / 2) (b / 2)
 unfolding with_bits
@@ -192,14 +189,7 @@ unfolding number
 number_small zero f s = omega arith
 number_small (suc n) f s = omega (arith, pow-suc 2 n, number_small n (λ i. f (suc i)) (λ i. s (suc i)), s 0)
 
--- a mask cleared as the program does it: set in the flipped byte, and that flipped back
-pub cleared_byte : (x m : ℕ) → x < 256 → m < 256 → 255 - bit_or (255 - x) m ≡ with_bits false x m
-unfolding digit
-cleared_byte x m h k =
-    sym (number_of_bits 8 (255 - bit_or (255 - x) m) (omega arith))
-    ∙ number_same 8 (bit (255 - bit_or (255 - x) m)) (bit (with_bits false x m)) each
-    ∙ number_of_bits 8 (with_bits false x m) (with_small false x m h k)
-  where
-    each : (i : ℕ) → i < 8 → bit (255 - bit_or (255 - x) m) i ≡ bit (with_bits false x m) i
-    each i l =
-        omega (arith, bit_flipped (bit_or (255 - x) m) i (or_lt 8 (255 - x) m (omega arith) k) l, bit_or_lem (255 - x) m i, bit_flipped x i h l, bit_with false x m i, bit_small x i, bit_small m i)
+-- a mask cleared as the program does it: the bits that the flipped mask leaves are the byte less those of the mask
+pub cleared_byte : (byte mask : ℕ) → byte < 256 → mask < 256 → bit_and byte (255 - mask) ≡ with_bits false byte mask
+unfolding with_bits
+cleared_byte byte mask h k = omega (arith, and-not 8 mask byte k h, and_comm byte (255 - mask), and_comm byte mask)

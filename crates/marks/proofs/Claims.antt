@@ -9,14 +9,14 @@ use mathlib.Core.List.{List}
 use native.Mathlib.Omega.{arith}
 use lib.ListN.{length, get_or, set, get_or-eq_default}
 use lib.Seq.{get_or-set_same, get_or-set_other, set_out}
-use Rattle.marks.specs.declared.Unused.{Unused}
-use Rattle.marks.specs.declared.Unused.TheVariants.{Clear, At}
+use Rattle.marks.specs.Aliases.{Unused}
 use Rattle.marks.specs.Marks.{row_length, byte_of, mark_at, Marked, with_bits, with_mark, changed_run, cleared_run, number, flags, packed, bits, UnusedClear, told_unused, first_unused, first_marked, Next}
 use Rattle.marks.specs.Claims.{Bytes, Flag, AllFlags, RowOf, ClearRunUnique, ClearUnique, Examples, FirstUnusedUnique, FlagsMadeSo, FlagsOnlySo, IsMarkedUnique, MarkIsFlag, MarkRunUnique, NextMarkedUnique, NextUnmarkedUnique, PackedUnpacked, RowHoldsPlaces, RowLengthUnique, RowMadeSo, RowOnlySo, RunClearedOnlySo, RunClearedSo, RunInTwo, RunMadeSo, RunOnlySo, RunOutside, UnpackedPacked}
 use Rattle.marks.proofs.Below.{split, same_or, equal}
 use Rattle.marks.proofs.Bits.{flag, with_small, power_small, number_small}
 use Rattle.marks.proofs.Rows
 use Rattle.marks.proofs.Runs
+use Rattle.std.specs.Prelude.{None, Some}
 
 -- ---- a row and its places
 
@@ -218,13 +218,13 @@ is_marked_unique marks place false false x y = refl
 
 -- an answer, from what it tells
 answer_of : Option ℕ → Unused
-answer_of none = Clear
-answer_of (some p) = At p
+answer_of none = None
+answer_of (some p) = Some p
 
 answered : (r : Unused) → answer_of (told_unused r) ≡ r
 unfolding answer_of
-answered Clear = refl
-answered (At p) = refl
+answered None = refl
+answered (Some p) = refl
 
 pub first_unused_unique : FirstUnusedUnique
 first_unused_unique marks places r r' x y = sym (answered r) ∙ ap answer_of (x.answer ∙ sym y.answer) ∙ answered r'

@@ -4,12 +4,13 @@ use Prim.Native.Nat.{ℕ, zero, suc, min, ◌+◌, ◌-◌, ◌*◌, ◌/◌, �
 use mathlib.Core.Path.{◌≡◌, refl, sym, ap, ◌∙◌, subst}
 use mathlib.Core.Logic.{◌⊎◌, inl, inr, ⊎_elim}
 use mathlib.Core.List.{List}
+use mathlib.Core.Bool.{Bool, true, false}
 use native.Mathlib.Omega.{arith}
 use native.Mathlib.Nat.{pow-suc}
 use lib.Pow.{shr-shr, shr_lt}
 use lib.Count.{count_trailing_zeros, under}
 use lib.ListN.{length, get_or}
-use Rattle.marks.specs.Marks.{bit, byte_of, mark_at, row_length, Lowest, LowestPlace, Next, NextMarked, NextUnmarked}
+use Rattle.marks.specs.Marks.{bit, byte_of, mark_at, row_length, sought, Marked, Unmarked, Lowest, LowestPlace, Next, NextOf, NextMarked, NextUnmarked}
 use Rattle.marks.specs.Claims.{IsFirstUnused}
 use Rattle.marks.proofs.Below.{split}
 use Rattle.marks.proofs.Bits.{bit_none, bit_after, bit_flipped}
@@ -46,9 +47,23 @@ seen_unmarked marks places from r x =
       there = ⊎_elim (λ e. inl (omega arith)) (λ e. inr (λ m. omega arith)) x.there;
     }
 
+-- a 1 at each place that is sought: that is marked, or else that is not
+unfoldable pub sought_at : (marked : Bool) (marks : List ℕ) (place : ℕ) → ℕ
+sought_at true = mark_at
+sought_at false = gap_at
+
+pub seen_next : (marked : Bool) (marks : List ℕ) (places from r : ℕ) → Seen (sought_at marked marks) places from r → NextOf marked marks places from r
+unfolding sought_at
+seen_next true = seen_marked
+seen_next false = seen_unmarked
+
 -- where there are no places from a place on, none is passed
 pub none_to_pass : (P Q : ℕ → Type 0) (places from : ℕ) → places ≤ from → Next P Q places from from
 none_to_pass P Q places from h = record { low = omega arith; high = omega arith; passed = λ p l u. absurd (omega arith); there = inl h }
+
+pub none_next : (marked : Bool) (marks : List ℕ) (places from : ℕ) → places ≤ from → NextOf marked marks places from from
+none_next true marks = none_to_pass (Unmarked marks) (Marked marks)
+none_next false marks = none_to_pass (Marked marks) (Unmarked marks)
 
 -- ---- the lowest set bit
 
@@ -121,6 +136,18 @@ module _ (marks : List ℕ) (i : ℕ) where
       ap (λ (m : ℕ). 1 - m) (in_its_byte p l h) ∙ sym (bit_flipped (byte_of marks i) (p % 8) b (omega arith))
       ∙ ap (bit (255 - byte_of marks i)) (bits_on p l h) ∙ from_bit (255 - byte_of marks i) (i % 8) (p - i) ∙ ap (λ (y : ℕ). bit y (p - i)) (sym e)
 
+sought_says : (marked : Bool) (marks : List ℕ) (place x : ℕ) → byte_of marks place < 256 → x ≡ sought marked (byte_of marks place) / 2 ^ (place % 8)
+    → Says (sought_at marked marks) place x
+unfolding sought sought_at
+sought_says true marks place x b e = byte_says marks place x e
+sought_says false marks place x b e = gaps_say marks place x b e
+
+-- a byte from a place on says what is sought of each place from there on
+pub part_says : (marked : Bool) (marks : List ℕ) (place byte x : ℕ) → byte < 256 → byte ≡ byte_of marks place → x ≡ sought marked byte
+    → Says (sought_at marked marks) place (x / 2 ^ (place % 8))
+part_says marked marks place byte x b e s =
+    sought_says marked marks place (x / 2 ^ (place % 8)) (omega arith) (ap (λ (y : ℕ). y / 2 ^ (place % 8)) (s ∙ ap (sought marked) e))
+
 -- they are as many as the byte has from there on
 pub bits_small : (y i x : ℕ) → x ≡ y / 2 ^ (i % 8) → y < 256 → x < 2 ^ (8 - i % 8)
 bits_small y i x e b = subst (λ (z : ℕ). z < 2 ^ (8 - i % 8)) (sym e) (shr_lt (8 - i % 8) (i % 8) (subst (λ (k : ℕ). y < 2 ^ k) (eight i) b))
@@ -144,6 +171,12 @@ its_first marks q = ap (λ (a : ℕ). get_or marks a 0) (first_byte q)
   where
     first_byte : (q : ℕ) → q ≡ 8 * q / 8
     first_byte q = omega arith
+
+-- a whole byte says what is sought of each place that it holds
+pub whole_says : (marked : Bool) (marks : List ℕ) (q x : ℕ) → get_or marks q 0 < 256 → x ≡ sought marked (get_or marks q 0) → Says (sought_at marked marks) (8 * q) x
+whole_says marked marks q x b e =
+    sought_says marked marks (8 * q) x (omega (arith, its_first marks q))
+    (whole_byte x q ∙ ap (λ (y : ℕ). y / 2 ^ (8 * q % 8)) (e ∙ ap (sought marked) (its_first marks q)))
 
 module _ (at : ℕ → ℕ) where
   -- none is set: there is none up to the byte's end
@@ -180,10 +213,22 @@ pub gap_outside : (marks : List ℕ) (p : ℕ) → 8 * length marks ≤ p → ga
 unfolding gap_at
 gap_outside marks p h = ap (λ (m : ℕ). 1 - m) (outside marks p h)
 
+-- outside the row each place is sought, where those without a mark are
+pub sought_outside : (marked : Bool) (marks : List ℕ) (p : ℕ) → marked ≡ false → 8 * length marks ≤ p → sought_at marked marks p ≡ 1
+unfolding sought_at
+sought_outside marked marks p e h = ap (λ (on : Bool). sought_at on marks p) e ∙ gap_outside marks p h
+
 -- after the last byte looked at there is no mark
 pub none_after : (marks : List ℕ) (places at : ℕ) → min (row_length places) (length marks) ≤ at → (j : ℕ) → 8 * at ≤ j → j < places → mark_at marks j ≡ 0
 unfolding row_length
 none_after marks places at e j l h = outside marks j (omega arith)
+
+-- after it no place is sought, unless those without a mark are and the row ends early
+pub rest_passed : (marked : Bool) (marks : List ℕ) (places bytes end at : ℕ) → bytes ≡ row_length places → end ≡ min bytes (length marks) → end ≤ at
+    → ((marked ≡ false) × (bytes ≤ end)) ⊎ (marked ≡ true) → (j : ℕ) → 8 * at ≤ j → j < places → sought_at marked marks j ≡ 0
+unfolding sought_at row_length
+rest_passed marked marks places bytes end at b e h (inl x) j l k = absurd (omega (arith, x.1))
+rest_passed marked marks places bytes end at b e h (inr x) j l k = ap (λ (on : Bool). sought_at on marks j) x ∙ none_after marks places at (omega arith) j l k
 
 module _ (P : ℕ → Type 0) where
   -- what holds from one place up to another, and from there up to a third

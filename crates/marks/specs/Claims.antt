@@ -2,7 +2,7 @@
 -- Assumes nothing.
 use Rattle.std.specs.Prelude.{ℕ, ◌+◌, ◌*◌, ◌≤◌, ◌<◌, ◌≡◌, Bool, ◌⊎◌, List, [], ◌∷◌, length, get_or}
 use Rattle.std.proofs.Math.Option.{none, some}
-use Rattle.marks.specs.declared.Unused.{Unused}
+use Rattle.marks.specs.Aliases.{Unused}
 use Rattle.marks.specs.Marks.{row_length, RowLength, IsMarked, FirstUnused, Clears, MarkRun, ClearRun, mark_at, Marked, flags, packed, first_unused, UnusedClear, marked_run, cleared_run, NextMarked, NextUnmarked}
 
 -- ---- a row and its places

@@ -3,8 +3,8 @@
 use Rattle.std.specs.Prelude.{ℕ, zero, suc, ◌+◌, ◌-◌, ◌*◌, ◌/◌, ◌%◌, ◌^◌, ◌≤◌, ◌<◌, max, ◌≡◌, ◌≢◌, ◌⊎◌, ◌↔◌, Bool, true, false, cond, List, [], ◌∷◌, eqb, get_or, set, length, replicate}
 use Rattle.std.proofs.Math.Option.{Option, none, some}
 use Rattle.std.specs.Int.Bits.{bit_and, bit_or}
-use Rattle.marks.specs.declared.Unused.{Unused}
-use Rattle.marks.specs.declared.Unused.TheVariants.{Clear, At}
+use Rattle.marks.specs.Aliases.{Unused}
+use Rattle.std.specs.Prelude.{None, Some}
 
 -- ---- what a row says
 
@@ -111,8 +111,8 @@ pub record IsMarked (marks : List ℕ) (place : ℕ) (r : Bool) : Type 0 where
 
 -- of `first_unused`
 abbrev pub told_unused : Unused → Option ℕ
-told_unused Clear = none
-told_unused (At p) = some p
+told_unused None = none
+told_unused (Some p) = some p
 
 pub record FirstUnused (marks : List ℕ) (places : ℕ) (r : Unused) : Type 0 where
   pub answer : told_unused r ≡ first_unused places marks
@@ -167,3 +167,13 @@ pub record LowestPlace (places place number r : ℕ) : Type 0 where
   pub near : (n : ℕ) → number < 2 ^ n → r < place + n
   pub clear : (i : ℕ) → place + i < r → bit number i ≡ 0
   pub there : (r ≡ places) ⊎ (bit number (r - place) ≡ 1)
+
+-- a byte with a 1 for each place that is sought: that is marked, or else that is not
+unfoldable pub sought : (marked : Bool) (byte : ℕ) → ℕ
+sought true byte = byte
+sought false byte = 255 - byte
+
+-- of `next`: the next marked place, or else the next without a mark
+abbrev pub NextOf : (marked : Bool) (marks : List ℕ) (places from r : ℕ) → Type 0
+NextOf true = NextMarked
+NextOf false = NextUnmarked

@@ -15,7 +15,7 @@ use Rattle.marks.specs.Marks.{flags, first_unused}
 use Rattle.std.specs.Prelude.{if◌then◌else◌}
 use Rattle.record.specs.Refusals.{output_full, bad_window, bad_mark}
 use Rattle.record.specs.declared.Record.{Record}
-use Rattle.writer.specs.declared.Written.{Written}
+use Rattle.writer.specs.Aliases.{Written}
 use Rattle.writer.specs.declared.Survey.{Survey}
 use Rattle.writer.specs.Told.{wrote, refuses, told_written}
 use Rattle.writer.specs.Text.{Text, chars, refused, place_behind, if_room, Writes}
@@ -26,11 +26,9 @@ use Rattle.writer.specs.Claims.{Steps}
 use Rattle.writer.proofs.Surveying.{survey_answers}
 use Rattle.writer.proofs.Stepping.{object_written}
 use Rattle.window.specs.Window.{unfit}
-use Rattle.page.specs.declared.PageError.{PageError}
-use Rattle.page.specs.declared.Paged.{Paged}
-use Rattle.page.specs.declared.Paged.TheVariants.{Refused}
+use Rattle.page.specs.Aliases.{Paged}
 use Rattle.page.specs.File.{page_records, file, page_text}
-use Rattle.page.specs.Told.{page_refusal, PageFileLength, WritePage}
+use Rattle.page.specs.Told.{PageFileLength, WritePage}
 use Rattle.page.specs.Helpers.{PageSurveyWhole, MayBeFull, AsWritten}
 use Rattle.page.proofs.Files.{file_is_object}
 use Rattle.page.proofs.Room.{room_enough}
@@ -105,15 +103,9 @@ never_refused a n e r h = cc
 -- ---- the contracts
 
 module _ (first : ℕ) (page marks : List ℕ) where
-  pub length_refused : (e : PageError) → page_text first page marks ≡ refused (page_refusal e) → PageFileLength first page marks (Refused e)
-  length_refused e h = record { answer = rw h }
-
   pub length_told : (a : Written) (r : Paged) → page_text first page marks ≡ chars (file first page marks) → told_written a ≡ wrote (length (file first page marks)) → AsWritten a r
       → PageFileLength first page marks r
   length_told a r t h k = record { answer = k ∙ h ∙ rw (t, zero-add (length (file first page marks))) }
-
-  pub page_refused : (out : List ℕ) (e : PageError) → page_text first page marks ≡ refused (page_refusal e) → WritePage first page marks out (Refused e) out
-  page_refused out e h = record { answer = rw h; left = rw h }
 
   pub page_told : (out : List ℕ) (a : Written) (r : Paged) (out' : List ℕ) → Writes (page_text first page marks) out 0 a out' → AsWritten a r → WritePage first page marks out r out'
   page_told out a r out' w k = record { answer = k ∙ w.answer; left = w.left }

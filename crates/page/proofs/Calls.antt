@@ -25,7 +25,6 @@ use Rattle.window.specs.Window.{unfit}
 use Rattle.steps.specs.Sites.{Loaded}
 use Rattle.loader.specs.Load.{load}
 use Rattle.steps.specs.Told.{told_loading}
-use Rattle.page.specs.declared.Paged.TheVariants.{Wrote}
 use Rattle.page.specs.Pieces.{Piece, pieces}
 use Rattle.page.specs.File.{page_records, file, unless_unused, page_text}
 use Rattle.page.specs.Told.{WritePage}
@@ -35,6 +34,7 @@ use Rattle.page.proofs.Files.{every_record, equal_files}
 use Rattle.page.proofs.Loading.{loads_back}
 use Rattle.page.proofs.Room.{ended_length, room_enough}
 use Rattle.page.proofs.Claims.{text_cases, reasons, rest_untouched, told_apart, write_page_unique}
+use Rattle.std.specs.Prelude.{Ok}
 
 -- what is written is a page that neither 16 nor 19 refuses
 written_page : (first : ℕ) (page marks : List ℕ) (space n : ℕ) → Why first page marks space (wrote n) → Page first page marks
@@ -49,14 +49,14 @@ restores_so page marks old-page page' marks' l answer p m r =
 
 -- what was written is loaded as the file is
 pub loaded_back : (first : ℕ) (page marks out : List ℕ) (n : ℕ) (out' old-page old-marks : List ℕ)
-    → Every Byte page → Bytes marks → length old-page ≡ length page → length old-marks ≡ length marks → WritePage first page marks out (Wrote n) out'
+    → Every Byte page → Bytes marks → length old-page ≡ length page → length old-marks ≡ length marks → WritePage first page marks out (Ok n) out'
     → let l = load (take n out') first old-page old-marks in
     (l.answer ≡ accepted (record { records = length (pieces first 0 none (flags (length page) marks)); start = none })) × Restores page marks old-page l
 loaded_back first page marks out n out' old-page old-marks b bm lp lm w =
     subst (λ (text : List ℕ). let l = load text first old-page old-marks in
     (l.answer ≡ accepted (record { records = length (pieces first 0 none (flags (length page) marks)); start = none })) × Restores page marks old-page l)
     (sym (rest_untouched first page marks out n out' w).0)
-    (loads_back first page marks old-page old-marks (written_page first page marks (length out) n (reasons first page marks out (Wrote n) out' w)) b bm lp lm)
+    (loads_back first page marks old-page old-marks (written_page first page marks (length out) n (reasons first page marks out (Ok n) out' w)) b bm lp lm)
 
 pub written_loads_back : WrittenLoadsBack
 written_loads_back first page marks out n out' old-page old-marks r page' marks' b bm lp lm w l =

@@ -18,7 +18,6 @@ use Rattle.std.specs.Prelude.{if◌then◌else◌}
 use Rattle.record.specs.Refusals.{Refusal, refusal, output_full, bad_window, bad_mark}
 use Rattle.record.specs.Written.{written}
 use Rattle.digits.proofs.Tests.{branch}
-use Rattle.writer.specs.declared.Written.TheVariants.{Wrote as WriterWrote}
 use Rattle.writer.specs.Told.{ToldWritten, wrote, refuses}
 use Rattle.writer.specs.Text.{Text, chars, refused, place_behind, if_room, put_at, Writes}
 use Rattle.writer.proofs.Answers as writer
@@ -27,11 +26,11 @@ use Rattle.window.specs.Claims.{Window}
 use Rattle.window.proofs.Tests.{good_window, no_window as is-no-window}
 use Rattle.page.specs.declared.PageError.{PageError}
 use Rattle.page.specs.declared.PageError.TheVariants.{BadWindow, BadMark, OutputFull}
-use Rattle.page.specs.declared.Paged.{Paged}
-use Rattle.page.specs.declared.Paged.TheVariants.{Wrote, Refused}
+use Rattle.page.specs.Aliases.{Paged}
 use Rattle.page.specs.File.{file, unless_unused, page_text}
 use Rattle.page.specs.Told.{page_refusal, told_page}
 use Rattle.page.specs.Claims.{Page, Why, no_window, ill_marked, no_room, all_written, Reasons, OneReason, NoBadMark, LengthAsWritten, RefusalChangesNothing, RestUntouched, ToldApart, PageFileLengthUnique, WritePageUnique, Examples}
+use Rattle.std.specs.Prelude.{Err, Ok}
 
 -- ---- reasons
 
@@ -113,7 +112,7 @@ refusal_changes_nothing first page marks out e out' w = go (page_text first page
 -- what is written is the file
 pub rest_untouched : RestUntouched
 rest_untouched first page marks out n out' w =
-    let v : Writes (page_text first page marks) out 0 (WriterWrote n) out' = record { answer = w.answer; left = w.left } in
+    let v : Writes (page_text first page marks) out 0 (Ok n) out' = record { answer = w.answer; left = w.left } in
     let s = (writer.stands_there (page_text first page marks) out n out' v).0 in (
       text_cases first page marks (λ t. t ≡ chars (take n out') → take n out' ≡ file first page marks)
           (λ n e. cc) (λ place w f e. cc) (λ g e. cc) s,
@@ -133,13 +132,13 @@ error_again (BadMark place) = refl
 error_again OutputFull = refl
 
 untold : ToldWritten → Paged
-untold (wrote n) = Wrote n
-untold (refuses r) = Refused (error r)
+untold (wrote n) = Ok n
+untold (refuses r) = Err (error r)
 
 untold_told : (r : Paged) → untold (told_page r) ≡ r
 unfolding untold
-untold_told (Wrote n) = refl
-untold_told (Refused e) = ap Refused (error_again e)
+untold_told (Ok n) = refl
+untold_told (Err e) = ap Err (error_again e)
 
 pub told_apart : ToldApart
 told_apart a b e = sym (untold_told a) ∙ ap untold e ∙ untold_told b
@@ -148,12 +147,12 @@ pub length_as_written : LengthAsWritten
 length_as_written first page marks out r r' out' l w = go (page_text first page marks) l.answer w.answer
   where
     by_room : (n : ℕ) (b : Bool) → leb n (length out) ≡ b → told_page r ≡ wrote n → told_page r' ≡ (if b then wrote n else refuses output_full)
-        → (r ≡ r') ⊎ ((r' ≡ Refused OutputFull) × ((n : ℕ) × (r ≡ Wrote n) × (length out < n)))
+        → (r ≡ r') ⊎ ((r' ≡ Err OutputFull) × ((n : ℕ) × (r ≡ Ok n) × (length out < n)))
     by_room n true e x y = inl (told_apart r r' (x ∙ sym y))
-    by_room n false e x y = inr (told_apart r' (Refused OutputFull) y, (n, told_apart r (Wrote n) x, leb-false n (length out) e))
+    by_room n false e x y = inr (told_apart r' (Err OutputFull) y, (n, told_apart r (Ok n) x, leb-false n (length out) e))
 
     go : (t : Text) → told_page r ≡ place_behind t 0 → told_page r' ≡ if_room (place_behind t 0) (length out)
-        → (r ≡ r') ⊎ ((r' ≡ Refused OutputFull) × ((n : ℕ) × (r ≡ Wrote n) × (length out < n)))
+        → (r ≡ r') ⊎ ((r' ≡ Err OutputFull) × ((n : ℕ) × (r ≡ Ok n) × (length out < n)))
     go (chars cs) x y = by_room (0 + length cs) (leb (0 + length cs) (length out)) refl x y
     go (refused e) x y = inl (told_apart r r' (x ∙ sym y))
 

@@ -4,7 +4,6 @@ pub mod Records
 pub mod Room
 pub mod Marks
 pub mod Walking
-pub mod Loops
 pub mod Spoken
 pub mod Held
 pub mod Files

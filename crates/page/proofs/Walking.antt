@@ -7,17 +7,19 @@ use native.Mathlib.Omega.{arith}
 use mathlib.Core.Bool.{Bool, true, false, not}
 use mathlib.Core.Option.{none, some}
 use mathlib.Core.List.{List, [], ◌∷◌, ◌++◌}
-use lib.Dec.{eqb, ltb}
+use lib.Dec.{eqb}
 use lib.ListN.{length, get_or, drop, drop_of_length-le}
 use lib.Seq.{drop-cons}
-use borrow.Author.Tests.{eq-eqb, ne_eqb, lt-ltb}
+use borrow.Author.Tests.{eq-eqb, ne_eqb, eqb-true}
+use Rattle.std.specs.Option.{option_eq}
 use Rattle.std.specs.Prelude.{if◌then◌else◌}
 use Rattle.record.specs.declared.Record.TheVariants.{Data, EndOfFile, ExtendedLinearAddress}
-use Rattle.digits.proofs.Tests.{if_true, if_false, split, both_ways, or_true}
-use Rattle.page.specs.declared.FileWalk.{FileWalk}
+use Rattle.digits.proofs.Tests.{if_true, if_false, split, or_true}
 use Rattle.page.specs.Pieces.{Piece, ends_before, one_longer, starting, pieces}
 use Rattle.page.specs.File.{upper, data_of, extension, records}
-use Rattle.page.specs.Helpers.{PieceEnd, latest_upper, to_come, UnderWay, Stepped}
+use Rattle.page.specs.Helpers.{PieceEnd}
+use Rattle.page.specs.Walk.{in_force, from_place}
+use Rattle.std.specs.Prelude.{Option as CodeOption, None, Some}
 use Rattle.page.proofs.Marks.{NextFlag}
 use Rattle.page.proofs.Records.{by_latest}
 
@@ -159,15 +161,25 @@ marked_there {marks} {from} {r} n h = (omega (arith, n.high), go n.there)
 
 -- ---- the records to come
 
-upper_small : (u : ℕ) → u < 65536 → latest_upper u ≡ some u
-unfolding latest_upper
-upper_small u h = rw (lt-ltb u 65536 h)
+other_bits : (latest : CodeOption ℕ) (u : ℕ) → latest ≢ Some u → in_force latest ≢ some u
+other_bits None u n e = let z : ◌≡◌ {A = ℕ} 0 1 = cc in omega arith
+other_bits (Some v) u n e = n (cc)
 
--- the upper bits of a walk that has others, or none yet
-not_latest : (latest u : ℕ) → u ≢ latest → latest_upper latest ≢ some u
-unfolding latest_upper
-not_latest latest u h =
-    both_ways (λ b. (if b then some latest else none) ≢ some u) (ltb latest 65536) (λ e. h (cc)) (λ e. let z : ◌≡◌ {A = ℕ} 0 1 = cc in omega arith)
+-- what the test for a change says
+pub changed : (latest : CodeOption ℕ) (u : ℕ) → true ≡ not (option_eq eqb latest (Some u)) → latest ≢ Some u
+changed None u e q = let z : ◌≡◌ {A = ℕ} 0 1 = cc in omega arith
+changed (Some v) u e q =
+    let k : eqb v u ≡ true = eq-eqb v u (cc) in
+    let d = rw k at e in
+    let z : ◌≡◌ {A = ℕ} 0 1 = cc in omega arith
+
+pub unchanged : (latest : CodeOption ℕ) (u : ℕ) → false ≡ not (option_eq eqb latest (Some u)) → latest ≡ Some u
+unchanged None u e = let z : ◌≡◌ {A = ℕ} 0 1 = cc in absurd (omega arith)
+unchanged (Some v) u e = ap Some (eqb-true v u (go (eqb v u) refl e))
+  where
+    go : (b : Bool) → eqb v u ≡ b → false ≡ not b → eqb v u ≡ true
+    go true q d = q
+    go false q d = let z : ◌≡◌ {A = ℕ} 0 1 = cc in absurd (omega arith)
 
 -- behind its own upper bits a piece needs no type 04 record, and else it has one
 same_upper : (first u : ℕ) (p : Piece) (ps : List Piece) → upper first p ≡ u → records first (some u) (p ∷ ps) ≡ data_of first p ∷ records first (some u) ps
@@ -175,50 +187,38 @@ unfolding records
 same_upper first u p ps h =
     rw h (by_latest (λ l. l ++ (data_of first p ∷ records first (some u) ps) ≡ data_of first p ∷ records first (some u) ps) (some u) u (λ e. refl) (λ n. absurd (n refl)))
 
-new_upper : (first latest u : ℕ) (p : Piece) (ps : List Piece) → upper first p ≡ u → u ≢ latest
-    → records first (latest_upper latest) (p ∷ ps) ≡ ExtendedLinearAddress u ∷ records first (some u) (p ∷ ps)
+new_upper : (first : ℕ) (latest : CodeOption ℕ) (u : ℕ) (p : Piece) (ps : List Piece) → upper first p ≡ u → latest ≢ Some u
+    → records first (in_force latest) (p ∷ ps) ≡ ExtendedLinearAddress u ∷ records first (some u) (p ∷ ps)
 unfolding records
 new_upper first latest u p ps h n =
     rw h
-    (by_latest (λ l. l ++ (data_of first p ∷ records first (some u) ps) ≡ ExtendedLinearAddress u ∷ extension (some u) u ++ (data_of first p ∷ records first (some u) ps)) (latest_upper latest) u
-    (λ e. absurd (not_latest latest u n e))
+    (by_latest (λ l. l ++ (data_of first p ∷ records first (some u) ps) ≡ ExtendedLinearAddress u ∷ extension (some u) u ++ (data_of first p ∷ records first (some u) ps)) (in_force latest) u
+    (λ e. absurd (other_bits latest u n e))
     (λ _. by_latest (λ l. ExtendedLinearAddress u ∷ data_of first p ∷ records first (some u) ps ≡ ExtendedLinearAddress u ∷ l ++ (data_of first p ∷ records first (some u) ps)) (some u) u
     (λ e. refl) (λ k. absurd (k refl))))
 
-module _ (first : ℕ) (marks : List ℕ) (w : FileWalk) (start : ℕ) (under : UnderWay first marks w) (next : NextFlag marks w.place start) where
+module _ (first : ℕ) (marks : List ℕ) (place start : ℕ) (latest : CodeOption ℕ) (next : NextFlag marks place start) where
   -- what is to come, from the next marked place on
-  from_there : to_come first marks w ≡ records first (latest_upper w.latest) (pieces first start none (drop start marks))
-  unfolding to_come
-  from_there = rw under.on (ap (records first (latest_upper w.latest)) (to_next_marked first w.place start marks next))
+  from_there : from_place first marks place latest false ≡ records first (in_force latest) (pieces first start none (drop start marks))
+  unfolding from_place
+  from_there = ap (records first (in_force latest)) (to_next_marked first place start marks next)
 
-  pub at_the_end : start ≡ length marks → Stepped first marks w (record { given = EndOfFile; walk = record { place = start; latest = w.latest; finished = true } })
-  unfolding to_come records pieces
-  at_the_end e = record { next = from_there ∙ rw (drop_of_length-le marks {i = start} (omega arith)); inside = omega arith }
+  pub at_the_end : start ≡ length marks → from_place first marks place latest false ≡ EndOfFile ∷ from_place first marks start latest true
+  unfolding from_place records pieces
+  at_the_end e = from_there ∙ rw (drop_of_length-le marks {i = start} (omega arith))
 
   module _ (there : start < length marks) (is_marked : get_or marks start 0 ≡ 1) where
-    small : (first + start) / 65536 < 65536
-    small = omega (arith, under.below, there)
-
-    pub at_other_bits : (first + start) / 65536 ≢ w.latest
-        → Stepped first marks w (record { given = ExtendedLinearAddress ((first + start) / 65536); walk = record { place = start; latest = (first + start) / 65536; finished = false } })
-    unfolding to_come
+    pub at_other_bits : latest ≢ Some ((first + start) / 65536)
+        → from_place first marks place latest false ≡ ExtendedLinearAddress ((first + start) / 65536) ∷ from_place first marks start (Some ((first + start) / 65536)) false
+    unfolding from_place
     at_other_bits n =
         let (q, ps, h, e) = piece_there first start marks there is_marked in
         let u : ℕ = (first + start) / 65536 in
-        record {
-          next = from_there ∙ rw (e, upper_small u small) (new_upper first w.latest u q ps (ap (λ (x : ℕ). (first + x) / 65536) h) n);
-          inside = omega arith;
-        }
+        from_there ∙ rw e (new_upper first latest u q ps (ap (λ (x : ℕ). (first + x) / 65536) h) n)
 
-    pub at_a_piece : (first + start) / 65536 ≡ w.latest → (r : ℕ) → PieceEnd marks first start r
-        → Stepped first marks w (record {
-          given = Data ((first + start) % 65536) start (r - start);
-          walk = record { place = r; latest = (first + start) / 65536; finished = false };
-        })
-    unfolding to_come
+    pub at_a_piece : latest ≡ Some ((first + start) / 65536) → (r : ℕ) → PieceEnd marks first start r
+        → from_place first marks place latest false ≡ Data ((first + start) % 65536) start (r - start) ∷ from_place first marks r latest false
+    unfolding from_place
     at_a_piece e r p =
         let u : ℕ = (first + start) / 65536 in
-        record {
-          next = from_there ∙ rw (← e, upper_small u small, piece_taken first start r marks there is_marked p) (same_upper first u (record { place = start; size = r - start }) _ refl);
-          inside = p.inside;
-        }
+        from_there ∙ rw (e, piece_taken first start r marks there is_marked p) (same_upper first u (record { place = start; size = r - start }) _ refl)

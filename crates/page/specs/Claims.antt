@@ -14,7 +14,7 @@ use Rattle.writer.specs.Told.{ToldWritten, wrote, refuses}
 use Rattle.writer.specs.Text.{chars, refused}
 use Rattle.writer.specs.Line.{line}
 use Rattle.writer.specs.Object.{object}
-use Rattle.steps.specs.declared.Loading.{Loading}
+use Rattle.steps.specs.Aliases.{Loading}
 use Rattle.steps.specs.Steps.{accepted}
 use Rattle.steps.specs.Sites.{Loaded}
 use Rattle.loader.specs.Load.{load, Load}
@@ -22,11 +22,11 @@ use Rattle.steps.specs.Told.{told_loading}
 use Rattle.window.specs.Claims.{Window}
 use Rattle.page.specs.declared.PageError.{PageError}
 use Rattle.page.specs.declared.PageError.TheVariants.{OutputFull}
-use Rattle.page.specs.declared.Paged.{Paged}
-use Rattle.page.specs.declared.Paged.TheVariants.{Wrote, Refused}
+use Rattle.page.specs.Aliases.{Paged}
 use Rattle.page.specs.Pieces.{pieces}
 use Rattle.page.specs.File.{page_records, file, page_text}
 use Rattle.page.specs.Told.{told_page, PageFileLength, WritePage}
+use Rattle.std.specs.Prelude.{Err, Ok}
 
 -- ---- a page that is written
 
@@ -70,7 +70,7 @@ abbrev pub WrittenLoadsBack : Type 0
 WrittenLoadsBack =
     (first : ℕ) (page marks out : List ℕ) (n : ℕ) (out' old-page old-marks : List ℕ) (r : Loading) (page' marks' : List ℕ)
     → Every Byte page → Bytes marks → length old-page ≡ length page → length old-marks ≡ length marks
-    → WritePage first page marks out (Wrote n) out' → Load (take n out') first old-page old-marks r page' marks'
+    → WritePage first page marks out (Ok n) out' → Load (take n out') first old-page old-marks r page' marks'
     → (told_loading r ≡ accepted (record { records = length (pieces first 0 none (flags (length page) marks)); start = none }))
     × Restores page marks old-page (record { answer = told_loading r; page = page'; marks = marks' })
 
@@ -131,7 +131,7 @@ LengthReasons =
 abbrev pub LengthAsWritten : Type 0
 LengthAsWritten =
     (first : ℕ) (page marks out : List ℕ) (r r' : Paged) (out' : List ℕ) → PageFileLength first page marks r → WritePage first page marks out r' out'
-    → (r ≡ r') ⊎ ((r' ≡ Refused OutputFull) × ((n : ℕ) × (r ≡ Wrote n) × (length out < n)))
+    → (r ≡ r') ⊎ ((r' ≡ Err OutputFull) × ((n : ℕ) × (r ≡ Ok n) × (length out < n)))
 
 -- of the page it sees the length alone
 abbrev pub LengthOfLengths : Type 0
@@ -142,12 +142,12 @@ LengthOfLengths =
 -- ---- the output
 
 abbrev pub RefusalChangesNothing : Type 0
-RefusalChangesNothing = (first : ℕ) (page marks out : List ℕ) (e : PageError) (out' : List ℕ) → WritePage first page marks out (Refused e) out' → out' ≡ out
+RefusalChangesNothing = (first : ℕ) (page marks out : List ℕ) (e : PageError) (out' : List ℕ) → WritePage first page marks out (Err e) out' → out' ≡ out
 
 -- the first n bytes are the file, and what lies behind them is as it was
 abbrev pub RestUntouched : Type 0
 RestUntouched =
-    (first : ℕ) (page marks out : List ℕ) (n : ℕ) (out' : List ℕ) → WritePage first page marks out (Wrote n) out'
+    (first : ℕ) (page marks out : List ℕ) (n : ℕ) (out' : List ℕ) → WritePage first page marks out (Ok n) out'
     → (take n out' ≡ file first page marks) × (drop n out' ≡ drop n out)
 
 -- ---- no second answer meets a contract

@@ -1,25 +1,19 @@
 -- What the private functions of the page writer promise each other.
 -- Assumes nothing.
-use Rattle.std.specs.Prelude.{ℕ, ◌+◌, ◌-◌, ◌%◌, ◌^◌, ◌≤◌, ◌<◌, min, ◌≡◌, ◌≢◌, ◌⊎◌, false, List, [], ◌∷◌, ltb, length, get_or, drop}
-use Rattle.std.proofs.Math.Option.{Option, none, some}
-use Rattle.std.specs.Prelude.{if◌then◌else◌}
+use Rattle.std.specs.Prelude.{ℕ, ◌+◌, ◌-◌, ◌%◌, ◌≤◌, ◌<◌, min, ◌≡◌, ◌≢◌, ◌⊎◌, List, length, get_or}
 use Rattle.record.specs.Refusals.{Refusal, output_full}
-use Rattle.record.specs.declared.Record.{Record}
 use Rattle.marks.specs.Marks.{flags}
-use Rattle.writer.specs.declared.Written.{Written}
+use Rattle.writer.specs.Aliases.{Written}
 use Rattle.writer.specs.declared.Survey.{Survey}
 use Rattle.writer.specs.Told.{refuses, told_written}
 use Rattle.writer.specs.Text.{refused, chars}
 use Rattle.writer.specs.Claims.{Surveys}
 use Rattle.window.specs.Claims.{Window}
-use Rattle.page.specs.declared.FileWalk.{FileWalk}
-use Rattle.page.specs.declared.FileStep.{FileStep}
-use Rattle.page.specs.declared.PageSurvey.{PageSurvey}
-use Rattle.page.specs.declared.PageSurvey.TheVariants.{Of, Refused}
-use Rattle.page.specs.declared.Paged.{Paged}
-use Rattle.page.specs.Pieces.{pieces}
-use Rattle.page.specs.File.{records, page_records, file, page_text}
+use Rattle.page.specs.Aliases.{PageSurvey}
+use Rattle.page.specs.Aliases.{Paged}
+use Rattle.page.specs.File.{page_records, file, page_text}
 use Rattle.page.specs.Told.{page_refusal, told_page}
+use Rattle.std.specs.Prelude.{Err, Ok}
 
 -- ---- places
 
@@ -36,30 +30,6 @@ pub record PieceEnd (flags : List ℕ) (first start r : ℕ) : Type 0 where
   pub marked : (i : ℕ) → start < i → i < r → get_or flags i 0 ≡ 1
   pub ends : (r ≡ length flags) ⊎ ((r ≡ start + 16) ⊎ (((first + start) % 65536 + r ≡ start + 65536) ⊎ (get_or flags r 0 ≢ 1)))
 
--- ---- the walk over the records
-
--- the upper 16 bits that are in force; 65,536, which they cannot be, stands for none
-unfoldable pub latest_upper : ℕ → Option ℕ
-latest_upper latest = if ltb latest 65536 then some latest else none
-
--- the records to come
-unfoldable pub to_come : (first : ℕ) (flags : List ℕ) → FileWalk → List Record
-unfolding latest_upper
-to_come first flags w =
-    if w.finished then [] else
-    records first (latest_upper w.latest) (pieces first w.place none (drop w.place flags))
-
--- a walk that has records to come, in a window that is not refused
-pub record UnderWay (first : ℕ) (flags : List ℕ) (w : FileWalk) : Type 0 where
-  pub on : w.finished ≡ false
-  pub inside : w.place ≤ length flags
-  pub below : first + length flags ≤ 2 ^ 32
-
--- one record further
-pub record Stepped (first : ℕ) (flags : List ℕ) (w : FileWalk) (r : FileStep) : Type 0 where
-  pub next : to_come first flags w ≡ r.given ∷ to_come first flags r.walk
-  pub inside : r.walk.place ≤ length flags
-
 -- ---- the answer
 
 -- a survey of the records of a page that has a file
@@ -70,8 +40,8 @@ pub record PageSurveyWhole (first : ℕ) (page marks : List ℕ) (s : Survey) : 
 
 -- or the refusal that stands in the file's place
 abbrev pub PageSurveyAs : (first : ℕ) (page marks : List ℕ) → PageSurvey → Type 0
-PageSurveyAs first page marks (Of s) = PageSurveyWhole first page marks s
-PageSurveyAs first page marks (Refused e) = page_text first page marks ≡ refused (page_refusal e)
+PageSurveyAs first page marks (Ok s) = PageSurveyWhole first page marks s
+PageSurveyAs first page marks (Err e) = page_text first page marks ≡ refused (page_refusal e)
 
 -- an answer of the writer that can refuse only with 15
 abbrev pub MayBeFull : Written → Type 0

@@ -4,4 +4,6 @@ pub mod Told
 pub mod Shape
 pub mod Spoken
 pub mod Claims
+pub mod Walk
 pub mod Helpers
+pub mod Aliases

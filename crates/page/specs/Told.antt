@@ -6,9 +6,9 @@ use Rattle.writer.specs.Told.{ToldWritten, wrote, refuses}
 use Rattle.writer.specs.Text.{place_behind, if_room, put_at}
 use Rattle.page.specs.declared.PageError.{PageError}
 use Rattle.page.specs.declared.PageError.TheVariants.{BadWindow, BadMark, OutputFull}
-use Rattle.page.specs.declared.Paged.{Paged}
-use Rattle.page.specs.declared.Paged.TheVariants.{Wrote, Refused}
+use Rattle.page.specs.Aliases.{Paged}
 use Rattle.page.specs.File.{page_text}
+use Rattle.std.specs.Prelude.{Err, Ok}
 
 abbrev pub page_refusal : PageError → Refusal
 page_refusal BadWindow = bad_window
@@ -16,8 +16,8 @@ page_refusal (BadMark place) = bad_mark place
 page_refusal OutputFull = output_full
 
 abbrev pub told_page : Paged → ToldWritten
-told_page (Wrote n) = wrote n
-told_page (Refused e) = refuses (page_refusal e)
+told_page (Ok n) = wrote n
+told_page (Err e) = refuses (page_refusal e)
 
 -- the contract of `page_file_length`
 pub record PageFileLength (first : ℕ) (page marks : List ℕ) (r : Paged) : Type 0 where

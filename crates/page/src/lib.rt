@@ -1,21 +1,14 @@
 #![tactic(auto)]
 // A page with marks written back: each run of marked places becomes data records, with the type 04 records that they need and the end record.
-ghost use Rattle.std.specs.Prelude.{◌≡◌, false, ◌+◌, ◌^◌, ◌≤◌, ◌<◌, min, length};
+ghost use Rattle.std.specs.Prelude.{◌≡◌, ◌+◌, ◌^◌, ◌≤◌, ◌<◌, length};
 ghost use Rattle.marks.specs.Marks.{flags};
 ghost use Rattle.writer.specs.Claims.{Surveys, Steps};
 ghost use Rattle.page.specs.File.{page_records};
 ghost use Rattle.page.specs.Told.{PageFileLength, WritePage};
-ghost use Rattle.page.specs.Helpers.{reach, PieceEnd, UnderWay, Stepped, PageSurveyAs, MayBeFull, AsWritten};
+ghost use Rattle.page.specs.Helpers.{reach, PieceEnd, PageSurveyAs, MayBeFull, AsWritten};
 
-use marks::Unused;
 use record::Record;
 use writer::{Survey, Written};
-
-// The largest number of a `usize`.
-const MOST: usize = 18446744073709551615;
-
-// What stands for the upper 16 bits before any are in force.
-const NONE: u32 = 65536;
 
 // Why a page is not written.
 #[derive(Clone, Copy)]
@@ -26,45 +19,20 @@ pub enum PageError {
     OutputFull,
 }
 
-// What is answered of the file of a page.
-#[derive(Clone, Copy)]
-pub enum Paged {
-    // It is written, or can be: its length.
-    Wrote(usize),
-    Refused(PageError),
-}
+// What is answered of the file of a page: its length, or why it has none.
+pub type Paged = Result<usize, PageError>;
 
-// Where a walk over the records of a file stands: at a place, with the upper 16 bits of the latest type 04 record, or NONE before the first,
-// and whether the end record was given.
-#[derive(Clone, Copy)]
-struct FileWalk {
+// The records of a page's file: those from a place on, behind the latest type 04 record's upper 16 bits, if there was one. None are left once the end record was given.
+#[derive(Drop)]
+struct FileRecords<'a> {
+    first: u32,
+    places: usize,
+    marks: &'a [u8],
     place: usize,
-    latest: u32,
+    latest: Option<u16>,
     finished: bool,
-}
-
-// A record of the file, and where the walk stands behind it.
-#[derive(Clone, Copy)]
-struct FileStep {
-    given: Record,
-    walk: FileWalk,
-}
-
-// The survey of a page's records, or why there is none.
-#[derive(Clone, Copy)]
-enum PageSurvey {
-    Of(Survey),
-    Refused(PageError),
-}
-
-// The lesser of two.
-fn least(a: usize, b: usize) -> usize
-    ensures { result ≡ min a b }
-{
-    if a < b {
-        return a;
-    }
-    b
+    ghost below: { first + places ≤ 2 ^ 32 },
+    ghost inside: { place ≤ places },
 }
 
 // How far a piece from a place on may reach: 16 places, the next multiple of 65,536 or the end, whichever is nearest.
@@ -73,7 +41,7 @@ fn farthest(address: u32, place: usize, end: usize) -> usize
     ensures { result ≡ reach address place end }
 {
     let room = 65536 - (address % 65536) as usize;
-    place + least(least(16, room), end - place)
+    place + room.min(16).min(end - place)
 }
 
 // The place after the piece that starts at a marked place.
@@ -85,58 +53,59 @@ fn piece_end(first: u32, places: usize, marks: &[u8], start: usize) -> usize
     marks::next_unmarked(marks, end, start + 1)
 }
 
-// The next record of the file.
-fn next_record(w: FileWalk, first: u32, places: usize, marks: &[u8]) -> FileStep
-    requires { UnderWay first (flags places marks.now) w }
-    ensures { Stepped first (flags places marks.now) w result }
-{
-    let start = marks::next_marked(marks, places, w.place);
-    if start == places {
-        return FileStep {
-            given: Record::EndOfFile,
-            walk: FileWalk {
-                place: start,
-                latest: w.latest,
-                finished: true,
-            },
-        };
-    }
-    let address = first + (start as u32);
-    let upper = address / 65536;
-    let changes = upper != w.latest;
-    if changes {
-        return FileStep {
-            given: Record::ExtendedLinearAddress(upper as u16),
-            walk: FileWalk {
-                place: start,
-                latest: upper,
-                finished: false,
-            },
-        };
-    }
-    let end = piece_end(first, places, marks, start);
-    FileStep {
-        given: Record::Data {
-            offset: (address % 65536) as u16,
-            at: start,
-            len: end - start,
-        },
-        walk: FileWalk {
-            place: end,
-            latest: upper,
+impl<'a> FileRecords<'a> {
+    ghost use Rattle.page.specs.Walk.{to_come};
+
+    // All records of the file.
+    fn new(first: u32, places: usize, marks: &'a [u8]) -> FileRecords<'a>
+        requires { first + places ≤ 2 ^ 32 }
+        ensures { to_come result ≡ page_records first (flags places marks.now) }
+    {
+        FileRecords {
+            first,
+            places,
+            marks,
+            place: 0,
+            latest: None,
             finished: false,
-        },
+        }
     }
 }
 
-// Ahead of the first record.
-fn begin() -> FileWalk
-    ensures { result ≡ record { place = 0; latest = 65536; finished = false } }
-{
-    FileWalk {
-        place: 0,
-        latest: NONE,
-        finished: false,
+impl<'a> Iterator for FileRecords<'a> {
+    ghost use Rattle.std.specs.Iterator.{YieldsFirst, item_count};
+    ghost use Rattle.page.specs.Walk.{to_come};
+
+    type Item = Record;
+
+    ghost next_gives = { YieldsFirst to_come };
+
+    ghost remaining = { item_count to_come };
+
+    fn next(&mut self) -> Option<Record> {
+        if self.finished {
+            return None;
+        }
+        let start = marks::next_marked(self.marks, self.places, self.place);
+        self.place = start;
+        if start == self.places {
+            self.finished = true;
+            return Some(Record::EndOfFile);
+        }
+        let address = self.first + start as u32;
+        let upper = (address / 65536) as u16;
+        let changes = self.latest != Some(upper);
+        if changes {
+            self.latest = Some(upper);
+            return Some(Record::ExtendedLinearAddress(upper));
+        }
+        let end = piece_end(self.first, self.places, self.marks, start);
+        self.place = end;
+        Some(Record::Data {
+            offset: (address % 65536) as u16,
+            at: start,
+            len: end - start,
+        })
     }
 }
 
@@ -146,14 +115,8 @@ fn survey(first: u32, page: &[u8], marks: &[u8]) -> Survey
     ensures { Surveys page.now (page_records first (flags (length page.now) marks.now)) result }
 {
     let mut s = Survey::new();
-    let mut w = begin();
-    let mut finished = false;
-    while !finished {
-        let step = next_record(w, first, page.len(), marks);
-        let given = step.given;
+    for given in FileRecords::new(first, page.len(), marks) {
         s = s.add(given, page);
-        w = step.walk;
-        finished = w.finished;
     }
     s
 }
@@ -164,28 +127,22 @@ fn write_records(first: u32, page: &[u8], marks: &[u8], out: &mut [u8], start: W
     ensures { Steps page.now out.old start (page_records first (flags (length page.now) marks.now)) result out.new }
 {
     let mut done = start;
-    let mut w = begin();
-    let mut finished = false;
-    while !finished {
-        let step = next_record(w, first, page.len(), marks);
-        let given = step.given;
+    for given in FileRecords::new(first, page.len(), marks) {
         done = writer::write_next(done, given, page, out);
-        w = step.walk;
-        finished = w.finished;
     }
     done
 }
 
 // The survey of a page that has a file, or why it has none.
-fn survey_page(first: u32, page: &[u8], marks: &[u8]) -> PageSurvey
+fn survey_page(first: u32, page: &[u8], marks: &[u8]) -> Result<Survey, PageError>
     ensures { PageSurveyAs first page.now marks.now result }
 {
     if window::is_unfit(first, page.len(), marks.len()) {
-        return PageSurvey::Refused(PageError::BadWindow);
+        return Err(PageError::BadWindow);
     }
     match marks::first_unused(marks, page.len()) {
-        Unused::At(place) => PageSurvey::Refused(PageError::BadMark(place)),
-        Unused::Clear => PageSurvey::Of(survey(first, page, marks)),
+        Some(place) => Err(PageError::BadMark(place)),
+        None => Ok(survey(first, page, marks)),
     }
 }
 
@@ -194,31 +151,20 @@ fn as_paged(answer: Written) -> Paged
     requires { MayBeFull answer }
     ensures { AsWritten answer result }
 {
-    match answer {
-        Written::Wrote(n) => Paged::Wrote(n),
-        Written::Refused(_) => Paged::Refused(PageError::OutputFull),
-    }
+    answer.map_err(|_| PageError::OutputFull)
 }
 
 // How long the file of a page with marks is, or why it has none.
 pub fn page_file_length(first: u32, page: &[u8], marks: &[u8]) -> Paged
     ensures { PageFileLength first page.now marks.now result }
 {
-    match survey_page(first, page, marks) {
-        PageSurvey::Refused(e) => Paged::Refused(e),
-        PageSurvey::Of(s) => as_paged(s.answer(MOST)),
-    }
+    as_paged(survey_page(first, page, marks)?.answer(usize::MAX))
 }
 
 // The file of a page with marks, whose first place has the address `first`, from the output's start on: its length, or why it is not written.
 pub fn write_page(first: u32, page: &[u8], marks: &[u8], out: &mut [u8]) -> Paged
     ensures { WritePage first page.now marks.now out.old result out.new }
 {
-    match survey_page(first, page, marks) {
-        PageSurvey::Refused(e) => Paged::Refused(e),
-        PageSurvey::Of(s) => {
-            let start = s.begin(out.len());
-            as_paged(write_records(first, page, marks, out, start))
-        }
-    }
+    let start = survey_page(first, page, marks)?.begin(out.len());
+    as_paged(write_records(first, page, marks, out, start))
 }

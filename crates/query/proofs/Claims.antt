@@ -15,7 +15,6 @@ use Rattle.steps.specs.Sites.{last_at}
 use Rattle.steps.specs.Account.{AllPass, all_states, one_of}
 use Rattle.steps.specs.Ask.{anywhere, Asked, states, refuses, found, answered, ask_steps}
 use Rattle.steps.specs.Ask as steps
-use Rattle.steps.specs.declared.Loading.TheVariants.{Refused as LoadRefused}
 use Rattle.steps.proofs.Told.{told_apart}
 use Rattle.steps.proofs.Ask.{asked_nothing_after_the_LF}
 use Rattle.steps.proofs.Firsts.{Walked, none_decided, one_decided, as_decided}
@@ -27,10 +26,12 @@ use Rattle.intel.proofs.OneReason.{sound}
 use Rattle.intel.proofs.Puts.{holding, from_puts, to_puts, PutThere, one_byte, of_last}
 use Rattle.record.proofs.Standing.{Stands, stands}
 use Rattle.intel.proofs.Claims.{fault_among, named_by}
-use Rattle.query.specs.declared.Asked.{Asked as CodeAsked}
-use Rattle.query.specs.declared.Asked.TheVariants.{States, NotStated, Refused}
+use Rattle.query.specs.Aliases.{Asked as CodeAsked}
 use Rattle.query.specs.Ask.{told_asked}
 use Rattle.query.specs.Claims.{PutsLast, this_byte, no_byte, AtLine, Why, no_end, bad_line, at_end, Reasons, OneReason, Among, Total, AskNamesTheOffender, RefusedEverywhere, NothingAfter, AskUnique, Examples}
+use Rattle.std.specs.Prelude.{None, Ok, Some}
+use Rattle.steps.specs.Aliases.{refuse}
+use Rattle.std.specs.Prelude.{Err}
 
 pub examples : Examples
 unfolding steps.ask ask_steps source.steps_of stated decision verdict last_at intel_by judge meaning number_after
@@ -148,15 +149,15 @@ nothing_after text₁ text₂ line v e head h₁ h₂ address = asked_nothing_af
 -- ---- the contract
 
 apart : (r r' : CodeAsked) → told_asked r ≡ told_asked r' → r ≡ r'
-apart (States b) (States b') e = cc
-apart (States b) NotStated e = cc
-apart (States b) (Refused w n) e = cc
-apart NotStated (States b) e = cc
-apart NotStated NotStated e = refl
-apart NotStated (Refused w n) e = cc
-apart (Refused w n) (States b) e = cc
-apart (Refused w n) NotStated e = cc
-apart (Refused w n) (Refused w' n') e = let q = told_apart (LoadRefused w n) (LoadRefused w' n') cc in cc
+apart (Ok (Some b)) (Ok (Some b')) e = cc
+apart (Ok (Some b)) (Ok None) e = cc
+apart (Ok (Some b)) (Err z) e = cc
+apart (Ok None) (Ok (Some b)) e = cc
+apart (Ok None) (Ok None) e = refl
+apart (Ok None) (Err z) e = cc
+apart (Err z) (Ok (Some b)) e = cc
+apart (Err z) (Ok None) e = cc
+apart (Err z) (Err z') e = let q = told_apart (refuse z.why z.line) (refuse z'.why z'.line) cc in cc
 
 pub ask_unique : AskUnique
 ask_unique text address r r' x y = apart r r' (x.answer ∙ sym y.answer)

@@ -1,5 +1,6 @@
 -- The walk, a call at a time: the answer from what is known stays the whole answer, and at the end it is returned.
 -- Assumes nothing.
+use Rattle.std.specs.declared.ops.ControlFlow.TheVariants.{Break, Continue}
 use Rattle.std.proofs.Common.{◌≡◌, ℕ, ◌^◌, ◌<◌, false, List, [], ◌∷◌, length, sym, refl, ap, ◌∙◌, subst}
 use Rattle.record.specs.Line.{wrong}
 use Rattle.record.specs.Meaning.{Meaning, data_at, end_of_file, extended_segment, start_segment, extended_linear, start_linear}
@@ -15,15 +16,14 @@ use Rattle.reader.specs.Along.{unread}
 use Rattle.steps.specs.declared.LoaderError.TheVariants.{Line, MissingEndOfFileRecord}
 use Rattle.intel.specs.Records.{UnderWay}
 use Rattle.intel.proofs.Calls.{One, more_unread, fewer_unread, start_under_way}
-use Rattle.query.specs.declared.Asked.{Asked as CodeAsked}
-use Rattle.query.specs.declared.Asked.TheVariants.{Refused}
-use Rattle.query.specs.declared.Turn.{Turn as CodeTurn}
-use Rattle.query.specs.declared.Turn.TheVariants.{On, Stop}
+use Rattle.query.specs.Aliases.{Asked as CodeAsked}
+use Rattle.query.specs.Aliases.{CodeTurn}
 use Rattle.query.specs.declared.Walk.{Walk}
 use Rattle.query.specs.Along.{Known, nothing_known, Turn, goes_on, answers, at_record, onward, asked_along}
 use Rattle.query.specs.Ask.{told_asked, ask}
 use Rattle.query.specs.Helpers.{Knows, Begun, Comes, Meets, Onward, Answered, Judged}
 use Rattle.query.proofs.Along.{ask_along}
+use Rattle.query.specs.Aliases.{refuse_asked}
 
 -- a record after which the walk goes on is not the end
 not_end : (address n : ℕ) (k k' : Known) (m : Meaning) → at_record address n k m ≡ goes_on k' → is_end m ≡ false
@@ -56,7 +56,7 @@ module _ (address : ℕ) (text : List ℕ) (w : Walk) (pool : List ℕ) (r : Rep
       record { answer = λ k h. go k t (at_record address r.state.line k (meant x pool')) refl (m.comes_to k (record { aims = h.aims; start_is = h.start_is; byte_is = h.byte_is })) }
     where
       go : (k : Known) (t : CodeTurn) (u : Turn) → at_record address r.state.line k (meant x pool') ≡ u → Comes address r.state t u → Answered address text w k t
-      go k (On w') (goes_on k') e (q, h) =
+      go k (Continue w') (goes_on k') e (q, h) =
           let more : one.more ≡ unread r.state text = more_unread w.state text pool r pool' under.options under.countable room next x one (not_end address r.state.line k k' (meant x pool') e) in
           let there-is : unread w'.state text ≡ unread r.state text = ap (λ (s : State). unread s text) q in
           record {
@@ -66,16 +66,16 @@ module _ (address : ℕ) (text : List ℕ) (w : Walk) (pool : List ℕ) (r : Rep
             same = ap (asked_along address k') (there-is ∙ sym more) ∙ sym (by_record x one k ∙ rw e);
             less = rw there-is (fewer_unread w.state text pool r pool' under.options under.countable room next x one);
           }
-      go k (On w') (answers a) e c = absurd c
-      go k (Stop a) (goes_on k') e c = absurd c
-      go k (Stop a) (answers b) e c = c ∙ sym (by_record x one k ∙ rw e)
+      go k (Continue w') (answers a) e c = absurd c
+      go k (Break a) (goes_on k') e c = absurd c
+      go k (Break a) (answers b) e c = c ∙ sym (by_record x one k ∙ rw e)
 
   pub judged_refused : (e : ReaderError) (more : List Numbered) → unread w.state text ≡ on r.state.line (wrong (refusal_of e)) ∷ more
-      → Judged address text w (Stop (Refused (Line e) r.state.line))
+      → Judged address text w (Break (refuse_asked (Line e) r.state.line))
   unfolding asked_along
   judged_refused e more u = record { answer = λ k h. rw u }
 
-  pub judged_done : unread w.state text ≡ [] → Judged address text w (Stop (Refused MissingEndOfFileRecord 0))
+  pub judged_done : unread w.state text ≡ [] → Judged address text w (Break (refuse_asked MissingEndOfFileRecord 0))
   unfolding asked_along
   judged_done u = record { answer = λ k h. rw u }
 
@@ -99,18 +99,3 @@ module _ (address : ℕ) (text pool : List ℕ) where
         room = l;
         same = rw b.state_is (sym (ask_along text address));
       }
-
-  module _ (w : Walk) (j : Reading address text pool w) (t : CodeTurn) (h : Judged address text w t) where
-    onward_from : (w' : Walk) → t ≡ On w' → Onward address text w j.known w'
-    onward_from w' e = subst (Answered address text w j.known) e (h.answer j.known j.knows)
-
-    pub reading_less : (w' : Walk) → t ≡ On w' → length (unread w'.state text) < length (unread w.state text)
-    reading_less w' e = (onward_from w' e).less
-
-    pub reading_again : (w' : Walk) → t ≡ On w' → (pool' : List ℕ) → length pool' ≡ length pool → Reading address text pool' w'
-    reading_again w' e pool' l =
-        let o = onward_from w' e in
-        record { known = o.known; knows = o.knows; under_way = o.under_way; room = l ∙ j.room; same = o.same ∙ j.same }
-
-    pub reading_end : (a : CodeAsked) → t ≡ Stop a → told_asked a ≡ ask text address
-    reading_end a e = subst (Answered address text w j.known) e (h.answer j.known j.knows) ∙ j.same

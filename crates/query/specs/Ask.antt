@@ -5,8 +5,9 @@ use Rattle.steps.specs.Ask.{Asked, states, not_stated, refuses}
 use Rattle.steps.specs.Ask as steps
 use Rattle.steps.specs.Told.{loader_refusal}
 use Rattle.intel.specs.Placing.{intel}
-use Rattle.query.specs.declared.Asked.{Asked as CodeAsked}
-use Rattle.query.specs.declared.Asked.TheVariants.{States, NotStated, Refused}
+use Rattle.query.specs.Aliases.{Asked as CodeAsked}
+use Rattle.std.specs.Prelude.{None, Ok, Some}
+use Rattle.std.specs.Prelude.{Err}
 
 -- the byte that the last data record before the end record states at the address, that none does, or the refusal with its line
 abbrev pub ask : (text : List ℕ) (address : ℕ) → Asked
@@ -14,9 +15,9 @@ ask text address = steps.ask intel address text
 
 -- an answer of the code, in document 01's numbers
 abbrev pub told_asked : CodeAsked → Asked
-told_asked (States byte) = states byte
-told_asked NotStated = not_stated
-told_asked (Refused e line) = refuses (loader_refusal e) line
+told_asked (Ok (Some byte)) = states byte
+told_asked (Ok None) = not_stated
+told_asked (Err z) = refuses (loader_refusal z.why) z.line
 
 -- the contract of `ask`
 pub record Ask (text : List ℕ) (address : ℕ) (r : CodeAsked) : Type 0 where

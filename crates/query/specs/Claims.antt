@@ -17,7 +17,7 @@ use Rattle.steps.specs.Ask.{anywhere, Asked, states, not_stated, refuses}
 use Rattle.intel.specs.Placing.{steps_of, placements}
 use Rattle.intel.specs.Lines.{account}
 use Rattle.intel.specs.Sums.{Puts, LastPut}
-use Rattle.query.specs.declared.Asked.{Asked as CodeAsked}
+use Rattle.query.specs.Aliases.{Asked as CodeAsked}
 use Rattle.query.specs.Along.{nothing_known, asked_along}
 use Rattle.query.specs.Ask.{ask, Ask}
 

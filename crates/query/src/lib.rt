@@ -3,37 +3,25 @@
 ghost use Rattle.std.specs.Prelude.{◌≡◌, ◌*◌, length};
 ghost use Rattle.intel.specs.Placing.{from_segment, from_linear};
 ghost use Rattle.intel.specs.Records.{LiesIn, UnderWay};
-ghost use Rattle.steps.specs.Ask.{found as answer_of};
-ghost use Rattle.query.specs.Ask.{told_asked, Ask};
-ghost use Rattle.query.specs.Helpers.{Aims, IndexOf, told_found, Noted, Begun, MeetsStart, Meets, Judged};
+ghost use Rattle.query.specs.Ask.{Ask};
+ghost use Rattle.query.specs.Helpers.{Aims, IndexOf, Noted, Begun, MeetsStart, Meets, Judged};
 
-use reader::{Reply, State};
+use reader::State;
 use record::{Record, payload_sizes};
-use steps::{LoaderError, Start};
+use std::ops::ControlFlow::{self, Break, Continue};
+use steps::{LoaderError, Refused, Start};
 
 // How many addresses a segment has.
 const SEGMENT: u32 = 65536;
 
-// What comes back: the byte that the text states last at the address, that it states none, or a refusal and the number of its line.
-#[derive(Clone, Copy)]
-pub enum Asked {
-    States(u8),
-    NotStated,
-    Refused(LoaderError, usize),
-}
+// What comes back: the byte that the text states last at the address, if it states one, or a refusal and the number of its line.
+pub type Asked = Result<Option<u8>, Refused>;
 
-// The byte that the records so far state last at the address, if one of them does.
+// The address that is asked, as seen from the base in force: how far it lies after the base, modulo 2^32.
 #[derive(Clone, Copy)]
-enum Found {
-    Nothing,
-    Byte(u8),
-}
-
-// The address that is asked, as seen from the base in force: how far it lies after the base, modulo 2^32, and whether the base is linear.
-#[derive(Clone, Copy)]
-struct Aim {
-    linear: bool,
-    distance: u32,
+enum Aim {
+    Segment(u32),
+    Linear(u32),
 }
 
 // Where the reading stands in the text, and what is known there.
@@ -41,90 +29,63 @@ struct Aim {
 struct Walk {
     state: State,
     aim: Aim,
-    start: Start,
-    found: Found,
+    start: Option<Start>,
+    // The byte that the records so far state last at the address, if one of them does.
+    found: Option<u8>,
 }
 
 // What a line comes to: the walk after it, or the answer.
-#[derive(Clone, Copy)]
-enum Turn {
-    On(Walk),
-    Stop(Asked),
-}
+type Turn = ControlFlow<Asked, Walk>;
 
-// The address from a segment's base: 16 times the number of a type 02.
-fn from_segment(address: u32, number: u16) -> Aim
-    ensures { Aims (from_segment (16 * number)) address result }
-{
-    Aim {
-        linear: false,
-        distance: std::num::wrapping_sub_u32(address, 16 * (number as u32)),
+impl Aim {
+    // The address from a segment's base: 16 times the number of a type 02.
+    fn from_segment(address: u32, number: u16) -> Aim
+        ensures { Aims (from_segment (16 * number)) address result }
+    {
+        Aim::Segment(address.wrapping_sub(16 * u32::from(number)))
     }
-}
 
-// The address from a linear base: 65,536 times the number of a type 04.
-fn from_linear(address: u32, number: u16) -> Aim
-    ensures { Aims (from_linear (65536 * number)) address result }
-{
-    Aim {
-        linear: true,
-        distance: std::num::wrapping_sub_u32(address, 65536 * (number as u32)),
+    // The address from a linear base: 65,536 times the number of a type 04.
+    fn from_linear(address: u32, number: u16) -> Aim
+        ensures { Aims (from_linear (65536 * number)) address result }
+    {
+        Aim::Linear(address.wrapping_sub(65536 * u32::from(number)))
     }
-}
 
-// Which byte of a data record lies at the address: Intel's two sums, solved for i. Where no byte of a record can, it is a number that no record reaches.
-fn index_of(aim: Aim, offset: u16) -> u32
-    ensures { IndexOf aim offset result }
-{
-    let i = std::num::wrapping_sub_u32(aim.distance, offset as u32);
-    if aim.linear {
-        return i;
+    // Which byte of a data record lies at the address, if a record can have one there: Intel's two sums, solved for i.
+    fn index_of(self, offset: u16) -> Option<usize>
+        ensures { IndexOf self offset result }
+    {
+        let first = u32::from(offset);
+        match self {
+            Aim::Linear(distance) => Some(distance.wrapping_sub(first) as usize),
+            Aim::Segment(distance) if distance < SEGMENT => {
+                Some((distance.wrapping_sub(first) % SEGMENT) as usize)
+            }
+            Aim::Segment(_) => None,
+        }
     }
-    if aim.distance < SEGMENT {
-        return i % SEGMENT;
-    }
-    SEGMENT
 }
 
 // The byte that is known after a data record whose payload lies in the pool: the record's, if it states the address, and else the one from before.
-fn note(pool: &[u8], offset: u16, at: usize, len: usize, aim: Aim, found: Found) -> Found
+fn note(pool: &[u8], offset: u16, at: usize, len: usize, aim: Aim, found: Option<u8>) -> Option<u8>
     requires { LiesIn (Record.Data offset at len) pool.now }
     ensures { Noted pool.now offset at len aim found result }
 {
-    let i = index_of(aim, offset) as usize;
-    if i < len {
-        return Found::Byte(pool[at + i]);
+    match aim.index_of(offset) {
+        Some(i) if i < len => Some(pool[at + i]),
+        _ => found,
     }
-    found
 }
 
 // What a start comes to: it is kept if it is the first or the same again, and else it is refused.
-fn judge_start(w: Walk, stated: Start) -> Turn
+fn judge_start(w: Walk, stated: Option<Start>) -> Turn
     ensures { MeetsStart w stated result }
 {
-    let state = w.state;
-    let first = w.start;
-    if stated.differs_from(first) {
-        return Turn::Stop(Asked::Refused(LoaderError::StartConflict, state.line));
+    if steps::differs_from(stated, w.start) {
+        return Break(Err(LoaderError::StartConflict.at(w.state.line)));
     }
-    let aim = w.aim;
-    let found = w.found;
-    Turn::On(Walk {
-        state,
-        aim,
-        start: stated,
-        found,
-    })
-}
-
-// The answer where the text ends.
-fn answer_of(found: Found) -> Asked
-    ensures { told_asked result ≡ answer_of (told_found found) }
-{
-    match found {
-        Found::Nothing => Asked::NotStated,
-        Found::Byte(byte) => Asked::States(byte),
-    }
+    Continue(Walk { start: stated, ..w })
 }
 
 // What a record comes to. The walk stands after the record's line, and knows what was known before it.
@@ -132,32 +93,22 @@ fn judge_record(address: u32, pool: &[u8], w: Walk, given: Record) -> Turn
     requires { LiesIn given pool.now }
     ensures { Meets address pool.now w given result }
 {
-    let state = w.state;
-    let aim = w.aim;
-    let start = w.start;
-    let found = w.found;
     match given {
-        Record::Data { offset, at, len } => Turn::On(Walk {
-            state,
-            aim,
-            start,
-            found: note(pool, offset, at, len, aim, found),
+        Record::Data { offset, at, len } => Continue(Walk {
+            found: note(pool, offset, at, len, w.aim, w.found),
+            ..w
         }),
-        Record::EndOfFile => Turn::Stop(answer_of(found)),
-        Record::ExtendedSegmentAddress(number) => Turn::On(Walk {
-            state,
-            aim: from_segment(address, number),
-            start,
-            found,
+        Record::EndOfFile => Break(Ok(w.found)),
+        Record::ExtendedSegmentAddress(number) => Continue(Walk {
+            aim: Aim::from_segment(address, number),
+            ..w
         }),
-        Record::StartSegmentAddress { cs, ip } => judge_start(w, Start::Segment { cs, ip }),
-        Record::ExtendedLinearAddress(number) => Turn::On(Walk {
-            state,
-            aim: from_linear(address, number),
-            start,
-            found,
+        Record::StartSegmentAddress { cs, ip } => judge_start(w, Some(Start::Segment { cs, ip })),
+        Record::ExtendedLinearAddress(number) => Continue(Walk {
+            aim: Aim::from_linear(address, number),
+            ..w
         }),
-        Record::StartLinearAddress(number) => judge_start(w, Start::Linear(number)),
+        Record::StartLinearAddress(number) => judge_start(w, Some(Start::Linear(number))),
     }
 }
 
@@ -166,25 +117,12 @@ fn judge_next(text: &[u8], pool: &mut [u8], address: u32, w: Walk) -> Turn
     requires { UnderWay text.now w.state × (length pool.old ≡ 255) }
     ensures { Judged address text.now w result }
 {
-    let state = w.state;
-    let step = state.next(text, pool, 0);
+    let step = w.state.next(text, pool, 0);
     let after = step.state;
-    let reply = step.reply;
-    match reply {
-        Reply::Read(given) => {
-            let aim = w.aim;
-            let start = w.start;
-            let found = w.found;
-            let there = Walk {
-                state: after,
-                aim,
-                start,
-                found,
-            };
-            judge_record(address, pool, there, given)
-        }
-        Reply::Refused(e) => Turn::Stop(Asked::Refused(LoaderError::Line(e), after.line)),
-        Reply::Done => Turn::Stop(Asked::Refused(LoaderError::MissingEndOfFileRecord, 0)),
+    match step.reply {
+        Some(Ok(given)) => judge_record(address, pool, Walk { state: after, ..w }, given),
+        Some(Err(e)) => Break(Err(LoaderError::Line(e).at(after.line))),
+        None => Break(Err(LoaderError::MissingEndOfFileRecord.at(0))),
     }
 }
 
@@ -194,9 +132,9 @@ fn begin(address: u32) -> Walk
 {
     Walk {
         state: State::new(),
-        aim: from_segment(address, 0),
-        start: Start::Unstated,
-        found: Found::Nothing,
+        aim: Aim::from_segment(address, 0),
+        start: None,
+        found: None,
     }
 }
 
@@ -206,12 +144,11 @@ pub fn ask(text: &[u8], address: u32) -> Asked
 {
     let mut pool = [0u8; payload_sizes::MOST_DATA];
     let mut w = begin(address);
+    // A loop: each turn reads a line, so there is no index to count.
     loop {
         match judge_next(text, &mut pool, address, w) {
-            Turn::On(next) => {
-                w = next;
-            }
-            Turn::Stop(answer) => return answer,
+            Continue(next) => w = next,
+            Break(answer) => return answer,
         }
     }
 }

@@ -11,11 +11,11 @@ use Rattle.record.specs.declared.Record.{Record}
 use Rattle.record.specs.declared.Record.TheVariants.{Data, EndOfFile, ExtendedSegmentAddress, StartSegmentAddress, ExtendedLinearAddress, StartLinearAddress}
 use Rattle.reader.specs.declared.ReaderError.{ReaderError}
 use Rattle.reader.specs.declared.ReaderError.TheVariants.{MissingStartCode, RecordTooShort, RecordTooLong, RecordNotEvenLength, ContainsInvalidCharacters, ChecksumMismatch, PayloadLengthMismatch, UnsupportedRecordType, InvalidLengthForType, PoolFull}
-use Rattle.reader.specs.declared.Answer.{Answer}
-use Rattle.reader.specs.declared.Answer.TheVariants.{Read, Refused}
+use Rattle.reader.specs.Aliases.{Answer}
 use Rattle.reader.specs.Told.{Told, gives, refuses, done, refusal_of, told}
 use Rattle.reader.specs.Answer.{answered}
 use Rattle.reader.specs.Claims.{Examples, ToldApart, ReadRecordUnique}
+use Rattle.std.specs.Prelude.{Err, Ok}
 
 pub examples : Examples
 unfolding answered judge written meaning number_after
@@ -52,9 +52,9 @@ record_of kind ns =
 
 pub untold : Told → Answer
 unfolding error record_of
-untold (gives kind ns) = Read (record_of kind ns)
-untold (refuses r) = Refused (error r)
-untold done = Refused PoolFull
+untold (gives kind ns) = Ok (record_of kind ns)
+untold (refuses r) = Err (error r)
+untold done = Err PoolFull
 
 error_again : (e : ReaderError) → error (refusal_of e) ≡ e
 unfolding error
@@ -69,7 +69,7 @@ error_again (UnsupportedRecordType a) = refl
 error_again InvalidLengthForType = refl
 error_again PoolFull = refl
 
-record_again : (r : Record) → untold (told (Read r)) ≡ Read r
+record_again : (r : Record) → untold (told (Ok r)) ≡ Ok r
 unfolding untold
 record_again (Data a b c) = refl
 record_again EndOfFile = refl
@@ -80,8 +80,8 @@ record_again (StartLinearAddress a) = refl
 
 pub untold_told : (r : Answer) → untold (told r) ≡ r
 unfolding untold
-untold_told (Read r) = record_again r
-untold_told (Refused e) = ap Refused (error_again e)
+untold_told (Ok r) = record_again r
+untold_told (Err e) = ap Err (error_again e)
 
 pub told_apart : ToldApart
 told_apart a b e = sym (untold_told a) ∙ ap untold e ∙ untold_told b

@@ -4,7 +4,7 @@ use Rattle.std.proofs.Common.{◌≡◌, ℕ, zero, suc, ◌+◌, ◌-◌, ◌<�
 use mathlib.Core.List.Memᴰ
 use mathlib.Core.List.{Memᴰ}
 use Rattle.std.specs.Prelude.{if◌then◌else◌}
-use Rattle.digits.proofs.Tests.{both_ways}
+use Rattle.digits.proofs.Tests.{both_ways, split}
 use lib.Seq.{split_at, get_or-append_seam}
 use Rattle.reader.specs.Lines.{LF, CR, rest, with_CRLF, with_LF, with_text, Cut}
 use Rattle.reader.specs.Helpers.{FirstFeed, LineEnd}
@@ -51,8 +51,9 @@ module _ (text : List ℕ) (r : ℕ) (f : FirstFeed text r) where
         ended = with_LF (not_CR_last r text f.inside h);
       })
 
-  pub empty_line : r ≢ length text → r ≡ 0 → LineEnd text r
-  empty_line l z = up_to_LF (omega (arith, f.inside)) (λ k e. absurd (omega arith))
+  -- no byte before the LF or the end
+  pub no_byte_before : r ≡ 0 → LineEnd text r
+  no_byte_before z = split (length text) 0 (λ h. all_of_it (omega arith)) (λ h. up_to_LF (omega arith) (λ k e. absurd (omega arith)))
 
   pub with_LF_only : r ≢ length text → get_or text (r - 1) 0 ≢ CR → LineEnd text r
   with_LF_only l h = up_to_LF (omega (arith, f.inside)) (λ k e. let p : r - 1 ≡ k = omega arith in rw (← p) h)

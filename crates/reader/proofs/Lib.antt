@@ -5,7 +5,6 @@ pub mod Judge
 pub mod Line
 pub mod Cutting
 pub mod Feeds
-pub mod Sixteen
 pub mod Searching
 pub mod Reading
 pub mod Along

@@ -9,7 +9,6 @@ use Rattle.digits.specs.Reading.{named}
 use Rattle.record.specs.Faults.{FirstOffender}
 use Rattle.record.specs.Meaning.{Meaning, data_at, end_of_file, extended_segment, start_segment, extended_linear, start_linear, meaning}
 use Rattle.record.proofs.Claims.{names_the_offender}
-use Rattle.reader.specs.declared.Answer.TheVariants.{Refused}
 use Rattle.reader.specs.declared.ReaderError.TheVariants.{ContainsInvalidCharacters}
 use Rattle.reader.specs.Told.{gives, refuses}
 use Rattle.reader.specs.Answer.{ReadRecord, fits_pool, given, answered, poured}
@@ -17,6 +16,7 @@ use Rattle.reader.specs.Lines.{lines}
 use Rattle.reader.specs.Row.{on, sayings}
 use Rattle.reader.specs.Claims.{AnswersTheOffender, Offends, SaysTheOffender}
 use Rattle.reader.proofs.Texts.{numbers_are_lines}
+use Rattle.std.specs.Prelude.{Err}
 
 -- what is told as refusal 2 is said so: a record is told as one, or as PoolFull
 said_so : (said : Said) (r : Refusal) (n at : ℕ) → number_of r ≡ 2 → refuses r ≡ answered said n at → said ≡ wrong r
@@ -40,13 +40,13 @@ pub answers_the_offender : AnswersTheOffender
 unfolding answered poured
 answers_the_offender line pool at p pool' = (there, back)
   where
-    there : ReadRecord line pool at (Refused (ContainsInvalidCharacters p)) pool' → (place : ℕ) × FirstOffender line place × (p ≡ named place) × (pool' ≡ pool)
+    there : ReadRecord line pool at (Err (ContainsInvalidCharacters p)) pool' → (place : ℕ) × FirstOffender line place × (p ≡ named place) × (pool' ≡ pool)
     there x =
         let said : judge line ≡ wrong (contains_invalid_characters p) = said_so (judge line) (contains_invalid_characters p) (length pool) at refl x.answer in
         let (place, f, e) = (names_the_offender line (contains_invalid_characters p)).0 (said, refl) in
         (place, f, cc, x.left ∙ ap (λ (s : Said). poured s pool at) said)
 
-    back : (place : ℕ) × FirstOffender line place × (p ≡ named place) × (pool' ≡ pool) → ReadRecord line pool at (Refused (ContainsInvalidCharacters p)) pool'
+    back : (place : ℕ) × FirstOffender line place × (p ≡ named place) × (pool' ≡ pool) → ReadRecord line pool at (Err (ContainsInvalidCharacters p)) pool'
     back (place, f, e, k) =
         let said : judge line ≡ wrong (contains_invalid_characters p) = ((names_the_offender line (contains_invalid_characters p)).1 (place, f, ap contains_invalid_characters e)).0 in
         record { answer = rw said; left = k ∙ rw said }

@@ -6,7 +6,7 @@ use Rattle.record.specs.Line.{Said, says, wrong, judge}
 use Rattle.record.specs.Record.{type_of, numbers_of}
 use Rattle.record.specs.Noise.{SaysARecord, AnswerToWrong}
 use Rattle.record.proofs.Noise.{one_wrong_character, answer_by}
-use Rattle.reader.specs.declared.Answer.{Answer}
+use Rattle.reader.specs.Aliases.{Answer}
 use Rattle.reader.specs.Told.{gives, refuses, told}
 use Rattle.reader.specs.Answer.{ReadRecord, answered, poured}
 use Rattle.reader.specs.Noise.{GivenIsSaid, ReadWith, read_with, OneWrongCharacterRead}

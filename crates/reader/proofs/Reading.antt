@@ -1,7 +1,7 @@
 -- How a call moves along a text: what each answer makes of the state, and what the call gives then. The outcome is defined by the tests
 -- that the code makes, so each of them, once decided, leaves the case that the code is in.
 -- Assumes nothing.
-use Rattle.std.proofs.Common.{◌≡◌, ℕ, ◌-◌, Bool, true, false, eqb, List, [], ◌∷◌, length, take, drop, sym, refl, ap, ◌∙◌, subst, ap₂, arith, length-drop}
+use Rattle.std.proofs.Common.{◌≡◌, ℕ, ◌-◌, Bool, true, false, eqb, List, [], ◌∷◌, length, drop, sym, refl, ap, ◌∙◌, subst, ap₂, arith, length-drop}
 use Rattle.digits.specs.Common.{pasted}
 use Rattle.std.specs.Prelude.{if◌then◌else◌}
 use Rattle.record.specs.Refusals.{number_of, pool_full}
@@ -9,11 +9,9 @@ use Rattle.record.specs.Line.{Said, says, wrong, judge}
 use Rattle.record.specs.Meaning.{Meaning, data_at, end_of_file, extended_segment, start_segment, extended_linear, start_linear, meaning}
 use Rattle.record.specs.declared.Record.{Record}
 use Rattle.digits.proofs.Tests.{if_true, if_false}
-use Rattle.reader.specs.declared.Answer.{Answer}
-use Rattle.reader.specs.declared.Answer.TheVariants.{Read, Refused}
+use Rattle.reader.specs.Aliases.{Answer}
 use Rattle.reader.specs.declared.ReaderError.{ReaderError}
 use Rattle.reader.specs.declared.ReaderError.TheVariants.{MissingStartCode, RecordTooShort, RecordTooLong, RecordNotEvenLength, ContainsInvalidCharacters, ChecksumMismatch, PayloadLengthMismatch, UnsupportedRecordType, InvalidLengthForType, PoolFull}
-use Rattle.reader.specs.declared.Reply.TheVariants as reply
 use Rattle.reader.specs.declared.State.{State}
 use Rattle.reader.specs.declared.Replied.{Replied}
 use Rattle.reader.specs.Told.{Told, gives, refuses, done, told, refusal_of, is_pool_full}
@@ -21,6 +19,7 @@ use Rattle.reader.specs.Answer.{fits_pool, given, kept, answered, poured, ReadRe
 use Rattle.reader.specs.Lines.{Found, a_line, no_line, next_line}
 use Rattle.reader.specs.Text.{told_reply, is_full, ends_row, behind, at_end, next_number, Outcome, of_found, outcome, Meets, Next}
 use Rattle.reader.specs.Helpers.{Settled, Ahead}
+use Rattle.std.specs.Prelude.{Err, None, Ok, Some}
 
 -- ---- one answer
 
@@ -37,21 +36,21 @@ full_by_number (UnsupportedRecordType kind) = refl
 full_by_number InvalidLengthForType = refl
 full_by_number PoolFull = refl
 
-module _ (s : State) (answer : Answer) (position line : ℕ) where
-  pub settle_read : (r : Record) (end : Bool) → answer ≡ Read r → end ≡ ends_row s.options (told (Read r))
-      → Settled s (told answer) position line (record { reply = reply.Read r; state = behind s position line end })
+module _ (s : State) (position line : ℕ) where
+  pub settle_read : (r : Record) (end : Bool) → end ≡ ends_row s.options (told (Ok r))
+      → Settled s (told (Ok r)) position line (record { reply = Some (Ok r); state = behind s position line end })
   unfolding is_full
-  settle_read r end e f = rw (e, f) (record { answer = refl; state = refl })
+  settle_read r end f = rw f (record { answer = refl; state = refl })
 
-  pub settle_full : (e : ReaderError) → answer ≡ Refused e → is_pool_full e ≡ true
-      → Settled s (told answer) position line (record { reply = reply.Refused e; state = s })
+  pub settle_full : (e : ReaderError) → is_pool_full e ≡ true
+      → Settled s (told (Err e)) position line (record { reply = Some (Err e); state = s })
   unfolding is_full
-  settle_full e a n = rw a (record { answer = refl; state = rw (sym (full_by_number e) ∙ n) })
+  settle_full e n = record { answer = refl; state = rw (sym (full_by_number e) ∙ n) }
 
-  pub settle_refused : (e : ReaderError) → answer ≡ Refused e → is_pool_full e ≡ false
-      → Settled s (told answer) position line (record { reply = reply.Refused e; state = behind s position line s.options.stop_after_first_error })
+  pub settle_refused : (e : ReaderError) → is_pool_full e ≡ false
+      → Settled s (told (Err e)) position line (record { reply = Some (Err e); state = behind s position line s.options.stop_after_first_error })
   unfolding is_full ends_row
-  settle_refused e a n = rw a (record { answer = refl; state = rw (sym (full_by_number e) ∙ n) })
+  settle_refused e n = record { answer = refl; state = rw (sym (full_by_number e) ∙ n) }
 
 -- ---- one call
 
@@ -82,36 +81,36 @@ module _ (s : State) (text pool : List ℕ) (at : ℕ) where
   unfolding outcome
   outcome_found e f n = if_false s.finished _ _ e ∙ ap (of_found s (length text) pool at) n
 
-  pub next_finished : s.finished ≡ true → Next s text pool at (record { reply = reply.Done; state = s }) pool
-  next_finished e = subst (λ (o : Outcome). Meets o (record { reply = reply.Done; state = s }) pool) (sym (outcome_finished e)) (record { answer = refl; state = refl; left = refl })
+  pub next_finished : s.finished ≡ true → Next s text pool at (record { reply = None; state = s }) pool
+  next_finished e = subst (λ (o : Outcome). Meets o (record { reply = None; state = s }) pool) (sym (outcome_finished e)) (record { answer = refl; state = refl; left = refl })
 
   pub next_none : (empties : ℕ) → s.finished ≡ false → next_line 0 (drop s.position text) ≡ no_line empties
-      → (s' : State) → s' ≡ at_end s → Next s text pool at (record { reply = reply.Done; state = s' }) pool
+      → (s' : State) → s' ≡ at_end s → Next s text pool at (record { reply = None; state = s' }) pool
   unfolding of_found
   next_none empties e n s' q =
-      subst (λ (o : Outcome). Meets o (record { reply = reply.Done; state = s' }) pool) (sym (outcome_found e (no_line empties) n)) (record { answer = refl; state = q; left = refl })
+      subst (λ (o : Outcome). Meets o (record { reply = None; state = s' }) pool) (sym (outcome_found e (no_line empties) n)) (record { answer = refl; state = q; left = refl })
 
   -- a line was read and settled
-  pub next_read : (from len next empties : ℕ) → s.finished ≡ false → Ahead text s.position from len next empties
-      → (answer : Answer) (pool' : List ℕ) → ReadRecord (take len (drop from text)) pool at answer pool'
+  pub next_read : (cs : List ℕ) (next empties : ℕ) → s.finished ≡ false → Ahead text s.position cs next empties
+      → (answer : Answer) (pool' : List ℕ) → ReadRecord cs pool at answer pool'
       → (line : ℕ) → line ≡ next_number s empties → (r : Replied) → Settled s (told answer) next line r → Next s text pool at r pool'
   unfolding of_found
-  next_read from len next empties e a answer pool' given-line line ln r settled =
-      let said = judge (take len (drop from text)) in
+  next_read cs next empties e a answer pool' given-line line ln r settled =
+      let said = judge cs in
       let t = answered said (length pool) at in
       let place : length text - length (drop next text) ≡ next = omega (arith, length-drop next text, a.beyond) in
-      subst (λ (o : Outcome). Meets o r pool') (sym (outcome_found e (a_line empties (take len (drop from text)) (drop next text)) a.found))
+      subst (λ (o : Outcome). Meets o r pool') (sym (outcome_found e (a_line empties cs (drop next text)) a.found))
       (choose (is_full t) refl t (settled.answer ∙ given-line.answer)
       (settled.state ∙ ap (λ (x : Told). if is_full x then s else behind s next line (ends_row s.options x)) given-line.answer)
       given-line.left place ln)
     where
-      choose : (b : Bool) → is_full (answered (judge (take len (drop from text))) (length pool) at) ≡ b → (t : Told) → told_reply r.reply ≡ t
-          → r.state ≡ (if b then s else behind s next line (ends_row s.options t)) → pool' ≡ poured (judge (take len (drop from text))) pool at
+      choose : (b : Bool) → is_full (answered (judge cs) (length pool) at) ≡ b → (t : Told) → told_reply r.reply ≡ t
+          → r.state ≡ (if b then s else behind s next line (ends_row s.options t)) → pool' ≡ poured (judge cs) pool at
           → length text - length (drop next text) ≡ next → line ≡ next_number s empties
           → Meets (if b then record { told = t; state = s; pool = pool } else record {
             told = t;
             state = behind s (length text - length (drop next text)) (next_number s empties) (ends_row s.options t);
-            pool = poured (judge (take len (drop from text))) pool at;
+            pool = poured (judge cs) pool at;
           }) r pool'
-      choose true full t x y z place ln = record { answer = x; state = y; left = z ∙ full_keeps (judge (take len (drop from text))) pool at full }
+      choose true full t x y z place ln = record { answer = x; state = y; left = z ∙ full_keeps (judge cs) pool at full }
       choose false full t x y z place ln = record { answer = x; state = y ∙ ap₂ (λ (p l : ℕ). behind s p l (ends_row s.options t)) (sym place) ln; left = z }

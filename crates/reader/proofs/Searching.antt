@@ -96,15 +96,11 @@ module _ (text : List ℕ) (position from empties : ℕ) (line : List ℕ) (n : 
       let m = turn_moves in
       (held ∙ pass_empty empties (drop from text) (omega arith) z ∙ rw (add-one, rest_behind text from inside n here.place), omega arith)
 
-  pub turn_found : 0 < length line → Ahead text position from (length line) (from + n) empties
+  pub turn_found : 0 < length line → Ahead text position line (from + n) empties
   turn_found h =
       let f : 0 < length (first_line (drop from text)) = subst (λ (l : List ℕ). 0 < length l) here.first h in
-      let p : take (length line) (drop from text) ≡ first_line (drop from text) =
-      ap (λ (l : List ℕ). take (length l) (drop from text)) here.first ∙ first_line_prefix (drop from text) in
-      let s : length line ≤ length text - from = omega (arith, ap length here.first, first_line_length (drop from text), length-drop from text) in
       record {
-        found = held ∙ find_first empties (drop from text) f ∙ rw (p, rest_behind text from inside n here.place);
-        inside = omega arith;
+        found = held ∙ find_first empties (drop from text) f ∙ rw (here.first, rest_behind text from inside n here.place);
         beyond = turn_inside;
         small = omega arith;
       }

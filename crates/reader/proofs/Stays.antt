@@ -12,10 +12,8 @@ use Rattle.reader.specs.declared.Figures.{Figures}
 use Rattle.reader.specs.declared.ReaderOptions.{ReaderOptions}
 use Rattle.reader.specs.declared.State.{State}
 use Rattle.reader.specs.declared.Replied.{Replied}
-use Rattle.reader.specs.declared.Reply.{Reply}
-use Rattle.reader.specs.declared.Reply.TheVariants as reply
-use Rattle.reader.specs.declared.Answer.{Answer}
-use Rattle.reader.specs.declared.Answer.TheVariants.{Read, Refused}
+use Rattle.reader.specs.Aliases.{Reply}
+use Rattle.reader.specs.Aliases.{Answer}
 use Rattle.reader.specs.Told.{Told, gives, refuses, done}
 use Rattle.reader.specs.Answer.{given, answered, poured}
 use Rattle.reader.specs.Lines.{lines, later, Found, a_line, no_line, next_line}
@@ -27,6 +25,7 @@ use Rattle.reader.proofs.Claims.{untold, untold_told}
 use Rattle.reader.proofs.Cutting.{lines_closed, Head, through_head}
 use Rattle.reader.proofs.Reading.{full_keeps, outcome_finished, outcome_found}
 use Rattle.reader.proofs.Room.{never_full}
+use Rattle.std.specs.Prelude.{Err, None, Ok, Some}
 
 -- ---- calls from any state
 
@@ -210,8 +209,8 @@ nothing_behind options k text₁ text₂ head t₁ t₂ stop =
 -- ---- one outcome each
 
 as_reply : Answer → Reply
-as_reply (Read r) = reply.Read r
-as_reply (Refused e) = reply.Refused e
+as_reply (Ok r) = Some (Ok r)
+as_reply (Err e) = Some (Err e)
 
 -- what a call answers and leaves, put together
 abbrev pub step : Reply → State → Replied
@@ -221,13 +220,13 @@ step r s = record { reply = r; state = s }
 reply_of : Told → Reply
 reply_of (gives kind ns) = as_reply (untold (gives kind ns))
 reply_of (refuses r) = as_reply (untold (refuses r))
-reply_of done = reply.Done
+reply_of done = None
 
 reply_again : (r : Reply) → reply_of (told_reply r) ≡ r
 unfolding reply_of as_reply
-reply_again (reply.Read r) = ap as_reply (untold_told (Read r))
-reply_again (reply.Refused e) = ap as_reply (untold_told (Refused e))
-reply_again reply.Done = refl
+reply_again (Some (Ok r)) = ap as_reply (untold_told (Ok r))
+reply_again (Some (Err e)) = ap as_reply (untold_told (Err e))
+reply_again None = refl
 
 pub next_unique : NextUnique
 next_unique s text pool at r r' p p' x y =

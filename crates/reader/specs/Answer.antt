@@ -6,7 +6,7 @@ use Rattle.std.specs.Prelude.{if◌then◌else◌}
 use Rattle.record.specs.Refusals.{pool_full}
 use Rattle.record.specs.Line.{Said, says, wrong, judge}
 use Rattle.record.specs.Meaning.{Meaning, data_at, end_of_file, extended_segment, start_segment, extended_linear, start_linear, meaning}
-use Rattle.reader.specs.declared.Answer.{Answer}
+use Rattle.reader.specs.Aliases.{Answer}
 use Rattle.reader.specs.Told.{Told, gives, refuses, told}
 
 -- the payload fits a pool of n bytes at the position

@@ -12,8 +12,7 @@ use Rattle.digits.specs.Reading.{named}
 use Rattle.record.specs.Faults.{FirstOffender}
 use Rattle.record.specs.Written.{rewritten}
 use Rattle.record.specs.declared.Record.{Record}
-use Rattle.reader.specs.declared.Answer.{Answer}
-use Rattle.reader.specs.declared.Answer.TheVariants.{Refused}
+use Rattle.reader.specs.Aliases.{Answer}
 use Rattle.reader.specs.declared.ReaderError.{ReaderError}
 use Rattle.reader.specs.declared.Figures.{Figures}
 use Rattle.reader.specs.declared.ReaderError.TheVariants.{ContainsInvalidCharacters}
@@ -26,6 +25,7 @@ use Rattle.reader.specs.Lines.{Joins, lines, through}
 use Rattle.reader.specs.Row.{Numbered, on, line_number, sayings, stopped, row}
 use Rattle.reader.specs.Text.{FirstLine, new_state, outcome, Next, Default, Ends, New, Number, IsPoolFull}
 use Rattle.reader.specs.Calls.{Call, Given, NeverFull, Calls, replies, one_by_one}
+use Rattle.std.specs.Prelude.{Err}
 
 -- ---- one line
 
@@ -71,7 +71,7 @@ ReadRecordUnique =
 abbrev pub AnswersTheOffender : Type 0
 AnswersTheOffender =
     (line pool : List ℕ) (at p : ℕ) (pool' : List ℕ)
-    → ReadRecord line pool at (Refused (ContainsInvalidCharacters p)) pool' ↔ ((place : ℕ) × FirstOffender line place × (p ≡ named place) × (pool' ≡ pool))
+    → ReadRecord line pool at (Err (ContainsInvalidCharacters p)) pool' ↔ ((place : ℕ) × FirstOffender line place × (p ≡ named place) × (pool' ≡ pool))
 
 -- ---- lines
 

@@ -3,7 +3,7 @@
 use Rattle.std.specs.Prelude.{◌≡◌, ℕ, ◌^◌, ◌<◌, ◌↔◌, List, [], ◌∷◌, length}
 use Rattle.std.specs.Borrow.{Bor}
 use Rattle.reader.specs.declared.ReaderOptions.{ReaderOptions}
-use Rattle.reader.specs.declared.Reply.{Reply}
+use Rattle.reader.specs.Aliases.{Reply}
 use Rattle.reader.specs.declared.Reader.{Reader}
 use Rattle.reader.specs.Lines.{lines}
 use Rattle.reader.specs.Row.{sayings, row}

@@ -1,16 +1,16 @@
 -- What the helpers of the readers ask of and promise each other.
 -- Assumes nothing.
-use Rattle.std.specs.Prelude.{◌≡◌, ℕ, suc, ◌+◌, ◌%◌, ◌<◌, ◌≤◌, ◌≢◌, List, length, take, drop, slice_index}
+use Rattle.std.specs.Prelude.{◌≡◌, ℕ, suc, ◌%◌, ◌<◌, ◌≤◌, ◌≢◌, List, length, take, drop, slice_index}
 use Rattle.checksum.specs.Checksum.{sum}
 use Rattle.record.specs.declared.Record.{Record}
 use Rattle.digits.specs.Digits.{leading}
 use Rattle.digits.specs.Reading.{named}
+use Rattle.record.specs.Line.{size}
 use Rattle.record.specs.Meaning.{meaning}
-use Rattle.reader.specs.declared.Answer.TheVariants.{Read}
+use Rattle.reader.specs.Aliases.{Answer}
 use Rattle.reader.specs.declared.ReaderError.{ReaderError}
-use Rattle.reader.specs.declared.ReaderError.TheVariants.{ContainsInvalidCharacters}
+use Rattle.reader.specs.declared.ReaderError.TheVariants.{ContainsInvalidCharacters, InvalidLengthForType}
 use Rattle.reader.specs.declared.Spot.{Spot}
-use Rattle.reader.specs.declared.Spot.TheVariants.{At, Nothing}
 use Rattle.reader.specs.Lines.{LF, first_line, next_line, a_line, no_line}
 use Rattle.reader.specs.declared.State.{State}
 use Rattle.reader.specs.declared.Replied.{Replied}
@@ -18,6 +18,7 @@ use Rattle.reader.specs.Told.{Told, told}
 use Rattle.reader.specs.Text.{told_reply, is_full, ends_row, behind}
 use Rattle.std.specs.Prelude.{if◌then◌else◌}
 use Rattle.reader.specs.Answer.{given}
+use Rattle.std.specs.Prelude.{Ok, Err, Some, None, Option}
 
 -- refusal 2 of a line, whose first byte is the colon
 abbrev pub invalid_at : (line : List ℕ) → ReaderError
@@ -30,9 +31,10 @@ pub record Summed (buf : List ℕ) (m total : ℕ) : Type 0 where
   pub room : 260 ≤ length buf
   pub sums : total ≡ sum (take m buf) % 256
 
--- a record that is told as its type and payload are, wherever the pool
-pub record Special (kind : ℕ) (payload : List ℕ) (r : Record) : Type 0 where
-  pub tells : (address n at : ℕ) → told (Read r) ≡ given (meaning kind address payload) n at
+-- a record that is told as its type and payload are, wherever the pool, or a payload that has not its type's size
+pub data Special (kind : ℕ) (payload : List ℕ) : Answer → Type 0 where
+  fitting : (r : Record) → size kind ≡ length payload → ((address n at : ℕ) → told (Ok r) ≡ given (meaning kind address payload) n at) → Special kind payload (Ok r)
+  misfitting : size kind ≢ length payload → Special kind payload (Err InvalidLengthForType)
 
 -- ---- lines
 
@@ -51,16 +53,15 @@ pub record LineEnd (text : List ℕ) (r : ℕ) : Type 0 where
   pub inside : r ≤ length text
   pub line : take r text ≡ first_line text
 
--- where the next line that has a byte lies
-pub record Ahead (text : List ℕ) (position from len next empties : ℕ) : Type 0 where
-  pub found : next_line 0 (drop position text) ≡ a_line empties (take len (drop from text)) (drop next text)
-  pub inside : from + len ≤ length text
+-- the next line that has a byte, and where the rest begins
+pub record Ahead (text : List ℕ) (position : ℕ) (line : List ℕ) (next empties : ℕ) : Type 0 where
+  pub found : next_line 0 (drop position text) ≡ a_line empties line (drop next text)
   pub beyond : next ≤ length text
   pub small : empties < length text
 
-abbrev pub Spotted : (text : List ℕ) (position : ℕ) → Spot → Type 0
-Spotted text position (At from len next empties) = Ahead text position from len next empties
-Spotted text position Nothing = (empties : ℕ) × (next_line 0 (drop position text) ≡ no_line empties)
+abbrev pub Spotted : (text : List ℕ) (position : ℕ) → Option Spot → Type 0
+Spotted text position (Some spot) = Ahead text position spot.line.now spot.next spot.empties
+Spotted text position None = (empties : ℕ) × (next_line 0 (drop position text) ≡ no_line empties)
 
 -- a line that was answered, with the state before it: PoolFull leaves the state as it was
 pub record Settled (s : State) (t : Told) (position line : ℕ) (r : Replied) : Type 0 where

@@ -9,3 +9,4 @@ pub mod Helpers
 pub mod Held
 pub mod Noise
 pub mod Claims
+pub mod Aliases

@@ -4,14 +4,14 @@ use Rattle.std.specs.Prelude.{ℕ, ◌≢◌, List, ◌∷◌, ◌++◌, length}
 use Rattle.record.specs.Refusals.{Refusal}
 use Rattle.record.specs.Noise.{SaysARecord, AnswerToWrong}
 use Rattle.record.specs.declared.Record.{Record}
-use Rattle.reader.specs.declared.Answer.{Answer}
-use Rattle.reader.specs.declared.Answer.TheVariants.{Read}
+use Rattle.reader.specs.Aliases.{Answer}
 use Rattle.reader.specs.Told.{Told, refuses, told}
 use Rattle.reader.specs.Answer.{ReadRecord}
+use Rattle.std.specs.Prelude.{Ok}
 
 -- a record is given only for a line that says one
 abbrev pub GivenIsSaid : Type 0
-GivenIsSaid = (line pool : List ℕ) (at : ℕ) (x : Record) (p : List ℕ) → ReadRecord line pool at (Read x) p → SaysARecord line
+GivenIsSaid = (line pool : List ℕ) (at : ℕ) (x : Record) (p : List ℕ) → ReadRecord line pool at (Ok x) p → SaysARecord line
 
 -- what the reader returns, and what the pool holds then
 pub record ReadWith : Type 0 where

@@ -10,12 +10,12 @@ use Rattle.record.specs.Line.{judge}
 use Rattle.reader.specs.declared.ReaderError.{ReaderError}
 use Rattle.reader.specs.declared.ReaderOptions.{ReaderOptions}
 use Rattle.reader.specs.declared.State.{State}
-use Rattle.reader.specs.declared.Reply.{Reply}
-use Rattle.reader.specs.declared.Reply.TheVariants.{Read, Refused, Done}
+use Rattle.reader.specs.Aliases.{Reply}
 use Rattle.reader.specs.declared.Replied.{Replied}
 use Rattle.reader.specs.Told.{Told, gives, refuses, done, refusal_of, is_pool_full}
 use Rattle.reader.specs.Answer.{answered, poured}
 use Rattle.reader.specs.Lines.{first_line, rest, Found, a_line, no_line, next_line}
+use Rattle.std.specs.Prelude.{Err, None, Ok, Some}
 
 -- ---- the line cutter
 
@@ -28,9 +28,9 @@ pub record FirstLine (text line : Bor (List ℕ)) (behind : ℕ) : Type 0 where
 -- ---- answers
 
 abbrev pub told_reply : Reply → Told
-told_reply (Read r) = gives (type_of r) (numbers_of r)
-told_reply (Refused e) = refuses (refusal_of e)
-told_reply Done = done
+told_reply (Some (Ok r)) = gives (type_of r) (numbers_of r)
+told_reply (Some (Err e)) = refuses (refusal_of e)
+told_reply None = done
 
 -- PoolFull: the line is not used up
 unfoldable pub is_full : Told → Bool

@@ -9,8 +9,8 @@ use Rattle.reader.specs.declared.ReaderError.TheVariants.{MissingStartCode, Reco
 use Rattle.reader.specs.declared.Values.{Values}
 use Rattle.reader.specs.declared.Values.TheVariants.{Nothing, Position, Byte, Bytes}
 use Rattle.reader.specs.declared.Figures.{Figures}
-use Rattle.reader.specs.declared.Answer.{Answer}
-use Rattle.reader.specs.declared.Answer.TheVariants.{Read, Refused}
+use Rattle.reader.specs.Aliases.{Answer}
+use Rattle.std.specs.Prelude.{Err, Ok}
 
 pub data Told : Type 0 where
   gives : (kind : ℕ) (numbers : List ℕ) → Told
@@ -42,8 +42,8 @@ is_pool_full InvalidLengthForType = false
 is_pool_full PoolFull = true
 
 abbrev pub told : Answer → Told
-told (Read r) = gives (type_of r) (numbers_of r)
-told (Refused e) = refuses (refusal_of e)
+told (Ok r) = gives (type_of r) (numbers_of r)
+told (Err e) = refuses (refusal_of e)
 
 -- the values of a refusal in code: that of refusal 2 is a place, and each other value is a byte
 abbrev pub values_in : Refusal → Values

@@ -1,6 +1,6 @@
 #![tactic(auto)]
 // Intel HEX read: one line to a record, and a text to a row of answers.
-ghost use Rattle.std.specs.Prelude.{◌≡◌, ◌+◌, ◌-◌, ◌*◌, ◌%◌, ◌<◌, ◌≤◌, true, false, length, take, drop, nat_eq};
+ghost use Rattle.std.specs.Prelude.{◌≡◌, ◌+◌, ◌-◌, ◌*◌, ◌%◌, ◌<◌, ◌≤◌, true, false, length, take, drop, nat_eq, Err};
 ghost use Rattle.digits.specs.Common.{pasted};
 ghost use Rattle.std.specs.Prelude.{if◌then◌else◌};
 ghost use Rattle.digits.specs.Digits.{all_digits};
@@ -13,6 +13,7 @@ ghost use Rattle.reader.specs.Text.{FirstLine, Default, Ends, New, Next, Number,
 ghost use Rattle.reader.specs.Held.{Opened, Asked};
 ghost use Rattle.reader.specs.Helpers.{NoFeed, FirstFeed, LineEnd, Spotted, Settled, invalid_at, Special, Summed};
 
+use digits::Scan;
 use record::{Record, byte_counts, char_counts, chars, payload_sizes, refusals, types};
 
 // Why a line gives no record, in the crate's order.
@@ -50,11 +51,10 @@ pub struct Figures {
 }
 
 // What the record reader answers to a line.
-#[derive(Clone, Copy)]
-pub enum Answer {
-    Read(Record),
-    Refused(ReaderError),
-}
+pub type Answer = Result<Record, ReaderError>;
+
+// What a text reader answers to a call; none where nothing is left.
+pub type Reply = Option<Answer>;
 
 // Which answers end a reading before the text does.
 #[derive(Clone, Copy)]
@@ -72,14 +72,6 @@ pub struct State {
     pub options: ReaderOptions,
 }
 
-// What a text reader answers to a call.
-#[derive(Clone, Copy)]
-pub enum Reply {
-    Read(Record),
-    Refused(ReaderError),
-    Done,
-}
-
 // A reply, and where the reader stands then.
 #[derive(Clone, Copy)]
 pub struct Replied {
@@ -87,77 +79,40 @@ pub struct Replied {
     pub state: State,
 }
 
-// A line that has a byte: where it lies, where the rest begins, and how many empty lines stood ahead of it.
+// A line that has a byte, where the rest of its text begins, and how many empty lines stood ahead of it.
 #[derive(Clone, Copy)]
-enum Spot {
-    At {
-        from: usize,
-        len: usize,
-        next: usize,
-        empties: usize,
-    },
-    Nothing,
+struct Spot<'a> {
+    line: &'a [u8],
+    next: usize,
+    empties: usize,
 }
 
-// Two bytes, high byte first.
-fn word16(high: u8, low: u8) -> u16
-    ensures { result ≡ high * 256 + low }
+// The record of a type from 01 to 05, if it has its type's size: its n payload bytes are the buffer's from the fifth on.
+fn special(kind: u8, buf: &[u8], n: usize) -> Answer
+    requires { (0 < kind) × (kind ≤ 5) × (n ≤ 255) × (260 ≤ length buf.now) }
+    ensures { Special kind (take n (drop 4 buf.now)) result }
 {
-    (high as u16) * 256 + (low as u16)
-}
-
-// Two words, high word first.
-fn word32(high: u16, low: u16) -> u32
-    ensures { result ≡ high * 65536 + low }
-{
-    (high as u32) * 65536 + (low as u32)
-}
-
-fn wide(x: u8) -> usize
-    ensures { result ≡ x }
-{
-    x as usize
-}
-
-// How many payload bytes a type from 01 to 05 has.
-fn size_of(kind: u8) -> usize
-    ensures { result ≡ size kind }
-{
-    if kind == types::END_OF_FILE {
-        return payload_sizes::END_OF_FILE;
+    let first = u16::from_be_bytes([buf[4], buf[5]]);
+    let second = u16::from_be_bytes([buf[6], buf[7]]);
+    match kind {
+        types::END_OF_FILE if n == payload_sizes::END_OF_FILE => Ok(Record::EndOfFile),
+        types::EXTENDED_SEGMENT_ADDRESS if n == payload_sizes::EXTENDED_SEGMENT_ADDRESS => {
+            Ok(Record::ExtendedSegmentAddress(first))
+        }
+        types::START_SEGMENT_ADDRESS if n == payload_sizes::START_SEGMENT_ADDRESS => {
+            Ok(Record::StartSegmentAddress {
+                cs: first,
+                ip: second,
+            })
+        }
+        types::EXTENDED_LINEAR_ADDRESS if n == payload_sizes::EXTENDED_LINEAR_ADDRESS => {
+            Ok(Record::ExtendedLinearAddress(first))
+        }
+        types::START_LINEAR_ADDRESS if n == payload_sizes::START_LINEAR_ADDRESS => {
+            Ok(Record::StartLinearAddress(u32::from_be_bytes([buf[4], buf[5], buf[6], buf[7]])))
+        }
+        _ => Err(ReaderError::InvalidLengthForType),
     }
-    if kind == types::EXTENDED_SEGMENT_ADDRESS {
-        return payload_sizes::EXTENDED_SEGMENT_ADDRESS;
-    }
-    if kind == types::EXTENDED_LINEAR_ADDRESS {
-        return payload_sizes::EXTENDED_LINEAR_ADDRESS;
-    }
-    payload_sizes::START_LINEAR_ADDRESS
-}
-
-// The record of a type from 01 to 05 whose payload, the buffer's bytes from the fifth on, has its type's size.
-fn special(kind: u8, buf: &[u8]) -> Record
-    requires { (0 < kind) × (kind ≤ 5) × (260 ≤ length buf.now) }
-    ensures { Special kind (take (size kind) (drop 4 buf.now)) result }
-{
-    if kind == types::END_OF_FILE {
-        return Record::EndOfFile;
-    }
-    let first = word16(buf[4], buf[5]);
-    if kind == types::EXTENDED_SEGMENT_ADDRESS {
-        return Record::ExtendedSegmentAddress(first);
-    }
-    if kind == types::EXTENDED_LINEAR_ADDRESS {
-        return Record::ExtendedLinearAddress(first);
-    }
-    let second = word16(buf[6], buf[7]);
-    if kind == types::START_SEGMENT_ADDRESS {
-        return Record::StartSegmentAddress {
-            cs: first,
-            ip: second,
-        };
-    }
-    Record::StartLinearAddress(word32(first, second))
 }
 
 // Copies n bytes of the buffer from its fifth into the pool.
@@ -165,8 +120,7 @@ fn pour(buf: &[u8], n: usize, pool: &mut [u8], at: usize)
     requires { (4 + n ≤ length buf.now) × (at + n ≤ length pool.old) }
     ensures { pool.new ≡ pasted pool.old at (take n (drop 4 buf.now)) }
 {
-    let end = 4 + n;
-    copying::copy(&buf[4..end], &mut pool[at..]);
+    copying::copy(&buf[4..4 + n], &mut pool[at..]);
 }
 
 // A data record whose length byte is right: its payload goes into the pool, if there is room.
@@ -174,15 +128,12 @@ fn lay_down(buf: &[u8], n: usize, pool: &mut [u8], at: usize) -> Answer
     requires { (n ≤ 255) × (260 ≤ length buf.now) }
     ensures { Reads (says 0 (word buf.now 1) (take n (drop 4 buf.now))) pool.old at result pool.new }
 {
-    if n > pool.len() {
-        return Answer::Refused(ReaderError::PoolFull);
-    }
-    if at > pool.len() - n {
-        return Answer::Refused(ReaderError::PoolFull);
+    if n > pool.len() || at > pool.len() - n {
+        return Err(ReaderError::PoolFull);
     }
     pour(buf, n, pool, at);
-    Answer::Read(Record::Data {
-        offset: word16(buf[1], buf[2]),
+    Ok(Record::Data {
+        offset: u16::from_be_bytes([buf[1], buf[2]]),
         at,
         len: n,
     })
@@ -197,37 +148,29 @@ fn judge_bytes(buf: &[u8], m: usize, sum: u8, pool: &mut [u8], at: usize) -> Ans
     let n = m - byte_counts::AROUND_PAYLOAD;
     if sum != 0 {
         let stated = buf[last];
-        let computed = std::num::wrapping_sub_u8(stated, sum);
-        return Answer::Refused(ReaderError::ChecksumMismatch(computed, stated));
+        let computed = stated.wrapping_sub(sum);
+        return Err(ReaderError::ChecksumMismatch(computed, stated));
     }
-    if wide(buf[0]) != n {
-        return Answer::Refused(ReaderError::PayloadLengthMismatch);
+    if usize::from(buf[0]) != n {
+        return Err(ReaderError::PayloadLengthMismatch);
     }
-    let kind = buf[3];
-    if kind == types::DATA {
-        return lay_down(buf, n, pool, at);
+    match buf[3] {
+        types::DATA => lay_down(buf, n, pool, at),
+        kind @ types::END_OF_FILE..=types::START_LINEAR_ADDRESS => special(kind, buf, n),
+        kind => Err(ReaderError::UnsupportedRecordType(kind)),
     }
-    if kind > types::START_LINEAR_ADDRESS {
-        return Answer::Refused(ReaderError::UnsupportedRecordType(kind));
-    }
-    if size_of(kind) != n {
-        return Answer::Refused(ReaderError::InvalidLengthForType);
-    }
-    Answer::Read(special(kind, buf))
 }
 
 // The given refusal, unless a byte after the colon is not a digit.
-fn digits_or(line: &[u8], e: ReaderError) -> Answer
+fn digits_or(line: &[u8], e: ReaderError) -> ReaderError
     requires { 0 < length line.now }
-    ensures { result ≡ (if all_digits (drop 1 line.now) then Answer.Refused e else Answer.Refused (invalid_at line.now)) }
+    ensures { result ≡ (if all_digits (drop 1 line.now) then e else invalid_at line.now) }
 {
     let good = digits::first_other(&line[1..]);
     if good < line.len() - 1 {
-        return Answer::Refused(ReaderError::ContainsInvalidCharacters(digits::name_place(
-            good + 1,
-        )));
+        return ReaderError::ContainsInvalidCharacters(digits::name_place(good + 1));
     }
-    Answer::Refused(e)
+    e
 }
 
 // One line, with a buffer lent.
@@ -235,36 +178,29 @@ fn read_with(buf: &mut [u8], line: &[u8], pool: &mut [u8], at: usize) -> Answer
     requires { 260 ≤ length buf.old }
     ensures { ReadRecord line.now pool.old at result pool.new }
 {
-    let empty = line.len() == 0;
-    if empty {
-        return Answer::Refused(ReaderError::MissingStartCode);
-    }
-    if line[0] != chars::COLON {
-        return Answer::Refused(ReaderError::MissingStartCode);
+    if line.is_empty() || line[0] != chars::COLON {
+        return Err(ReaderError::MissingStartCode);
     }
     let n = line.len() - 1;
     if n < char_counts::FEWEST_DIGITS {
-        return digits_or(line, ReaderError::RecordTooShort);
+        return Err(digits_or(line, ReaderError::RecordTooShort));
     }
     if n > char_counts::MOST_DIGITS {
-        return digits_or(line, ReaderError::RecordTooLong);
+        return Err(digits_or(line, ReaderError::RecordTooLong));
     }
     if n % 2 != 0 {
-        return digits_or(line, ReaderError::RecordNotEvenLength);
+        return Err(digits_or(line, ReaderError::RecordNotEvenLength));
     }
-    let m = n / 2;
-    let scan = digits::decode(&line[1..], buf);
-    let whole = scan.whole;
+    let Scan { whole, sum } = digits::decode(&line[1..], buf);
     if !whole {
         let good = digits::first_other(&line[1..]);
-        return Answer::Refused(ReaderError::ContainsInvalidCharacters(digits::name_place(
-            good + 1,
-        )));
+        return Err(ReaderError::ContainsInvalidCharacters(digits::name_place(good + 1)));
     }
-    judge_bytes(buf, m, scan.sum, pool, at)
+    judge_bytes(buf, n / 2, sum, pool, at)
 }
 
 // One line to a record or a refusal. The payload of a data record goes into the pool at a position.
+// Pool and position are two parameters here and above: the whole pool is lent with each call, and one position can serve many.
 pub fn read_record(line: &[u8], pool: &mut [u8], at: usize) -> Answer
     ensures { ReadRecord line.now pool.old at result pool.new }
 {
@@ -272,28 +208,16 @@ pub fn read_record(line: &[u8], pool: &mut [u8], at: usize) -> Answer
     read_with(&mut buf, line, pool, at)
 }
 
-// Whether a byte is LF: 1 or 0.
-fn is_feed(c: u8) -> u8
-    ensures { result ≡ (if nat_eq c 10 then 1 else 0) }
-{
-    if c == chars::LF {
-        return 1;
-    }
-    0
-}
-
 // False only where no LF is among the sixteen bytes from a place on. There is no exit on the way, so that they can be tested at once.
 fn feed_among(text: &[u8], from: usize) -> bool
     requires { from + 16 ≤ length text.now }
     ensures { result ≡ false → NoFeed text.now from (from + 16) }
 {
-    let mut seen: u8 = 0;
-    let mut k = 0;
-    while k < 16 {
-        seen = seen | is_feed(text[from + k]);
-        k += 1;
+    let mut seen = false;
+    for k in 0..16 {
+        seen |= text[from + k] == chars::LF;
     }
-    seen != 0
+    seen
 }
 
 // The place of the first LF from a place on ahead of which there is none, or the text's length.
@@ -301,14 +225,12 @@ fn feed_from(text: &[u8], from: usize) -> usize
     requires { (from ≤ length text.now) × NoFeed text.now 0 from }
     ensures { FirstFeed text.now result }
 {
-    let mut i = from;
-    while i < text.len() {
+    for i in from..text.len() {
         if text[i] == chars::LF {
             return i;
         }
-        i += 1;
     }
-    i
+    text.len()
 }
 
 // The place of the first LF, or the text's length where there is none.
@@ -316,7 +238,8 @@ fn line_feed(text: &[u8]) -> usize
     ensures { FirstFeed text.now result }
 {
     let mut i = 0;
-    while 16 <= text.len() - i {
+    // A while: each turn passes sixteen bytes.
+    while text.len() - i >= 16 {
         if feed_among(text, i) {
             return feed_from(text, i);
         }
@@ -330,15 +253,8 @@ fn line_len(text: &[u8], feed: usize) -> usize
     requires { FirstFeed text.now feed }
     ensures { LineEnd text.now result }
 {
-    if feed == text.len() {
-        return feed;
-    }
-    if feed == 0 {
-        return feed;
-    }
-    let before = feed - 1;
-    if text[before] == chars::CR {
-        return before;
+    if 0 < feed && feed < text.len() && text[feed - 1] == chars::CR {
+        return feed - 1;
     }
     feed
 }
@@ -348,10 +264,7 @@ fn behind_feed(text: &[u8], feed: usize) -> usize
     requires { FirstFeed text.now feed }
     ensures { result ≡ length text.now - length (rest text.now) }
 {
-    if feed < text.len() {
-        return feed + 1;
-    }
-    feed
+    if feed < text.len() { feed + 1 } else { feed }
 }
 
 // The first line of a text, as a part of it without its line end, and where the rest begins.
@@ -365,27 +278,26 @@ pub fn first_line<'a>(text: &'a [u8], behind: &mut usize) -> &'a [u8]
 }
 
 // The next line from a position on that has a byte.
-fn find_line(text: &[u8], position: usize) -> Spot
+fn find_line(text: &[u8], position: usize) -> Option<Spot>
     ensures { Spotted text.now position result }
 {
     let mut from = position;
     let mut empties = 0;
+    // A while: each turn passes a whole line.
     while from < text.len() {
         let mut n = 0;
         let line = first_line(&text[from..], &mut n);
-        let len = line.len();
-        if len > 0 {
-            return Spot::At {
-                from,
-                len,
-                next: from + n,
-                empties,
-            };
-        }
         from += n;
+        if !line.is_empty() {
+            return Some(Spot {
+                line,
+                next: from,
+                empties,
+            });
+        }
         empties += 1;
     }
-    Spot::Nothing
+    None
 }
 
 // A refusal that has no value.
@@ -437,24 +349,13 @@ impl ReaderError {
     pub fn is_pool_full(self) -> bool
         ensures { IsPoolFull self result }
     {
-        match self {
-            ReaderError::MissingStartCode => false,
-            ReaderError::ContainsInvalidCharacters(_) => false,
-            ReaderError::RecordTooShort => false,
-            ReaderError::RecordTooLong => false,
-            ReaderError::RecordNotEvenLength => false,
-            ReaderError::ChecksumMismatch(_, _) => false,
-            ReaderError::PayloadLengthMismatch => false,
-            ReaderError::UnsupportedRecordType(_) => false,
-            ReaderError::InvalidLengthForType => false,
-            ReaderError::PoolFull => true,
-        }
+        matches!(self, ReaderError::PoolFull)
     }
 }
 
-impl ReaderOptions {
+impl Default for ReaderOptions {
     // Both stops are on.
-    pub fn default() -> ReaderOptions
+    fn default() -> ReaderOptions
         ensures { Default result }
     {
         ReaderOptions {
@@ -462,15 +363,15 @@ impl ReaderOptions {
             stop_after_eof: true,
         }
     }
+}
 
+impl ReaderOptions {
     // Whether a record is the last that is read.
+    #[tactic(auto, unfolding(crate::specs::Text::ends_row))]
     pub fn ends(self, given: Record) -> bool
         ensures { Ends self given result }
     {
-        if given.record_type() == types::END_OF_FILE {
-            return self.stop_after_eof;
-        }
-        false
+        matches!(given, Record::EndOfFile) && self.stop_after_eof
     }
 }
 
@@ -478,34 +379,29 @@ impl ReaderOptions {
 fn settle(s: State, answer: Answer, position: usize, line: usize) -> Replied
     ensures { Settled s (told answer) position line result }
 {
-    let options = s.options;
     match answer {
-        Answer::Read(r) => Replied {
-            reply: Reply::Read(r),
+        Ok(given) => Replied {
+            reply: Some(Ok(given)),
             state: State {
                 position,
                 line,
-                finished: options.ends(r),
-                options,
+                finished: s.options.ends(given),
+                ..s
             },
         },
-        Answer::Refused(e) => {
-            if e.is_pool_full() {
-                return Replied {
-                    reply: Reply::Refused(e),
-                    state: s,
-                };
-            }
-            Replied {
-                reply: Reply::Refused(e),
-                state: State {
-                    position,
-                    line,
-                    finished: options.stop_after_first_error,
-                    options,
-                },
-            }
-        }
+        Err(e) if e.is_pool_full() => Replied {
+            reply: Some(Err(e)),
+            state: s,
+        },
+        Err(e) => Replied {
+            reply: Some(Err(e)),
+            state: State {
+                position,
+                line,
+                finished: s.options.stop_after_first_error,
+                ..s
+            },
+        },
     }
 }
 
@@ -533,12 +429,9 @@ impl State {
     fn at_end(self) -> State
         ensures { result ≡ at_end self }
     {
-        let options = self.options;
         State {
-            position: self.position,
-            line: self.line,
             finished: true,
-            options,
+            ..self
         }
     }
 
@@ -548,27 +441,19 @@ impl State {
     {
         if self.finished {
             return Replied {
-                reply: Reply::Done,
+                reply: None,
                 state: self,
             };
         }
-        match find_line(text, self.position) {
-            Spot::Nothing => Replied {
-                reply: Reply::Done,
+        let Some(spot) = find_line(text, self.position) else {
+            return Replied {
+                reply: None,
                 state: self.at_end(),
-            },
-            Spot::At {
-                from,
-                len,
-                next,
-                empties,
-            } => {
-                let end = from + len;
-                let line = std::num::wrapping_add_usize(self.line, empties + 1);
-                let answer = read_record(&text[from..end], pool, at);
-                settle(self, answer, next, line)
-            }
-        }
+            };
+        };
+        let line = self.line.wrapping_add(spot.empties + 1);
+        let answer = read_record(spot.line, pool, at);
+        settle(self, answer, spot.next, line)
     }
 }
 

@@ -264,7 +264,7 @@ said_same : {position c d : ℕ} {line : List ℕ} {s same : Said} {kind address
     → AnswerToWrong wrong same position c d line s → s ≡ says kind address payload → s ≡ same
 said_same (colon_gone e) q = absurd (never_both q)
 said_same (digit_gone h n) q = absurd (never_both q)
-said_same (other_value h x y g k n ds body stated e s) q = absurd (never_both q)
+said_same (other_value h x y g k n _ body stated e s) q = absurd (never_both q)
 said_same (other_case h i t) q = refl
 
 changed_says : (before : List ℕ) (c d : ℕ) (after : List ℕ) → SaysARecord (before ++ (c ∷ after)) → SaysARecord (before ++ (d ∷ after))

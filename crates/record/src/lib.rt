@@ -18,7 +18,7 @@ pub enum Record {
     StartLinearAddress(u32),
 }
 
-// The number that says a record's type in its line.
+// The number that says a record's type in its line. These are numbers and not an enum: the crate ihex and C have them so.
 pub mod types {
     pub const DATA: u8 = 0x00;
 
@@ -33,7 +33,7 @@ pub mod types {
     pub const START_LINEAR_ADDRESS: u8 = 0x05;
 }
 
-// The number of each refusal.
+// The number of each refusal, by which C and the documents know it.
 pub mod refusals {
     pub const MISSING_START_CODE: u8 = 1;
 
@@ -145,14 +145,10 @@ impl Record {
         ensures { RecordType self result }
     {
         match self {
-            Record::Data {
-                offset: _,
-                at: _,
-                len: _,
-            } => types::DATA,
+            Record::Data { .. } => types::DATA,
             Record::EndOfFile => types::END_OF_FILE,
             Record::ExtendedSegmentAddress(_) => types::EXTENDED_SEGMENT_ADDRESS,
-            Record::StartSegmentAddress { cs: _, ip: _ } => types::START_SEGMENT_ADDRESS,
+            Record::StartSegmentAddress { .. } => types::START_SEGMENT_ADDRESS,
             Record::ExtendedLinearAddress(_) => types::EXTENDED_LINEAR_ADDRESS,
             Record::StartLinearAddress(_) => types::START_LINEAR_ADDRESS,
         }

@@ -51,22 +51,24 @@
 // The number of a refusal is in decimal, and every other number in hexadecimal with capitals. A
 // case that is none of these is answered by `?`. Each case ends in LF, and what a case has beyond
 // 4,096 bytes is dropped.
-ghost use Rattle.std.specs.Prelude.{◌≡◌, ◌≤◌, length};
 
-use light::{Color, Count, Light, Made};
+use light::{Color, Light};
 use query::Asked;
 use reader::{Answer, ReaderError, ReaderOptions, Replied, Reply, Values};
-use record::{Record, chars, refusals, types};
+use record::{Record, chars, refusals};
 use std::io;
 use std::io::Read;
-use steps::{LoaderError, Loading, Start, Tally};
+use steps::{LoaderError, Loading, Refused, Start, Tally};
+use window::Row;
 use writer::{WriterError, Written};
 
 // How many answers of a text are printed at most.
 const MOST_ANSWERS: usize = 40;
 
-// The most numbers of a table in a case: those of 17 windows.
-const MOST_NUMBERS: usize = 68;
+// The most records of an object in a case, and the most windows of a table.
+const MOST_RECORDS: usize = 64;
+
+const MOST_WINDOWS: usize = 17;
 
 // How many numbers of a light stand before its dumps.
 const NUMBERS_OF_LIGHT: usize = 6;
@@ -75,6 +77,11 @@ const NUMBERS_OF_LIGHT: usize = 6;
 const MOST_OF_PAGE: usize = 64;
 
 const MOST_OF_POOL: usize = 4096;
+
+// How many bytes a case has at most, and how many a page, marks or a pool of windows.
+const MOST_OF_CASE: usize = 4096;
+
+const MOST_LENT: usize = 65537;
 
 // What a lent buffer holds in each place before the call.
 const POOL_BYTE: u8 = 0xEE;
@@ -92,65 +99,23 @@ const ADDRESSES: u64 = 4294967296;
 
 const FIFTEEN_DIGITS: u64 = 1152921504606846976;
 
-// Space for a case, for its own bytes or for a payload.
-fn buffer() -> [u8; 4096]
-    ensures { 4096 ≡ length result }
-{
-    [0; 4096]
-}
-
-// Space for the digits of 32,768 bytes.
-fn large_buffer() -> [u8; 65536]
-    ensures { 65536 ≡ length result }
-{
-    [0; 65536]
-}
-
 // The first n bytes, or all where there are fewer.
 fn front(s: &[u8], n: usize) -> &[u8] {
-    if n <= s.len() {
-        return &s[0..n];
-    }
-    s
+    &s[..n.min(s.len())]
+}
+
+// What stands behind the first n bytes.
+fn behind(s: &[u8], n: usize) -> &[u8] {
+    &s[n.min(s.len())..]
 }
 
 fn say_char(rt: &impl Print, c: u8) -> io::Result<()> {
     rt.write_all(&[c])
 }
 
-// Prints digits, in capitals.
-fn say_digits(rt: &impl Print, text: &[u8]) -> io::Result<()> {
-    let mut i = 0;
-    while i < text.len() {
-        say_char(rt, digits::capital_digit(digits::digit_value(text[i])))?;
-        i += 1;
-    }
-    Ok(())
-}
-
-// Where the digits of a number begin that are printed: behind the zeros in front, but for the last `width` digits, and the last.
-fn first_digit(text: &[u8], width: usize) -> usize
-    ensures { result ≤ length text.now }
-{
-    let mut i = 0;
-    while i + 1 < text.len() {
-        if text.len() - i <= width {
-            break;
-        }
-        if text[i] != b'0' {
-            break;
-        }
-        i += 1;
-    }
-    i
-}
-
 // Prints a number with at least so many digits.
 fn say_number(rt: &impl Print, x: u64, width: usize) -> io::Result<()> {
-    let mut text = [0u8; 16];
-    digits::spell(&x.to_be_bytes(), 0, &mut text);
-    let k = first_digit(&text, width);
-    say_digits(rt, &text[k..])
+    print!(rt; "{x:0width$X}")
 }
 
 // Prints a character, and then a number.
@@ -161,31 +126,19 @@ fn say_field(rt: &impl Print, mark: u8, x: u64, width: usize) -> io::Result<()> 
 
 // Prints the digits of bytes.
 fn say_spelt(rt: &impl Print, bytes: &[u8]) -> io::Result<()> {
-    let mut text = large_buffer();
+    let mut text = [0; 65536];
     digits::spell(bytes, 0, &mut text);
-    rt.write_all(front(
-        &text,
-        std::num::wrapping_add_usize(bytes.len(), bytes.len()),
-    ))
+    rt.write_all(front(&text, bytes.len().saturating_mul(2)))
 }
 
-// Prints a run of equal bytes that ends before a place: the byte, and the place. Nothing where the run goes on there.
-fn say_run(rt: &impl Print, bytes: &[u8], b: u8, next: usize) -> io::Result<()> {
-    if next < bytes.len() {
-        if bytes[next] == b {
-            return Ok(());
-        }
-    }
-    say_field(rt, b' ', b as u64, 2)?;
-    say_field(rt, b'<', next as u64, 1)
-}
-
+// Prints each run of equal bytes: the byte, and the place where the run ends.
 fn say_runs(rt: &impl Print, bytes: &[u8]) -> io::Result<()> {
-    let mut i = 0;
-    while i < bytes.len() {
-        let b = bytes[i];
-        i += 1;
-        say_run(rt, bytes, b, i)?;
+    for (i, b) in bytes.iter().enumerate() {
+        let next = i + 1;
+        if bytes.get(next) != Some(b) {
+            say_field(rt, b' ', u64::from(*b), 2)?;
+            say_field(rt, b'<', next as u64, 1)?;
+        }
     }
     Ok(())
 }
@@ -201,135 +154,126 @@ fn say_buffer(rt: &impl Print, bytes: &[u8], most: usize) -> io::Result<()> {
     say_spelt(rt, bytes)
 }
 
-// `D` with offset, position and length, `E`, or `X` with the type and the payload.
-fn say_record(rt: &impl Print, r: Record) -> io::Result<()> {
-    let kind = r.record_type();
-    if kind == types::END_OF_FILE {
-        return say_char(rt, b'E');
-    }
-    if kind != types::DATA {
-        say_field(rt, b'X', kind as u64, 1)?;
-    }
-    say_values(rt, r)
+// `X` with the type of a record, and its payload with so many digits.
+fn say_payload(rt: &impl Print, r: Record, payload: u64, width: usize) -> io::Result<()> {
+    say_field(rt, b'X', u64::from(r.record_type()), 1)?;
+    say_field(rt, b' ', payload, width)
 }
 
-// `D` with the offset, position and length of data, or the payload of types 02 to 05.
-fn say_values(rt: &impl Print, r: Record) -> io::Result<()> {
+// `D` with offset, position and length, `E`, or `X` with the type and the payload.
+fn say_record(rt: &impl Print, r: Record) -> io::Result<()> {
     match r {
         Record::Data { offset, at, len } => {
             say_char(rt, b'D')?;
-            say_field(rt, b' ', offset as u64, 4)?;
+            say_field(rt, b' ', u64::from(offset), 4)?;
             say_field(rt, b' ', at as u64, 1)?;
             say_field(rt, b' ', len as u64, 1)
         }
-        Record::EndOfFile => Ok(()),
-        Record::ExtendedSegmentAddress(a) => say_field(rt, b' ', a as u64, 4),
-        Record::StartSegmentAddress { cs, ip } => {
-            say_field(rt, b' ', (cs as u64) * 65536 + (ip as u64), 8)
+        Record::EndOfFile => say_char(rt, b'E'),
+        Record::ExtendedSegmentAddress(a) | Record::ExtendedLinearAddress(a) => {
+            say_payload(rt, r, u64::from(a), 4)
         }
-        Record::ExtendedLinearAddress(a) => say_field(rt, b' ', a as u64, 4),
-        Record::StartLinearAddress(a) => say_field(rt, b' ', a as u64, 8),
+        Record::StartSegmentAddress { cs, ip } => {
+            say_payload(rt, r, u64::from(cs) * WORDS + u64::from(ip), 8)
+        }
+        Record::StartLinearAddress(a) => say_payload(rt, r, u64::from(a), 8),
     }
 }
 
-// `!`, the number of a refusal in decimal, and its value with at least so many digits; no value where that is 0.
-fn say_refused(rt: &impl Print, number: u8, x: u64, width: usize) -> io::Result<()> {
-    say_char(rt, b'!')?;
-    say_char(rt, b' ')?;
-    print!(rt; "{number}")?;
-    if width > 0 {
-        say_field(rt, b' ', x, width)?;
-    }
-    Ok(())
+// `!` and the number of a refusal in decimal.
+fn say_refused(rt: &impl Print, number: u8) -> io::Result<()> {
+    print!(rt; "! {number}")
+}
+
+// The same, with a value in at least so many digits.
+fn say_refused_at(rt: &impl Print, number: u8, x: u64, width: usize) -> io::Result<()> {
+    say_refused(rt, number)?;
+    say_field(rt, b' ', x, width)
 }
 
 // A refusal of a line: its number, and its values.
 fn say_refusal(rt: &impl Print, e: ReaderError) -> io::Result<()> {
     let figures = e.figures();
-    let number = figures.number;
-    let values = figures.values;
-    match values {
-        Values::Nothing => say_refused(rt, number, 0, 0),
-        Values::Position(place) => say_refused(rt, number, place as u64, 4),
-        Values::Byte(byte) => say_refused(rt, number, byte as u64, 2),
+    say_refused(rt, figures.number)?;
+    match figures.values {
+        Values::Nothing => Ok(()),
+        Values::Position(place) => say_field(rt, b' ', u64::from(place), 4),
+        Values::Byte(byte) => say_field(rt, b' ', u64::from(byte), 2),
         Values::Bytes(first, second) => {
-            say_refused(rt, number, first as u64, 2)?;
-            say_field(rt, b' ', second as u64, 2)
+            say_field(rt, b' ', u64::from(first), 2)?;
+            say_field(rt, b' ', u64::from(second), 2)
         }
     }
 }
 
-// A number, and where the text goes on after it and the character that ended it.
-#[derive(Clone, Copy)]
-struct Spelt {
-    value: u64,
-    next: usize,
-}
-
-// The number that stands at a place; what does not fit 64 bits is lost.
-fn read_number(text: &[u8], from: usize) -> Spelt {
+// The number at the front, and what stands behind the character that ends it; what does not fit 64 bits is lost.
+fn read_number(text: &[u8]) -> (u64, &[u8]) {
     let mut value: u64 = 0;
-    let mut i = from;
-    while i < text.len() {
-        let d = digits::digit_value(text[i]);
-        i += 1;
+    for (i, c) in text.iter().enumerate() {
+        let d = digits::digit_value(*c);
         if d > 15 {
-            break;
+            return (value, &text[i + 1..]);
         }
-        value = (value % FIFTEEN_DIGITS) * 16 + (d as u64);
+        value = value % FIFTEEN_DIGITS * 16 + u64::from(d);
     }
-    Spelt { value, next: i }
+    (value, &text[text.len()..])
 }
 
-// Stores the bytes that the digits from a place on spell, and answers how many.
-fn unspell(text: &[u8], from: usize, bytes: &mut [u8]) -> usize {
-    if from > text.len() {
-        return 0;
-    }
-    let spelt = &text[from..];
-    digits::decode(spelt, bytes);
-    digits::first_other(spelt) / 2
+// Stores the bytes that the digits at the front spell, and answers how many.
+fn unspell(text: &[u8], bytes: &mut [u8]) -> usize {
+    digits::decode(text, bytes);
+    digits::first_other(text) / 2
 }
 
-fn say_checksum(rt: &impl Print, bytes: &[u8]) -> io::Result<()> {
-    let sum = checksum::checksum(bytes);
-    say_number(rt, sum as u64, 2)
-}
-
-fn preset(bytes: &mut [u8], b: u8) {
-    let mut i = 0;
-    while i < bytes.len() {
-        bytes[i] = b;
-        i += 1;
+// Lends the first n places of a buffer; nothing where it has fewer.
+fn lend(space: &mut [u8], n: u64) -> Option<&mut [u8]> {
+    if n > space.len() as u64 {
+        return None;
     }
+    Some(&mut space[..n as usize])
 }
 
 fn say_answer(rt: &impl Print, a: Answer) -> io::Result<()> {
     match a {
-        Answer::Read(r) => say_record(rt, r),
-        Answer::Refused(e) => say_refusal(rt, e),
+        Ok(r) => say_record(rt, r),
+        Err(e) => say_refusal(rt, e),
     }
 }
 
-fn read_line(rt: &impl Print, line: &[u8], pool: &mut [u8], at: usize) -> io::Result<()> {
-    let a = reader::read_record(line, pool, at);
-    say_answer(rt, a)?;
+// `C BYTES`
+fn checksum_case(rt: &impl Print, text: &[u8]) -> io::Result<()> {
+    let mut space = [0; MOST_OF_CASE];
+    let k = unspell(text, &mut space);
+    say_number(rt, u64::from(checksum::checksum(front(&space, k))), 2)
+}
+
+// `L POOL POSITION BYTES`
+fn line_case(rt: &impl Print, text: &[u8]) -> io::Result<()> {
+    let (size, text) = read_number(text);
+    let (at, text) = read_number(text);
+    let mut space = [0; MOST_OF_CASE];
+    let k = unspell(text, &mut space);
+    let mut room = [POOL_BYTE; MOST_OF_POOL];
+    let Some(pool) = lend(&mut room, size) else {
+        return say_char(rt, b'?');
+    };
+    say_answer(rt, reader::read_record(front(&space, k), pool, at as usize))?;
     say_buffer(rt, pool, MOST_OF_POOL)
 }
 
 // Prints a reply, and answers whether the row goes on after it.
 fn say_reply(rt: &impl Print, reply: Reply) -> io::Result<bool> {
     match reply {
-        Reply::Read(r) => {
+        Some(Ok(r)) => {
             say_record(rt, r)?;
             Ok(true)
         }
-        Reply::Refused(e) => {
+        Some(Err(e)) => {
             say_refusal(rt, e)?;
             Ok(!e.is_pool_full())
         }
-        Reply::Done => {
-            rt.write_all(b"done")?;
+        None => {
+            say_word(rt, b"done")?;
             Ok(false)
         }
     }
@@ -343,10 +287,8 @@ fn say_line(rt: &impl Print, line: usize) -> io::Result<()> {
 
 // Prints a reply and how many lines the reader has passed then, and answers whether the row goes on.
 fn say_step(rt: &impl Print, step: Replied) -> io::Result<bool> {
-    let reply = step.reply;
-    let state = step.state;
-    let more = say_reply(rt, reply)?;
-    say_line(rt, state.line)?;
+    let more = say_reply(rt, step.reply)?;
+    say_line(rt, step.state.line)?;
     Ok(more)
 }
 
@@ -358,7 +300,7 @@ fn say_nth(
     options: ReaderOptions,
     n: usize,
 ) -> io::Result<bool> {
-    preset(pool, POOL_BYTE);
+    pool.fill(POOL_BYTE);
     let step = lent::nth_of(text, options, pool, 0, n);
     let more = say_step(rt, step)?;
     say_buffer(rt, pool, MOST_OF_POOL)?;
@@ -374,12 +316,10 @@ fn say_row(
     pool: &mut [u8],
     options: ReaderOptions,
 ) -> io::Result<usize> {
-    let mut n = 0;
-    while n < MOST_ANSWERS {
+    for n in 0..MOST_ANSWERS {
         if !say_nth(rt, text, pool, options, n)? {
             return Ok(n);
         }
-        n += 1;
     }
     Ok(MOST_ANSWERS - 1)
 }
@@ -393,9 +333,8 @@ fn read_more(
     n: usize,
 ) -> io::Result<()> {
     let last = lent::nth_of(text, options, pool, 0, n);
-    let state = last.state;
-    let mut much = buffer();
-    let step = lent::next_of(text, state, &mut much, 0);
+    let mut much = [0; MOST_OF_POOL];
+    let step = lent::next_of(text, last.state, &mut much, 0);
     say_step(rt, step)?;
     Ok(())
 }
@@ -407,7 +346,7 @@ fn read_first(rt: &impl Print, text: &[u8], pool: &mut [u8]) -> io::Result<()> {
 }
 
 // The answers of a text with the stops that the flags name, or the first one alone.
-fn read_text(rt: &impl Print, text: &[u8], pool: &mut [u8], flags: usize) -> io::Result<()> {
+fn read_text(rt: &impl Print, text: &[u8], pool: &mut [u8], flags: u64) -> io::Result<()> {
     if flags / 4 % 2 == 1 {
         return read_first(rt, text, pool);
     }
@@ -417,6 +356,19 @@ fn read_text(rt: &impl Print, text: &[u8], pool: &mut [u8], flags: usize) -> io:
     };
     let n = say_row(rt, text, pool, options)?;
     read_more(rt, text, pool, options, n)
+}
+
+// `T FLAGS POOL BYTES`
+fn text_case(rt: &impl Print, text: &[u8]) -> io::Result<()> {
+    let (flags, text) = read_number(text);
+    let (size, text) = read_number(text);
+    let mut space = [0; MOST_OF_CASE];
+    let k = unspell(text, &mut space);
+    let mut room = [POOL_BYTE; MOST_OF_POOL];
+    let Some(pool) = lend(&mut room, size) else {
+        return say_char(rt, b'?');
+    };
+    read_text(rt, front(&space, k), pool, flags)
 }
 
 // The record of a type, its numbers, and the place of its payload.
@@ -439,56 +391,34 @@ fn record_of(kind: u64, x: u64, second: u64, at: usize, len: usize) -> Record {
     }
 }
 
-// A record, and where the text goes on after it.
-#[derive(Clone, Copy)]
-struct Given {
-    record: Record,
-    next: usize,
-}
-
-fn record_at(text: &[u8], from: usize) -> Given {
-    let kind = read_number(text, from);
-    let x = read_number(text, kind.next);
-    let second = read_number(text, x.next);
-    let at = read_number(text, second.next);
-    let len = read_number(text, at.next);
-    let record = record_of(
-        kind.value,
-        x.value,
-        second.value,
-        at.value as usize,
-        len.value as usize,
-    );
-    Given {
-        record,
-        next: len.next,
-    }
+// The record at the front, and what stands behind it.
+fn read_record(text: &[u8]) -> (Record, &[u8]) {
+    let (kind, text) = read_number(text);
+    let (x, text) = read_number(text);
+    let (second, text) = read_number(text);
+    let (at, text) = read_number(text);
+    let (len, text) = read_number(text);
+    let given = record_of(kind, x, second, at as usize, len as usize);
+    (given, text)
 }
 
 fn say_written(rt: &impl Print, w: Written) -> io::Result<()> {
     match w {
-        Written::Wrote(n) => {
+        Ok(n) => {
             say_char(rt, b'W')?;
             say_field(rt, b' ', n as u64, 1)
         }
-        Written::Refused(e) => match e {
-            WriterError::PayloadOutsidePool => say_refused(
-                rt,
-                refusals::PAYLOAD_OUTSIDE_POOL,
-                0,
-                0,
-            ),
-            WriterError::DataExceedsMaximumLength(n) => {
-                say_refused(rt, refusals::DATA_EXCEEDS_MAXIMUM_LENGTH, n as u64, 1)
-            }
-            WriterError::MissingEndOfFileRecord => {
-                say_refused(rt, refusals::MISSING_END_OF_FILE_RECORD, 0, 0)
-            }
-            WriterError::MultipleEndOfFileRecords(n) => {
-                say_refused(rt, refusals::MULTIPLE_END_OF_FILE_RECORDS, n as u64, 1)
-            }
-            WriterError::OutputFull => say_refused(rt, refusals::OUTPUT_FULL, 0, 0),
-        },
+        Err(WriterError::PayloadOutsidePool) => say_refused(rt, refusals::PAYLOAD_OUTSIDE_POOL),
+        Err(WriterError::DataExceedsMaximumLength(n)) => {
+            say_refused_at(rt, refusals::DATA_EXCEEDS_MAXIMUM_LENGTH, n as u64, 1)
+        }
+        Err(WriterError::MissingEndOfFileRecord) => {
+            say_refused(rt, refusals::MISSING_END_OF_FILE_RECORD)
+        }
+        Err(WriterError::MultipleEndOfFileRecords(n)) => {
+            say_refused_at(rt, refusals::MULTIPLE_END_OF_FILE_RECORDS, n as u64, 1)
+        }
+        Err(WriterError::OutputFull) => say_refused(rt, refusals::OUTPUT_FULL),
     }
 }
 
@@ -498,47 +428,52 @@ fn say_output(rt: &impl Print, w: Written, out: &[u8]) -> io::Result<()> {
     say_buffer(rt, out, MOST_OF_POOL)
 }
 
-// The line of the record that a case begins with.
-fn write_line(rt: &impl Print, text: &[u8], pool: &[u8], out: &mut [u8]) -> io::Result<()> {
-    let g = record_at(text, 2);
-    let r = g.record;
-    let w = writer::to_record_string(r, pool, out);
+// `W RECORD OUT BYTES`
+fn record_case(rt: &impl Print, text: &[u8]) -> io::Result<()> {
+    let (given, text) = read_record(text);
+    let (size, text) = read_number(text);
+    let mut space = [0; MOST_OF_CASE];
+    let k = unspell(text, &mut space);
+    let mut room = [OUTPUT_BYTE; MOST_OF_POOL];
+    let Some(out) = lend(&mut room, size) else {
+        return say_char(rt, b'?');
+    };
+    let w = writer::to_record_string(given, front(&space, k), out);
     say_output(rt, w, out)
 }
 
-// The object of the records from a place on, as a lent list. A case has at most 64 of them.
-fn write_object(
-    rt: &impl Print,
-    text: &[u8],
-    from: usize,
-    pool: &[u8],
-    out: &mut [u8],
-) -> io::Result<()> {
-    let mut records = [Record::EndOfFile; 64];
+// The object of the records of a text, as a lent list.
+fn write_object(rt: &impl Print, text: &[u8], pool: &[u8], out: &mut [u8]) -> io::Result<()> {
+    let mut records = [Record::EndOfFile; MOST_RECORDS];
     let mut n = 0;
-    let mut i = from;
-    while n < 64 {
-        if i >= text.len() {
+    let mut rest = text;
+    for slot in records.iter_mut() {
+        if rest.is_empty() {
             break;
         }
-        let g = record_at(text, i);
-        let r = g.record;
-        records[n] = r;
-        i = g.next;
+        let (given, more) = read_record(rest);
+        *slot = given;
+        rest = more;
         n += 1;
     }
-    if i < text.len() {
+    if !rest.is_empty() {
         return say_char(rt, b'?');
     }
     let w = lent::object_of(records, n, pool, out);
     say_output(rt, w, out)
 }
 
-// More space than a page may have, with one byte in each place.
-fn filled(b: u8) -> [u8; 65537]
-    ensures { 65537 ≡ length result }
-{
-    [b; 65537]
+// `O OUT BYTES RECORD RECORD ..`
+fn object_case(rt: &impl Print, text: &[u8]) -> io::Result<()> {
+    let (size, text) = read_number(text);
+    let mut space = [0; MOST_OF_CASE];
+    let k = unspell(text, &mut space);
+    let (_, records) = read_number(text);
+    let mut room = [OUTPUT_BYTE; MOST_OF_POOL];
+    let Some(out) = lend(&mut room, size) else {
+        return say_char(rt, b'?');
+    };
+    write_object(rt, records, front(&space, k), out)
 }
 
 // A start as the record that states it in Intel HEX.
@@ -548,39 +483,40 @@ fn say_start(rt: &impl Print, r: Record) -> io::Result<()> {
 }
 
 fn say_tally(rt: &impl Print, tally: Tally) -> io::Result<()> {
-    let start = tally.start;
     say_char(rt, b'A')?;
     say_field(rt, b' ', tally.records as u64, 1)?;
-    match start {
-        Start::Unstated => Ok(()),
-        Start::Segment { cs, ip } => say_start(rt, Record::StartSegmentAddress { cs, ip }),
-        Start::Linear(address) => say_start(rt, Record::StartLinearAddress(address)),
+    match tally.start {
+        None => Ok(()),
+        Some(Start::Segment { cs, ip }) => say_start(rt, Record::StartSegmentAddress { cs, ip }),
+        Some(Start::Linear(address)) => say_start(rt, Record::StartLinearAddress(address)),
     }
 }
 
 // A refusal of a text, and the number of its line.
-fn say_stop(rt: &impl Print, e: LoaderError, line: usize) -> io::Result<()> {
-    match e {
+fn say_stop(rt: &impl Print, refused: Refused) -> io::Result<()> {
+    match refused.why {
         LoaderError::Line(why) => say_refusal(rt, why)?,
         LoaderError::MissingEndOfFileRecord => {
-            say_refused(rt, refusals::MISSING_END_OF_FILE_RECORD, 0, 0)?
+            say_refused(rt, refusals::MISSING_END_OF_FILE_RECORD)?
         }
-        LoaderError::BadWindow => say_refused(rt, refusals::BAD_WINDOW, 0, 0)?,
-        LoaderError::OutsideWindow(a) => say_refused(rt, refusals::OUTSIDE_WINDOW, a as u64, 8)?,
+        LoaderError::BadWindow => say_refused(rt, refusals::BAD_WINDOW)?,
+        LoaderError::OutsideWindow(a) => {
+            say_refused_at(rt, refusals::OUTSIDE_WINDOW, u64::from(a), 8)?
+        }
         LoaderError::CountMismatch(stated, seen) => {
-            say_refused(rt, refusals::COUNT_MISMATCH, stated as u64, 1)?;
+            say_refused_at(rt, refusals::COUNT_MISMATCH, stated as u64, 1)?;
             say_field(rt, b' ', seen as u64, 1)?
         }
-        LoaderError::StartConflict => say_refused(rt, refusals::START_CONFLICT, 0, 0)?,
-        LoaderError::BadTable => say_refused(rt, refusals::BAD_TABLE, 0, 0)?,
+        LoaderError::StartConflict => say_refused(rt, refusals::START_CONFLICT)?,
+        LoaderError::BadTable => say_refused(rt, refusals::BAD_TABLE)?,
     }
-    say_line(rt, line)
+    say_line(rt, refused.line)
 }
 
 fn say_loading(rt: &impl Print, l: Loading) -> io::Result<()> {
     match l {
-        Loading::Accepted(tally) => say_tally(rt, tally),
-        Loading::Refused(e, line) => say_stop(rt, e, line),
+        Ok(tally) => say_tally(rt, tally),
+        Err(refused) => say_stop(rt, refused),
     }
 }
 
@@ -591,44 +527,88 @@ fn say_loaded(rt: &impl Print, l: Loading, page: &[u8], marks: &[u8]) -> io::Res
     say_buffer(rt, marks, MOST_OF_PAGE)
 }
 
-fn load(
-    rt: &impl Print,
-    text: &[u8],
-    first: u32,
-    page: &mut [u8],
-    marks: &mut [u8],
-) -> io::Result<()> {
-    let l = loader::load(text, first, page, marks);
+// `M FIRST PAGE MARKS BYTES`
+fn load_case(rt: &impl Print, text: &[u8]) -> io::Result<()> {
+    let (first, text) = read_number(text);
+    let (size, text) = read_number(text);
+    let (row, text) = read_number(text);
+    let mut space = [0; MOST_OF_CASE];
+    let k = unspell(text, &mut space);
+    let mut room = [PAGE_BYTE; MOST_LENT];
+    let mut marked = [MARKS_BYTE; MOST_LENT];
+    let (Some(page), Some(marks)) = (lend(&mut room, size), lend(&mut marked, row)) else {
+        return say_char(rt, b'?');
+    };
+    let l = loader::load(front(&space, k), (first % ADDRESSES) as u32, page, marks);
     say_loaded(rt, l, page, marks)
 }
 
-// Loads for an owner through the table whose numbers stand from a place on, four a window. A case has at most 17 windows.
+// The window at the front, and what stands behind it; none where fewer than four numbers stand there.
+fn read_row(text: &[u8]) -> (Option<Row>, &[u8]) {
+    let (owner, text) = read_number(text);
+    let (first, text) = read_number(text);
+    let (size, text) = read_number(text);
+    if text.is_empty() {
+        return (None, text);
+    }
+    let (place, text) = read_number(text);
+    let row = Row {
+        owner: owner as usize,
+        first: first as usize,
+        size: size as usize,
+        place: place as usize,
+    };
+    (Some(row), text)
+}
+
+// Loads for an owner through the table of the windows of a text.
 fn load_through(
     rt: &impl Print,
-    text: &[u8],
-    from: usize,
+    windows: &[u8],
     bytes: &[u8],
     owner: usize,
     pool: &mut [u8],
     marks: &mut [u8],
 ) -> io::Result<()> {
-    let mut numbers = [0usize; MOST_NUMBERS];
+    let none = Row {
+        owner: 0,
+        first: 0,
+        size: 0,
+        place: 0,
+    };
+    let mut rows = [none; MOST_WINDOWS];
     let mut n = 0;
-    let mut i = from;
-    while n < MOST_NUMBERS {
-        if i >= text.len() {
+    let mut rest = windows;
+    for slot in rows.iter_mut() {
+        let (row, more) = read_row(rest);
+        rest = more;
+        let Some(row) = row else {
             break;
-        }
-        let x = read_number(text, i);
-        numbers[n] = x.value as usize;
-        i = x.next;
+        };
+        *slot = row;
         n += 1;
     }
-    if i < text.len() {
+    if !rest.is_empty() {
         return say_char(rt, b'?');
     }
-    let l = loader::load_table(bytes, owner, &numbers[..n], pool, marks);
+    let l = loader::load_table(bytes, owner, &rows[..n], pool, marks);
     say_loaded(rt, l, pool, marks)
+}
+
+// `N OWNER POOL MARKS BYTES WINDOW WINDOW ..`
+fn table_case(rt: &impl Print, text: &[u8]) -> io::Result<()> {
+    let (owner, text) = read_number(text);
+    let (size, text) = read_number(text);
+    let (row, text) = read_number(text);
+    let mut space = [0; MOST_OF_CASE];
+    let k = unspell(text, &mut space);
+    let (_, windows) = read_number(text);
+    let mut room = [PAGE_BYTE; MOST_LENT];
+    let mut marked = [MARKS_BYTE; MOST_LENT];
+    let (Some(pool), Some(marks)) = (lend(&mut room, size), lend(&mut marked, row)) else {
+        return say_char(rt, b'?');
+    };
+    load_through(rt, windows, front(&space, k), owner as usize, pool, marks)
 }
 
 fn say_word(rt: &impl Print, word: &[u8]) -> io::Result<()> {
@@ -646,300 +626,138 @@ fn say_color(rt: &impl Print, color: Color) -> io::Result<()> {
     }
 }
 
-fn say_count(rt: &impl Print, count: Count) -> io::Result<()> {
+fn say_count(rt: &impl Print, count: Option<u16>) -> io::Result<()> {
     match count {
-        Count::Unknown => say_char(rt, b'-'),
-        Count::Known(x) => say_number(rt, x as u64, 4),
+        None => say_char(rt, b'-'),
+        Some(x) => say_number(rt, u64::from(x), 4),
     }
 }
 
-// Runs the dump whose bytes begin at a position, prints what it comes to, and returns the light after it.
+// Runs the dump whose bytes stand at the front, prints what it comes to, and returns the light after it.
 fn say_dump(
     rt: &impl Print,
     text: &[u8],
-    from: usize,
     light: Light,
     page: &mut [u8],
     marks: &mut [u8],
 ) -> io::Result<Light> {
-    let mut bytes = buffer();
-    let k = unspell(text, from, &mut bytes);
-    let d = light.dump(front(&bytes, k), page, marks);
-    let color = d.color;
-    let answer = d.answer;
-    let after = d.light;
-    let known = after.known;
-    say_color(rt, color)?;
+    let mut space = [0; MOST_OF_CASE];
+    let k = unspell(text, &mut space);
+    let d = light.dump(front(&space, k), page, marks);
+    say_color(rt, d.color)?;
     say_char(rt, b' ')?;
-    say_count(rt, known)?;
+    say_count(rt, d.light.known)?;
     say_char(rt, b' ')?;
-    say_loading(rt, answer)?;
-    Ok(after)
+    say_loading(rt, d.answer)?;
+    Ok(d.light)
 }
 
 // How many words of digits follow the letter of a case, with one space before each; 0 if any other byte is among them.
 fn count_words(text: &[u8]) -> usize {
-    if text.len() < 2 {
+    let [_, b' ', words @ ..] = text else {
         return 0;
-    }
-    if text[1] != b' ' {
-        return 0;
-    }
-    let mut n = 1;
-    let mut i = 2;
-    while i < text.len() {
-        let b = text[i];
-        i += 1;
-        if b == b' ' {
-            n += 1;
-            continue;
-        }
-        if digits::digit_value(b) > 15 {
+    };
+    let mut n: usize = 1;
+    for c in words {
+        if *c == b' ' {
+            n = n.saturating_add(1);
+        } else if digits::digit_value(*c) > 15 {
             return 0;
         }
     }
     n
 }
 
-// Runs the dumps of a case, the first of which begins at a position.
+// Runs so many dumps, whose bytes stand one after the other.
 fn say_dumps(
     rt: &impl Print,
     text: &[u8],
-    from: usize,
+    dumps: usize,
     made: Light,
     page: &mut [u8],
     marks: &mut [u8],
 ) -> io::Result<()> {
-    let words = count_words(text);
     let mut light = made;
-    let mut n = NUMBERS_OF_LIGHT;
-    let mut i = from;
-    while n < words {
-        light = say_dump(rt, text, i, light, page, marks)?;
-        let word = read_number(text, i);
-        i = word.next;
-        n += 1;
-        if n < words {
+    let mut rest = text;
+    for n in 0..dumps {
+        if n > 0 {
             say_word(rt, b"; ")?;
         }
+        light = say_dump(rt, rest, light, page, marks)?;
+        rest = read_number(rest).1;
     }
     Ok(())
 }
 
-// Sets up the light of a case and runs its dumps, the first of which begins at a position.
-fn light_up(
-    rt: &impl Print,
-    text: &[u8],
-    from: usize,
-    page: &mut [u8],
-    marks: &mut [u8],
-) -> io::Result<()> {
-    let first = read_number(text, 2);
-    let length = read_number(text, first.next);
-    let high = read_number(text, length.next);
-    let low = read_number(text, high.next);
-    let made = light::set_up(
-        (first.value % ADDRESSES) as u32,
-        length.value as usize,
-        high.value as usize,
-        low.value as usize,
-    );
-    match made {
-        Made::BadPlace => say_refused(rt, refusals::BAD_PLACE, 0, 0),
-        Made::Light(light) => {
-            say_dumps(rt, text, from, light, page, marks)?;
-            say_buffer(rt, page, MOST_OF_PAGE)?;
-            say_buffer(rt, marks, MOST_OF_PAGE)
-        }
-    }
+// The light that four numbers set up, and what stands behind them.
+fn read_light(text: &[u8]) -> (Option<Light>, &[u8]) {
+    let (first, text) = read_number(text);
+    let (length, text) = read_number(text);
+    let (high, text) = read_number(text);
+    let (low, text) = read_number(text);
+    let first = (first % ADDRESSES) as u32;
+    let made = light::set_up(first, length as usize, high as usize, low as usize);
+    (made, text)
 }
 
-// Runs a case of M, N or K on the page and the marks that it lends. Its first text begins at a position.
-fn load_as(
-    rt: &impl Print,
-    kind: u8,
-    text: &[u8],
-    from: usize,
-    bytes: &[u8],
-    page: &mut [u8],
-    marks: &mut [u8],
-) -> io::Result<()> {
-    if kind == b'K' {
-        return light_up(rt, text, from, page, marks);
-    }
-    let first = read_number(text, 2);
-    if kind == b'N' {
-        let word = read_number(text, from);
-        return load_through(
-            rt,
-            text,
-            word.next,
-            bytes,
-            first.value as usize,
-            page,
-            marks,
-        );
-    }
-    load(rt, bytes, (first.value % ADDRESSES) as u32, page, marks)
-}
-
-// Lends marks to a case of M, N or K; their size is the number at `x`.
-fn lend_marks(
-    rt: &impl Print,
-    kind: u8,
-    text: &[u8],
-    bytes: &[u8],
-    page: &mut [u8],
-    x: usize,
-) -> io::Result<()> {
-    let row = read_number(text, x);
-    let n = row.value as usize;
-    let mut space = filled(MARKS_BYTE);
-    let marks: &mut [u8] = &mut space;
-    if n > marks.len() {
+// `K FIRST LENGTH HIGH LOW PAGE MARKS BYTES BYTES ..`, of so many words.
+fn light_case(rt: &impl Print, text: &[u8], words: usize) -> io::Result<()> {
+    if words <= NUMBERS_OF_LIGHT {
         return say_char(rt, b'?');
     }
-    load_as(rt, kind, text, row.next, bytes, page, &mut marks[0..n])
+    let (made, text) = read_light(text);
+    let (size, text) = read_number(text);
+    let (row, text) = read_number(text);
+    let mut room = [PAGE_BYTE; MOST_LENT];
+    let mut marked = [MARKS_BYTE; MOST_LENT];
+    let (Some(page), Some(marks)) = (lend(&mut room, size), lend(&mut marked, row)) else {
+        return say_char(rt, b'?');
+    };
+    let Some(light) = made else {
+        return say_refused(rt, refusals::BAD_PLACE);
+    };
+    say_dumps(rt, text, words - NUMBERS_OF_LIGHT, light, page, marks)?;
+    say_buffer(rt, page, MOST_OF_PAGE)?;
+    say_buffer(rt, marks, MOST_OF_PAGE)
 }
 
 fn say_asked(rt: &impl Print, a: Asked) -> io::Result<()> {
     match a {
-        Asked::States(byte) => {
+        Ok(Some(byte)) => {
             say_char(rt, b'B')?;
-            say_field(rt, b' ', byte as u64, 2)
+            say_field(rt, b' ', u64::from(byte), 2)
         }
-        Asked::NotStated => rt.write_all(b"none"),
-        Asked::Refused(e, line) => say_stop(rt, e, line),
+        Ok(None) => say_word(rt, b"none"),
+        Err(refused) => say_stop(rt, refused),
     }
 }
 
-// Asks the text whose bytes stand at `from` for the byte at an address.
-fn ask_case(rt: &impl Print, text: &[u8], address: u32, from: usize) -> io::Result<()> {
-    let mut bytes = buffer();
-    let k = unspell(text, from, &mut bytes);
-    let a = query::ask(front(&bytes, k), address);
+// `Q ADDRESS BYTES`
+fn ask_case(rt: &impl Print, text: &[u8]) -> io::Result<()> {
+    let (address, text) = read_number(text);
+    let mut space = [0; MOST_OF_CASE];
+    let k = unspell(text, &mut space);
+    let a = query::ask(front(&space, k), (address % ADDRESSES) as u32);
     say_asked(rt, a)
-}
-
-// Whether a case lends a page, and marks with it.
-fn has_page(kind: u8) -> bool {
-    match kind {
-        b'M' => true,
-        b'N' => true,
-        b'K' => true,
-        _ => false,
-    }
-}
-
-// Runs a case on the buffer that it lends; only a page may have more than 4,096 bytes. `x` is the position of L, the flags of T, where the records
-// of O begin, and where the size of the marks is.
-fn run(
-    rt: &impl Print,
-    kind: u8,
-    text: &[u8],
-    bytes: &[u8],
-    lent: &mut [u8],
-    x: usize,
-) -> io::Result<()> {
-    if has_page(kind) {
-        return lend_marks(rt, kind, text, bytes, lent, x);
-    }
-    if lent.len() > MOST_OF_POOL {
-        return say_char(rt, b'?');
-    }
-    match kind {
-        b'C' => say_checksum(rt, bytes),
-        b'L' => read_line(rt, bytes, lent, x),
-        b'T' => read_text(rt, bytes, lent, x),
-        b'W' => write_line(rt, text, bytes, lent),
-        _ => write_object(rt, text, x, bytes, lent),
-    }
-}
-
-// Lends a case a buffer of `size` bytes, with `b` in each place; one of C has none.
-fn lend(
-    rt: &impl Print,
-    kind: u8,
-    b: u8,
-    text: &[u8],
-    bytes: &[u8],
-    size: usize,
-    x: usize,
-) -> io::Result<()> {
-    let mut space = filled(b);
-    let lent: &mut [u8] = &mut space;
-    if size > lent.len() {
-        return say_char(rt, b'?');
-    }
-    run(rt, kind, text, bytes, &mut lent[0..size], x)
-}
-
-// A case that lends a buffer; its own bytes stand at `from`.
-fn lending_case(
-    rt: &impl Print,
-    kind: u8,
-    b: u8,
-    text: &[u8],
-    from: usize,
-    size: usize,
-    x: usize,
-) -> io::Result<()> {
-    let mut bytes = buffer();
-    let k = unspell(text, from, &mut bytes);
-    lend(rt, kind, b, text, front(&bytes, k), size, x)
-}
-
-fn record_case(rt: &impl Print, text: &[u8]) -> io::Result<()> {
-    let g = record_at(text, 2);
-    let size = read_number(text, g.next);
-    lending_case(
-        rt,
-        b'W',
-        OUTPUT_BYTE,
-        text,
-        size.next,
-        size.value as usize,
-        0,
-    )
-}
-
-// A case that lends a page of so many bytes; the size of the marks is the number at `from`.
-fn load_case(rt: &impl Print, kind: u8, text: &[u8], size: usize, from: usize) -> io::Result<()> {
-    let marks = read_number(text, from);
-    lending_case(rt, kind, PAGE_BYTE, text, marks.next, size, from)
-}
-
-// A light and its dumps; the place of the count's high byte is the number at `from`.
-fn light_case(rt: &impl Print, text: &[u8], from: usize) -> io::Result<()> {
-    if count_words(text) <= NUMBERS_OF_LIGHT {
-        return say_char(rt, b'?');
-    }
-    let high = read_number(text, from);
-    let low = read_number(text, high.next);
-    let page = read_number(text, low.next);
-    load_case(rt, b'K', text, page.value as usize, page.next)
 }
 
 // The answer to a case.
 fn answer(rt: &impl Print, text: &[u8]) -> io::Result<()> {
-    if text.len() == 0 {
+    let [letter, ..] = text else {
         return say_char(rt, b'?');
-    }
-    let a = read_number(text, 2);
-    let b = read_number(text, a.next);
-    let x = a.value as usize;
-    let y = b.value as usize;
-    match text[0] {
-        b'#' => rt.write_all(text),
-        b'C' => lending_case(rt, b'C', 0, text, 2, 0, 0),
-        b'L' => lending_case(rt, b'L', POOL_BYTE, text, b.next, x, y),
-        b'T' => lending_case(rt, b'T', POOL_BYTE, text, b.next, y, x),
-        b'W' => record_case(rt, text),
-        b'O' => lending_case(rt, b'O', OUTPUT_BYTE, text, a.next, x, b.next),
-        b'M' => load_case(rt, b'M', text, y, b.next),
-        b'N' => load_case(rt, b'N', text, y, b.next),
-        b'Q' => ask_case(rt, text, (a.value % ADDRESSES) as u32, a.next),
-        b'K' => light_case(rt, text, b.next),
+    };
+    let rest = behind(text, 2);
+    match *letter {
+        b'#' => say_word(rt, text),
+        b'C' => checksum_case(rt, rest),
+        b'L' => line_case(rt, rest),
+        b'T' => text_case(rt, rest),
+        b'W' => record_case(rt, rest),
+        b'O' => object_case(rt, rest),
+        b'M' => load_case(rt, rest),
+        b'N' => table_case(rt, rest),
+        b'Q' => ask_case(rt, rest),
+        b'K' => light_case(rt, rest, count_words(text)),
         _ => say_char(rt, b'?'),
     }
 }
@@ -973,6 +791,6 @@ fn all(rt: &impl Print, from: &mut impl Read, line: &mut [u8]) -> io::Result<()>
 }
 
 fn main(rt: HostRuntime) -> io::Result<()> {
-    let mut line = buffer();
+    let mut line = [0; MOST_OF_CASE];
     all(&rt, &mut rt.stdin(), &mut line)
 }

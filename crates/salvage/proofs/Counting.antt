@@ -2,13 +2,14 @@
 -- Assumes nothing.
 use Prim.Native.Nat.{ℕ, suc, ◌+◌, ◌*◌, ◌-◌, ◌^◌, ◌≤◌, ◌<◌}
 use mathlib.Core.Path.{◌≡◌, refl, sym, ap, ap₂, ◌∙◌, subst}
-use mathlib.Core.Logic.{◌≢◌}
 use native.Mathlib.Omega.{arith}
 use mathlib.Core.Bool.{Bool, true, false}
 use mathlib.Core.List.{List, [], ◌∷◌}
 use lib.ListN.{length, length-append, length-drop, drop}
 use lib.Seq.{length-take-le}
-use borrow.Author.Tests.{lt-ltb, le-ltb}
+use borrow.Author.Tests.{lt-ltb, le-ltb, ltb-true, ltb-false}
+use lib.Dec.{ltb}
+use Rattle.std.specs.Prelude.{Option, None, Some, if◌then◌else◌}
 use Rattle.record.specs.Meaning.{Meaning, end_of_file}
 use Rattle.record.specs.Record.{meant, Inside}
 use Rattle.record.specs.Written.{line_of, payload_of}
@@ -28,37 +29,39 @@ use Rattle.salvage.specs.declared.Turn.{Turn}
 use Rattle.salvage.specs.declared.Turn.TheVariants.{Keeps, Drops, Ends, Missing}
 use Rattle.salvage.specs.declared.Spare.{Spare}
 use Rattle.salvage.specs.Salvage.{Sorted, past_refusals, fates, records, entries, text_of, saved, clean, removed}
-use Rattle.salvage.specs.Helpers.{left, UnderWay, KeptOn, DroppedOn, SortsNext, spare_after, WithLine, WithEntry, LineLength, Surveyed}
+use Rattle.salvage.specs.Helpers.{left, UnderWay, KeptOn, DroppedOn, SortsNext, left_of, less, spare_after, WithLine, WithEntry, LineLength, Surveyed}
 
 -- ---- one more
 
-same_spare : {s s' p p' : ℕ} {f f' t t' : Bool} → s ≡ s' → f ≡ f' → p ≡ p' → t ≡ t'
-    → ◌≡◌ {A = Spare} (record { space = s; full = f; places = p; short = t }) (record { space = s'; full = f'; places = p'; short = t' })
-same_spare a b c d = rw (a, b, c, d)
+-- one after the other is both
+pub less_left : (have used n : ℕ) → less (left_of have used) n ≡ left_of have (used + n)
+less_left have used n = go (ltb have used) refl
+  where
+    more : have < used → left_of have (used + n) ≡ None
+    more h = rw (lt-ltb have (used + n) (omega arith))
+
+    further : (b : Bool) → ltb (have - used) n ≡ b → used ≤ have → (if b then None else Some (have - used - n)) ≡ left_of have (used + n)
+    further true q h = let u = ltb-true (have - used) n q in rw (lt-ltb have (used + n) (omega arith))
+    further false q h = let u = ltb-false (have - used) n q in rw (le-ltb have (used + n) (omega arith)) (ap Some (omega arith))
+
+    go : (b : Bool) → ltb have used ≡ b → less (if b then None else Some (have - used)) n ≡ left_of have (used + n)
+    go true e = sym (more (ltb-true have used e))
+    go false e = further (ltb (have - used) n) refl (ltb-false have used e)
+
+same_spare : {s s' p p' : Option ℕ} → s ≡ s' → p ≡ p' → ◌≡◌ {A = Spare} (record { space = s; places = p }) (record { space = s'; places = p' })
+same_spare a b = rw (a, b)
 
 module _ (self : Spare) where
-  pub entry_short : self.places ≡ 0 → WithEntry self (record { space = self.space; full = self.full; places = 0; short = true })
-  entry_short z space places used listed e =
-      let p : places - listed ≡ 0 = ap (λ (x : Spare). x.places) (sym e) ∙ z in
-      same_spare (ap (λ (x : Spare). x.space) e) (ap (λ (x : Spare). x.full) e) (omega arith) (sym (lt-ltb places (suc listed) (omega arith)))
+  pub entry_less : (places : Option ℕ) → places ≡ less self.places 1 → WithEntry self (record { space = self.space; places = places })
+  entry_less places' q space places used listed e =
+      let one : listed + 1 ≡ suc listed = omega arith in
+      same_spare (ap (λ (x : Spare). x.space) e) (q ∙ ap (λ (x : Spare). less x.places 1) e ∙ less_left places listed 1 ∙ ap (left_of places) one)
 
-  pub entry_fits : self.places ≢ 0 → WithEntry self (record { space = self.space; full = self.full; places = self.places - 1; short = self.short })
-  entry_fits n space places used listed e =
-      let p : self.places ≡ places - listed = ap (λ (x : Spare). x.places) e in
-      let more : listed < places = omega arith in
-      same_spare (ap (λ (x : Spare). x.space) e) (ap (λ (x : Spare). x.full) e) (omega arith)
-      (ap (λ (x : Spare). x.short) e ∙ le-ltb places listed (omega arith) ∙ sym (le-ltb places (suc listed) (omega arith)))
-
-  pub line_full : (n : ℕ) → self.space ≤ n → WithLine self n (record { space = 0; full = true; places = self.places; short = self.short })
-  line_full n h space places used listed e =
-      let s : self.space ≡ space - used = ap (λ (x : Spare). x.space) e in
-      same_spare (omega arith) (sym (lt-ltb space (used + suc n) (omega arith))) (ap (λ (x : Spare). x.places) e) (ap (λ (x : Spare). x.short) e)
-
-  pub line_fits : (n : ℕ) → n < self.space → WithLine self n (record { space = self.space - n - 1; full = self.full; places = self.places; short = self.short })
-  line_fits n h space places used listed e =
-      let s : self.space ≡ space - used = ap (λ (x : Spare). x.space) e in
-      same_spare (omega arith) (ap (λ (x : Spare). x.full) e ∙ le-ltb space used (omega arith) ∙ sym (le-ltb space (used + suc n) (omega arith)))
-      (ap (λ (x : Spare). x.places) e) (ap (λ (x : Spare). x.short) e)
+  pub line_less : (n : ℕ) (space : Option ℕ) → space ≡ less (less self.space n) 1 → WithLine self n (record { space = space; places = self.places })
+  line_less n space' q space places used listed e =
+      let one : used + n + 1 ≡ used + suc n = omega arith in
+      same_spare (q ∙ ap (λ (x : Spare). less (less x.space n) 1) e ∙ ap (λ (x : Option ℕ). less x 1) (less_left space used n) ∙ less_left space (used + n) 1 ∙ ap (left_of space) one)
+      (ap (λ (x : Spare). x.places) e)
 
 -- ---- the line of a record
 
@@ -111,9 +114,12 @@ pub record Counting (text pool : List ℕ) (space places : ℕ) (w : Walk) (spar
   pub length_is : used + length (text_of (records (left w text))) ≡ length (clean text)
   pub entries_are : listed + length (entries (left w text)) ≡ length (removed text)
 
+at_first : (have : ℕ) → Some have ≡ left_of have 0
+at_first have = rw (le-ltb have 0 (omega arith)) (ap Some (omega arith))
+
 module _ (text : List ℕ) (space places : ℕ) where
   pub counting_start : (pool : List ℕ) → length text < 2 ^ 64 → length pool ≡ 255 → (w : Walk) → w ≡ start
-      → Counting text pool space places w (record { space = space; full = false; places = places; short = false })
+      → Counting text pool space places w (record { space = Some space; places = Some places })
   unfolding clean saved removed
   counting_start pool h l w e =
       rw e (record {
@@ -121,7 +127,7 @@ module _ (text : List ℕ) (space places : ℕ) where
         room = l;
         used = 0;
         listed = 0;
-        so_far = same_spare (omega arith) (sym (le-ltb space 0 (omega arith))) (omega arith) (sym (le-ltb places 0 (omega arith)));
+        so_far = same_spare (at_first space) (at_first places);
         length_is = omega (arith, ap (λ (xs : List Sorted). length (text_of (records xs))) (start_left text));
         entries_are = omega (arith, ap (λ (xs : List Sorted). length (entries xs)) (start_left text));
       })

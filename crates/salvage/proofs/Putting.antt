@@ -1,28 +1,19 @@
 -- The second pass: numbers in bytes, an entry, a line, and then all of a text, each after what was put before it.
 -- Assumes nothing.
-use Prim.Native.Nat.{ℕ, zero, suc, ◌+◌, ◌*◌, ◌-◌, ◌/◌, ◌%◌, ◌^◌, ◌≤◌, ◌<◌}
+use Prim.Native.Nat.{ℕ, zero, suc, ◌+◌, ◌*◌, ◌-◌, ◌/◌, ◌^◌, ◌≤◌, ◌<◌}
 use mathlib.Core.Path.{◌≡◌, refl, sym, ap, ◌∙◌, subst}
 use native.Mathlib.Omega.{arith}
-use mathlib.Core.Option.{none}
 use mathlib.Core.List.{List, [], ◌∷◌, ◌++◌, append_assoc, append-nil}
-use lib.ListN.{length, length-append, length-set, length-drop, set, drop}
-use lib.Seq.{length-take-le}
-use borrow.Author.Tests.{le-leb}
+use lib.ListN.{length, length-append}
 use Rattle.digits.specs.Common.{pasted}
-use Rattle.digits.proofs.Pasting.{pasted_none, pasted_one, pasted_more}
+use Rattle.digits.proofs.Pasting.{pasted_none, pasted_more}
 use Rattle.record.specs.Refusals.{missing_end_of_file_record}
 use Rattle.record.specs.Meaning.{Meaning, end_of_file}
 use Rattle.record.specs.Record.{meant}
 use Rattle.record.specs.Written.{line_of}
 use Rattle.record.specs.declared.Record.{Record}
-use Rattle.record.specs.declared.Record.TheVariants.{Data, EndOfFile, ExtendedSegmentAddress, StartSegmentAddress, ExtendedLinearAddress, StartLinearAddress}
+use Rattle.record.specs.declared.Record.TheVariants.{EndOfFile}
 use Rattle.reader.specs.Lines.{LF}
-use Rattle.writer.specs.declared.WriterError.{WriterError}
-use Rattle.writer.specs.declared.Written.{Written}
-use Rattle.writer.specs.declared.Written.TheVariants.{Wrote, Refused}
-use Rattle.writer.specs.Told.{wrote, told_written}
-use Rattle.writer.specs.Line.{line_refusal, WriteStep}
-use Rattle.intel.specs.Records.{LiesIn}
 use Rattle.salvage.specs.declared.Entry.{Entry as CodeEntry}
 use Rattle.salvage.specs.declared.Walk.{Walk}
 use Rattle.salvage.specs.declared.Turn.{Turn}
@@ -31,6 +22,7 @@ use Rattle.salvage.specs.Salvage.{refused, Sorted, records, Entry, entry, end_ad
 use Rattle.salvage.specs.Told.{low_first, reason_number, reason_value, entry_bytes, list_bytes}
 use Rattle.salvage.specs.Helpers.{Tells, left, UnderWay, KeptOn, DroppedOn, SortsNext, PutLine, PutEntry, Fits, WroteAll}
 use Rattle.salvage.proofs.Counting.{start, start_under_way, start_left, text_cons}
+use Rattle.std.specs.Int.{w16, w32, w64, to_le_bytes}
 
 -- ---- a number
 
@@ -39,44 +31,28 @@ unfolding low_first
 low_length zero n = refl
 low_length (suc size) n = omega (arith, low_length size (n / 256))
 
-low_next : (size i left : ℕ) → i < size → low_first (size - i) left ≡ left % 256 ∷ low_first (size - (i + 1)) (left / 256)
+-- the bytes of a number, as the code's type gives them
+pub low_two : (n : ℕ) → to_le_bytes w16 n ≡ low_first 2 n
 unfolding low_first
-low_next size i left h = let e : size - i ≡ suc (size - (i + 1)) = omega arith in rw e
+low_two n = refl
 
-low_none : (size i left : ℕ) → size ≤ i → low_first (size - i) left ≡ []
+pub low_four : (n : ℕ) → to_le_bytes w32 n ≡ low_first 4 n
 unfolding low_first
-low_none size i left h = let e : size - i ≡ 0 = omega arith in rw e
+low_four n =
+    let b : n / 65536 ≡ n / 256 / 256 = omega arith in
+    let c : n / 16777216 ≡ n / 256 / 256 / 256 = omega arith in
+    rw (b, c) refl
 
-pub record Numbering (n size : ℕ) (list₀ : List ℕ) (at : ℕ) (list : List ℕ) (left i : ℕ) : Type 0 where
-  pub done : List ℕ
-  pub count : length done ≡ i
-  pub most : i ≤ size
-  pub whole : done ++ low_first (size - i) left ≡ low_first size n
-  pub so_far : list ≡ pasted list₀ at done
-  pub same : length list ≡ length list₀
-
-module _ (n size : ℕ) (list₀ : List ℕ) (at : ℕ) (room : at + size ≤ length list₀) where
-  pub numbering_start : Numbering n size list₀ at list₀ n 0
-  numbering_start =
-      let e : size - 0 ≡ size = omega arith in
-      record { done = []; count = refl; most = omega arith; whole = ap (λ (k : ℕ). low_first k n) e; so_far = sym (pasted_none list₀ at); same = refl }
-
-  pub numbering_more : (list : List ℕ) (left i : ℕ) → Numbering n size list₀ at list left i → i < size
-      → Numbering n size list₀ at (set list (at + i) (left % 256)) (left / 256) (i + 1)
-  numbering_more list left i k h =
-      let b = left % 256 in
-      record {
-        done = k.done ++ (b ∷ []);
-        count = omega (arith, length-append k.done (b ∷ []), k.count);
-        most = omega arith;
-        whole = append_assoc k.done (b ∷ []) (low_first (size - (i + 1)) (left / 256)) ∙ ap (λ (l : List ℕ). k.done ++ l) (sym (low_next size i left h)) ∙ k.whole;
-        so_far = pasted_more list₀ at k.done (omega (arith, k.count)) (b ∷ []) (at + i) k.so_far (omega (arith, k.count)) (pasted_one list (at + i) b (omega (arith, k.same)));
-        same = length-set list (at + i) b ∙ k.same;
-      }
-
-  pub numbering_end : (list : List ℕ) (left i : ℕ) → Numbering n size list₀ at list left i → size ≤ i → list ≡ pasted list₀ at (low_first size n)
-  numbering_end list left i k h =
-      k.so_far ∙ ap (pasted list₀ at) (sym (append-nil k.done) ∙ ap (λ (l : List ℕ). k.done ++ l) (sym (low_none size i left h)) ∙ k.whole)
+pub low_eight : (n : ℕ) → to_le_bytes w64 n ≡ low_first 8 n
+unfolding low_first
+low_eight n =
+    let b : n / 65536 ≡ n / 256 / 256 = omega arith in
+    let c : n / 16777216 ≡ n / 256 / 256 / 256 = omega arith in
+    let d : n / 4294967296 ≡ n / 256 / 256 / 256 / 256 = omega arith in
+    let e : n / 1099511627776 ≡ n / 256 / 256 / 256 / 256 / 256 = omega arith in
+    let f : n / 281474976710656 ≡ n / 256 / 256 / 256 / 256 / 256 / 256 = omega arith in
+    let g : n / 72057594037927936 ≡ n / 256 / 256 / 256 / 256 / 256 / 256 / 256 = omega arith in
+    rw (b, c, d, e, f, g) refl
 
 -- ---- an entry
 
@@ -113,42 +89,6 @@ entry_put e list place h l₁ l₂ l₃ l₄ p q r s line why t =
     let three : l₃ ≡ pasted list at (w ++ a ++ b) = pasted_more list at (w ++ a) (omega arith) b (at + 4 + 2) two (omega arith) r in
     pasted_more list at (w ++ a ++ b) (omega arith) (low_first 8 e.line) (at + 4 + 2 + 2) three (omega arith) s
     ∙ rw (t.why_is, t.a_is, t.b_is, t.line_is)
-
--- ---- a line
-
-line_there : (x : Record) (pool : List ℕ) → LiesIn x pool → line_refusal x (length pool) ≡ none
-line_there (Data offset at len) pool (i, s) =
-    let l = length-take-le len (drop at pool) (omega (arith, length-drop at pool)) in rw (le-leb (at + len) (length pool) i, le-leb len 255 (omega arith))
-line_there EndOfFile pool l = refl
-line_there (ExtendedSegmentAddress n) pool l = refl
-line_there (StartSegmentAddress cs ip) pool l = refl
-line_there (ExtendedLinearAddress n) pool l = refl
-line_there (StartLinearAddress n) pool l = refl
-
-module _ (x : Record) (pool out : List ℕ) (at : ℕ) (out' : List ℕ) where
-  abbrev with_LF : List ℕ
-  with_LF = line_of (meant x pool) ++ (LF ∷ [])
-
-  told_there : (r : Written) → WriteStep x pool out at r out' → LiesIn x pool → at + suc (length (line_of (meant x pool))) ≤ length out
-      → (told_written r ≡ wrote (at + length with_LF)) × (out' ≡ pasted out at with_LF)
-  told_there r s l h =
-      let fits = le-leb (at + length with_LF) (length out) (omega (arith, length-append (line_of (meant x pool)) (LF ∷ []))) in
-      let there = line_there x pool l in
-      (s.answer ∙ rw (there, fits), s.left ∙ rw (there, fits))
-
-  pub line_wrote : (end : ℕ) → WriteStep x pool out at (Wrote end) out' → PutLine x pool out at end out'
-  line_wrote end s =
-      record {
-        place = λ l h. let q = (told_there (Wrote end) s l h).0 in let e : end ≡ at + length with_LF = cc in omega (arith, e, length-append (line_of (meant x pool)) (LF ∷ []));
-        left = λ l h. (told_there (Wrote end) s l h).1;
-      }
-
-  pub line_refused : (e : WriterError) → WriteStep x pool out at (Refused e) out' → PutLine x pool out at at out'
-  line_refused e s =
-      record {
-        place = λ l h. let q = (told_there (Refused e) s l h).0 in let z : ◌≡◌ {A = ℕ} 0 1 = cc in absurd (omega arith);
-        left = λ l h. (told_there (Refused e) s l h).1;
-      }
 
 -- ---- all of a text
 

@@ -1,23 +1,18 @@
 -- What a line comes to: the call of the reader says what stands on it, and what is left after it is what was left without it.
 -- Assumes nothing.
 use Prim.Native.Nat.{ℕ, ◌<◌}
-use mathlib.Core.Path.{◌≡◌, refl, sym, ap, ap₂, ◌∙◌}
+use mathlib.Core.Path.{◌≡◌, sym, ap, ap₂, ◌∙◌}
 use native.Mathlib.Omega.{arith}
 use mathlib.Core.Bool.{Bool, true, false, ◌&&◌}
 use mathlib.Core.List.{List, [], ◌∷◌}
 use lib.ListN.{length}
 use Rattle.std.specs.Prelude.{if◌then◌else◌}
-use Rattle.record.specs.Refusals.{number_of}
 use Rattle.record.specs.Meaning.{end_of_file}
 use Rattle.record.specs.Record.{meant}
 use Rattle.record.specs.declared.Record.{Record}
 use Rattle.reader.specs.declared.ReaderError.{ReaderError}
-use Rattle.reader.specs.declared.ReaderError.TheVariants.{MissingStartCode, RecordTooShort, RecordTooLong, RecordNotEvenLength, ContainsInvalidCharacters, ChecksumMismatch, PayloadLengthMismatch, UnsupportedRecordType, InvalidLengthForType, PoolFull}
-use Rattle.reader.specs.declared.Values.{Values}
-use Rattle.reader.specs.declared.Figures.{Figures}
 use Rattle.reader.specs.declared.Replied.{Replied}
-use Rattle.reader.specs.declared.Reply.TheVariants.{Refused, Done}
-use Rattle.reader.specs.Told.{refusal_of, values_in, first_of, second_of, FiguresOf}
+use Rattle.reader.specs.Told.{refusal_of}
 use Rattle.reader.specs.Row.{Numbered, is_end, stops, through_stop}
 use Rattle.reader.specs.Text.{Next}
 use Rattle.reader.specs.Along.{unread}
@@ -28,26 +23,7 @@ use Rattle.salvage.specs.declared.Turn.{Turn}
 use Rattle.salvage.specs.declared.Turn.TheVariants.{Keeps, Drops, Ends, Missing}
 use Rattle.salvage.specs.Salvage.{refused, base_unknown, Fate, kept, dropped, fate_of, fate, still_known, known_behind, Sorted, of, sorted, past_refusals, records, end_added, entries}
 use Rattle.salvage.specs.Helpers.{Tells, Sorts, left, UnderWay, Onward, DroppedOn, SortsNext}
-
--- ---- the numbers of a refusal
-
-tells_so : (e : ReaderError) (line : ℕ) → let r = refusal_of e in
-    Tells (record { line = line; why = number_of r; a = first_of (values_in r); b = second_of (values_in r) }) line (refused r)
-tells_so MissingStartCode line = record { line_is = refl; why_is = refl; a_is = refl; b_is = refl }
-tells_so (ContainsInvalidCharacters place) line = record { line_is = refl; why_is = refl; a_is = refl; b_is = refl }
-tells_so RecordTooShort line = record { line_is = refl; why_is = refl; a_is = refl; b_is = refl }
-tells_so RecordTooLong line = record { line_is = refl; why_is = refl; a_is = refl; b_is = refl }
-tells_so RecordNotEvenLength line = record { line_is = refl; why_is = refl; a_is = refl; b_is = refl }
-tells_so (ChecksumMismatch computed stated) line = record { line_is = refl; why_is = refl; a_is = refl; b_is = refl }
-tells_so PayloadLengthMismatch line = record { line_is = refl; why_is = refl; a_is = refl; b_is = refl }
-tells_so (UnsupportedRecordType kind) line = record { line_is = refl; why_is = refl; a_is = refl; b_is = refl }
-tells_so InvalidLengthForType line = record { line_is = refl; why_is = refl; a_is = refl; b_is = refl }
-tells_so PoolFull line = record { line_is = refl; why_is = refl; a_is = refl; b_is = refl }
-
--- by the figures that the reader gives for it
-pub tells_by : (e : ReaderError) (line : ℕ) (f : Figures) (v : Values) → FiguresOf e f → f.values ≡ v
-    → Tells (record { line = line; why = f.number; a = first_of v; b = second_of v }) line (refused (refusal_of e))
-tells_by e line f v x p = rw (← p, x.number_is, x.values_are) (tells_so e line)
+use Rattle.std.specs.Prelude.{Err, None, Some}
 
 -- ---- the next line
 
@@ -110,7 +86,7 @@ module _ (text : List ℕ) (w : Walk) (pool : List ℕ) (r : Replied) (pool' : L
   sorted_record x one l Ends e = (ap records (left_end x one e), ap entries (left_end x one e))
   sorted_record x one l Missing e = absurd e
 
-  pub sorted_refused : (e : ReaderError) → r.reply ≡ Refused e → (x : CodeEntry) → Tells x r.state.line (refused (refusal_of e))
+  pub sorted_refused : (e : ReaderError) → r.reply ≡ Some (Err e) → (x : CodeEntry) → Tells x r.state.line (refused (refusal_of e))
       → DroppedOn text w x (record { state = r.state; known = false })
   unfolding sorted through_stop stops fate known_behind records entries
   sorted_refused e q x tells =
@@ -124,6 +100,6 @@ module _ (text : List ℕ) (w : Walk) (pool : List ℕ) (r : Replied) (pool' : L
         listed = rw (a.first, a.left);
       }
 
-  pub sorted_done : r.reply ≡ Done → (records (left w text) ≡ end_of_file ∷ []) × (entries (left w text) ≡ end_added ∷ [])
+  pub sorted_done : r.reply ≡ None → (records (left w text) ≡ end_of_file ∷ []) × (entries (left w text) ≡ end_added ∷ [])
   unfolding sorted through_stop records entries
   sorted_done q = let u = came_done w.state text pool r pool' under.options under.countable room next q in (rw u, rw u)

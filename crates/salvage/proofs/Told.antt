@@ -1,6 +1,6 @@
 -- The claims of `specs/Told.antt`, and the contract of `salvage` from its two passes.
 -- Assumes nothing.
-use Prim.Native.Nat.{ℕ, ◌-◌, ◌/◌, ◌≤◌}
+use Prim.Native.Nat.{ℕ, ◌-◌, ◌/◌}
 use mathlib.Core.Path.{◌≡◌, refl, sym, ap, ap₂, ◌∙◌}
 use native.Mathlib.Omega.{arith}
 use mathlib.Core.Bool.{Bool, true, false}
@@ -11,11 +11,11 @@ use lib.ListN.{length}
 use borrow.Author.Tests.{ltb-true, ltb-false}
 use Rattle.record.specs.Refusals.{number_of, output_full, list_full}
 use Rattle.salvage.specs.declared.SalvageError.TheVariants.{OutputFull, ListFull}
-use Rattle.salvage.specs.declared.Salvaged.TheVariants.{Saved, Refused}
 use Rattle.salvage.specs.declared.Spare.{Spare}
 use Rattle.salvage.specs.Salvage.{clean, removed, refusal_for}
 use Rattle.salvage.specs.Told.{saves, answered_by, Salvages, SalvageUnique, ToldApart, Why, output_short, list_short, both_fit, Reasons, OneReason}
-use Rattle.salvage.specs.Helpers.{Surveyed, Fits, WroteAll}
+use Rattle.salvage.specs.Helpers.{left_of, Surveyed, Fits, WroteAll}
+use Rattle.std.specs.Prelude.{Err, Ok, None, Some, if◌then◌else◌}
 
 -- ---- the refusal
 
@@ -52,15 +52,18 @@ one_reason text room places t t' (both_fit h k) (list_short h' k') = absurd (ome
 one_reason text room places t t' (both_fit h k) (both_fit h' k') = refl
 
 pub told_apart : ToldApart
-told_apart (Saved n k) (Saved n' k') e = let a : n ≡ n' = cc in let b : k ≡ k' = cc in rw (a, b)
-told_apart (Saved n k) (Refused OutputFull) e = let z : ◌≡◌ {A = ℕ} 0 1 = cc in absurd (omega arith)
-told_apart (Saved n k) (Refused ListFull) e = let z : ◌≡◌ {A = ℕ} 0 1 = cc in absurd (omega arith)
-told_apart (Refused OutputFull) (Saved n k) e = let z : ◌≡◌ {A = ℕ} 0 1 = cc in absurd (omega arith)
-told_apart (Refused ListFull) (Saved n k) e = let z : ◌≡◌ {A = ℕ} 0 1 = cc in absurd (omega arith)
-told_apart (Refused OutputFull) (Refused OutputFull) e = refl
-told_apart (Refused OutputFull) (Refused ListFull) e = let q : output_full ≡ list_full = cc in let n = ap number_of q in absurd (omega arith)
-told_apart (Refused ListFull) (Refused OutputFull) e = let q : list_full ≡ output_full = cc in let n = ap number_of q in absurd (omega arith)
-told_apart (Refused ListFull) (Refused ListFull) e = refl
+told_apart (Ok s) (Ok s') e =
+    let a : s.length ≡ s'.length = cc in
+    let b : s.entries ≡ s'.entries = cc in
+    ap (λ (n : ℕ). Ok (record { length = n; entries = s.entries })) a ∙ ap (λ (k : ℕ). Ok (record { length = s'.length; entries = k })) b
+told_apart (Ok s) (Err OutputFull) e = let z : ◌≡◌ {A = ℕ} 0 1 = cc in absurd (omega arith)
+told_apart (Ok s) (Err ListFull) e = let z : ◌≡◌ {A = ℕ} 0 1 = cc in absurd (omega arith)
+told_apart (Err OutputFull) (Ok s) e = let z : ◌≡◌ {A = ℕ} 0 1 = cc in absurd (omega arith)
+told_apart (Err ListFull) (Ok s) e = let z : ◌≡◌ {A = ℕ} 0 1 = cc in absurd (omega arith)
+told_apart (Err OutputFull) (Err OutputFull) e = refl
+told_apart (Err OutputFull) (Err ListFull) e = let q : output_full ≡ list_full = cc in let n = ap number_of q in absurd (omega arith)
+told_apart (Err ListFull) (Err OutputFull) e = let q : list_full ≡ output_full = cc in let n = ap number_of q in absurd (omega arith)
+told_apart (Err ListFull) (Err ListFull) e = refl
 
 pub salvage_unique : SalvageUnique
 salvage_unique text out list r r' o o' l l' x y =
@@ -68,39 +71,55 @@ salvage_unique text out list r r' o o' l l' x y =
 
 -- ---- the function
 
+none_left : (have used : ℕ) → left_of have used ≡ None → ltb have used ≡ true
+none_left have used e = go (ltb have used) e
+  where
+    go : (b : Bool) → (if b then None else Some (have - used)) ≡ None → b ≡ true
+    go true q = refl
+    go false q = let z : ◌≡◌ {A = ℕ} 0 1 = cc in absurd (omega arith)
+
+some_left : (have used left : ℕ) → left_of have used ≡ Some left → (ltb have used ≡ false) × (left ≡ have - used)
+some_left have used left e = go (ltb have used) e
+  where
+    go : (b : Bool) → (if b then None else Some (have - used)) ≡ Some left → (b ≡ false) × (left ≡ have - used)
+    go true q = let z : ◌≡◌ {A = ℕ} 0 1 = cc in absurd (omega arith)
+    go false q = (refl, cc)
+
 module _ (text out list : List ℕ) (s : Spare) (v : Surveyed text (length out) (length list / 16) s) where
-  full_is : (b : Bool) → s.full ≡ b → ltb (length out) (length (clean text)) ≡ b
-  full_is b e = ap (λ (x : Spare). x.full) (sym v) ∙ e
+  space_is : s.space ≡ left_of (length out) (length (clean text))
+  space_is = ap (λ (x : Spare). x.space) v
 
-  short_is : (b : Bool) → s.short ≡ b → ltb (length list / 16) (length (removed text)) ≡ b
-  short_is b e = ap (λ (x : Spare). x.short) (sym v) ∙ e
+  places_is : s.places ≡ left_of (length list / 16) (length (removed text))
+  places_is = ap (λ (x : Spare). x.places) v
 
-  pub by_full : s.full ≡ true → Salvages text out list (Refused OutputFull) out list
-  by_full f = let e = full_so text (length out) (length list / 16) (full_is true f) in record { answer = rw e; output = rw e; entries = rw e }
+  pub by_full : s.space ≡ None → Salvages text out list (Err OutputFull) out list
+  by_full f = let e = full_so text (length out) (length list / 16) (none_left _ _ (sym space_is ∙ f)) in record { answer = rw e; output = rw e; entries = rw e }
 
-  pub by_short : s.full ≡ false → s.short ≡ true → Salvages text out list (Refused ListFull) out list
-  by_short f t =
-      let e = short_so text (length out) (length list / 16) (full_is false f) (short_is true t) in record { answer = rw e; output = rw e; entries = rw e }
+  module _ (space : ℕ) (f : s.space ≡ Some space) where
+    out_is : (ltb (length out) (length (clean text)) ≡ false) × (space ≡ length out - length (clean text))
+    out_is = some_left _ _ space (sym space_is ∙ f)
 
-  pub both_have_room : s.full ≡ false → s.short ≡ false → Fits text out list
-  both_have_room f t =
-      record {
-        output = ltb-false (length out) (length (clean text)) (full_is false f);
-        entries = omega (arith, ltb-false (length list / 16) (length (removed text)) (short_is false t));
-      }
+    pub by_short : s.places ≡ None → Salvages text out list (Err ListFull) out list
+    by_short t =
+        let e = short_so text (length out) (length list / 16) out_is.0 (none_left _ _ (sym places_is ∙ t)) in record { answer = rw e; output = rw e; entries = rw e }
 
-  pub space_left : s.space ≤ length out
-  space_left = omega (arith, ap (λ (x : Spare). x.space) v)
+    module _ (left : ℕ) (t : s.places ≡ Some left) where
+      list_is : (ltb (length list / 16) (length (removed text)) ≡ false) × (left ≡ length list / 16 - length (removed text))
+      list_is = some_left _ _ left (sym places_is ∙ t)
 
-  pub places_left : s.places ≤ length list / 16
-  places_left = omega (arith, ap (λ (x : Spare). x.places) v)
+      pub both_have_room : Fits text out list
+      both_have_room =
+          record {
+            output = ltb-false (length out) (length (clean text)) out_is.0;
+            entries = omega (arith, ltb-false (length list / 16) (length (removed text)) list_is.0);
+          }
 
-  pub by_all : s.full ≡ false → s.short ≡ false → (out' list' : List ℕ) → length out' ≡ length out → WroteAll text out list out' list'
-      → Salvages text out list (Saved (length out' - s.space) (length list / 16 - s.places)) out' list'
-  by_all f t out' list' lo w =
-      let e = none_so text (length out) (length list / 16) (full_is false f) (short_is false t) in
-      let h = both_have_room f t in
-      let k = ltb-false (length list / 16) (length (removed text)) (short_is false t) in
-      let n : length out' - s.space ≡ length (clean text) = omega (arith, h.output, ap (λ (x : Spare). x.space) v) in
-      let m : length list / 16 - s.places ≡ length (removed text) = omega (arith, ap (λ (x : Spare). x.places) v) in
-      record { answer = rw e (ap₂ saves n m); output = rw e w.output; entries = rw e w.entries }
+      pub by_all : (out' list' : List ℕ) → length out' ≡ length out → WroteAll text out list out' list'
+          → Salvages text out list (Ok (record { length = length out' - space; entries = length list / 16 - left })) out' list'
+      by_all out' list' lo w =
+          let e = none_so text (length out) (length list / 16) out_is.0 list_is.0 in
+          let h = both_have_room in
+          let k = ltb-false (length list / 16) (length (removed text)) list_is.0 in
+          let n : length out' - space ≡ length (clean text) = omega (arith, h.output, out_is.1) in
+          let m : length list / 16 - left ≡ length (removed text) = omega (arith, list_is.1) in
+          record { answer = rw e (ap₂ saves n m); output = rw e w.output; entries = rw e w.entries }

@@ -1,6 +1,7 @@
 -- What the private functions of the crate promise each other.
 -- Assumes nothing.
-use Rattle.std.specs.Prelude.{ℕ, suc, ◌+◌, ◌*◌, ◌-◌, ◌≤◌, ◌<◌, ◌≡◌, Bool, false, List, [], ◌∷◌, ◌++◌, ltb, length}
+use Rattle.std.specs.Prelude.{ℕ, suc, ◌+◌, ◌*◌, ◌-◌, ◌≤◌, ◌<◌, ◌≡◌, Bool, false, List, [], ◌∷◌, ◌++◌, ltb, length, Option, None, Some}
+use Rattle.std.specs.Prelude.{if◌then◌else◌}
 use Rattle.digits.specs.Common.{pasted}
 use Rattle.record.specs.Meaning.{Meaning, end_of_file}
 use Rattle.record.specs.Record.{meant}
@@ -80,9 +81,18 @@ SortsNext text w pool Missing = (records (left w text) ≡ end_of_file ∷ []) �
 
 -- ---- the first pass
 
+-- what is left of so much, if it is not too little
+abbrev pub left_of : (have used : ℕ) → Option ℕ
+left_of have used = if ltb have used then None else Some (have - used)
+
+-- what is left of it after n more are taken
+abbrev pub less : (left : Option ℕ) (n : ℕ) → Option ℕ
+less None n = None
+less (Some left) n = if ltb left n then None else Some (left - n)
+
 -- what is left of so much room and so many places after a text of this length and so many entries
 abbrev pub spare_after : (space places used listed : ℕ) → Spare
-spare_after space places used listed = record { space = space - used; full = ltb space used; places = places - listed; short = ltb places listed }
+spare_after space places used listed = record { space = left_of space used; places = left_of places listed }
 
 -- a line of n characters with its LF, whatever was used before
 abbrev pub WithLine : Spare → (n : ℕ) → Spare → Type 0

@@ -5,3 +5,4 @@ pub mod Fates
 pub mod Standing
 pub mod Claims
 pub mod Bytes
+pub mod Aliases

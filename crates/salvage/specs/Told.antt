@@ -7,9 +7,9 @@ use Rattle.digits.specs.Common.{pasted}
 use Rattle.record.specs.Refusals.{Refusal, refusal, output_full, list_full}
 use Rattle.salvage.specs.declared.SalvageError.{SalvageError}
 use Rattle.salvage.specs.declared.SalvageError.TheVariants.{OutputFull, ListFull}
-use Rattle.salvage.specs.declared.Salvaged.{Salvaged}
-use Rattle.salvage.specs.declared.Salvaged.TheVariants.{Saved, Refused}
+use Rattle.salvage.specs.Aliases.{Salvaged}
 use Rattle.salvage.specs.Salvage.{Reason, refused, base_unknown, Entry, entry, end_added, clean, removed, refusal_for}
+use Rattle.std.specs.Prelude.{Err, Ok}
 
 -- ---- the list in bytes
 
@@ -52,8 +52,8 @@ salvage_refusal OutputFull = output_full
 salvage_refusal ListFull = list_full
 
 abbrev pub told_salvage : Salvaged → ToldSalvage
-told_salvage (Saved length entries) = saves length entries
-told_salvage (Refused e) = refuses (salvage_refusal e)
+told_salvage (Ok saved) = saves saved.length saved.entries
+told_salvage (Err e) = refuses (salvage_refusal e)
 
 -- how many whole entries a list has room for
 abbrev pub places_in : (list : List ℕ) → ℕ

@@ -2,17 +2,15 @@
 // A noisy capture of Intel HEX saved: a clean file of the records that can be relied on, and a list of the lines that were dropped.
 ghost use Rattle.std.specs.Prelude.{◌≡◌, true, ◌+◌, ◌*◌, ◌≤◌, length};
 ghost use Rattle.digits.specs.Common.{pasted};
-ghost use Rattle.record.specs.Refusals.{missing_end_of_file_record};
 ghost use Rattle.reader.specs.Told.{refusal_of};
 ghost use Rattle.reader.specs.Text.{new_state};
 ghost use Rattle.intel.specs.Records.{Short};
 ghost use Rattle.salvage.specs.Salvage.{past_refusals, refused};
-ghost use Rattle.salvage.specs.Told.{low_first, Salvages};
-ghost use Rattle.salvage.specs.Helpers.{Tells, SortsRecord, UnderWay, SortsNext, WithLine, WithEntry, LineLength, Surveyed, PutLine, PutEntry, Fits, WroteAll};
+ghost use Rattle.salvage.specs.Told.{Salvages};
+ghost use Rattle.salvage.specs.Helpers.{Tells, SortsRecord, UnderWay, SortsNext, less, WithLine, WithEntry, LineLength, Surveyed, PutLine, PutEntry, Fits, WroteAll};
 
-use reader::{ReaderError, ReaderOptions, Reply, State, Values};
+use reader::{ReaderError, ReaderOptions, State, Values};
 use record::{Record, char_counts, payload_sizes, refusals};
-use writer::Written;
 
 // How many bytes an entry of the list has.
 const ENTRY: usize = 16;
@@ -34,13 +32,15 @@ pub enum SalvageError {
     ListFull,
 }
 
-// What a salvage returns.
+// What was saved: the length of the clean file, and how many entries the list has.
 #[derive(Clone, Copy)]
-pub enum Salvaged {
-    // The length of the clean file, and how many entries the list has.
-    Saved { length: usize, entries: usize },
-    Refused(SalvageError),
+pub struct Saved {
+    pub length: usize,
+    pub entries: usize,
 }
+
+// What a salvage returns.
+pub type Salvaged = Result<Saved, SalvageError>;
 
 // A dropped line: its number, the number of the reason, and its values, 0 where there is none.
 #[derive(Clone, Copy)]
@@ -50,6 +50,14 @@ struct Entry {
     a: u16,
     b: u16,
 }
+
+// The entry of an added end record.
+const END_ADDED: Entry = Entry {
+    line: 0,
+    why: refusals::MISSING_END_OF_FILE_RECORD,
+    a: 0,
+    b: 0,
+};
 
 // Where a pass stands in a text, and whether the base in force there is known.
 #[derive(Clone, Copy)]
@@ -71,13 +79,18 @@ enum Turn {
     Missing,
 }
 
-// What is left of the output and of the places of the list, and whether either was too little.
+// What is left of the output and of the places of the list; none of what was too little.
 #[derive(Clone, Copy)]
 struct Spare {
-    space: usize,
-    full: bool,
-    places: usize,
-    short: bool,
+    space: Option<usize>,
+    places: Option<usize>,
+}
+
+// What is left when so much more is taken.
+fn without(left: Option<usize>, taken: usize) -> Option<usize>
+    ensures { result ≡ less left taken }
+{
+    left?.checked_sub(taken)
 }
 
 impl Spare {
@@ -85,19 +98,9 @@ impl Spare {
     fn with_line(self, n: usize) -> Spare
         ensures { WithLine self n result }
     {
-        if n >= self.space {
-            return Spare {
-                space: 0,
-                full: true,
-                places: self.places,
-                short: self.short,
-            };
-        }
         Spare {
-            space: self.space - n - 1,
-            full: self.full,
-            places: self.places,
-            short: self.short,
+            space: without(without(self.space, n), 1),
+            ..self
         }
     }
 
@@ -105,19 +108,9 @@ impl Spare {
     fn with_entry(self) -> Spare
         ensures { WithEntry self result }
     {
-        if self.places == 0 {
-            return Spare {
-                space: self.space,
-                full: self.full,
-                places: 0,
-                short: true,
-            };
-        }
         Spare {
-            space: self.space,
-            full: self.full,
-            places: self.places - 1,
-            short: self.short,
+            places: without(self.places, 1),
+            ..self
         }
     }
 }
@@ -128,16 +121,14 @@ fn line_length(given: Record) -> usize
     ensures { LineLength given result }
 {
     match given {
-        Record::Data {
-            offset: _,
-            at: _,
-            len,
-        } => char_counts::NO_PAYLOAD + 2 * len,
+        Record::Data { len, .. } => char_counts::NO_PAYLOAD + 2 * len,
         Record::EndOfFile => char_counts::NO_PAYLOAD,
-        Record::ExtendedSegmentAddress(_) => char_counts::TWO_BYTES,
-        Record::StartSegmentAddress { cs: _, ip: _ } => char_counts::FOUR_BYTES,
-        Record::ExtendedLinearAddress(_) => char_counts::TWO_BYTES,
-        Record::StartLinearAddress(_) => char_counts::FOUR_BYTES,
+        Record::ExtendedSegmentAddress(_) | Record::ExtendedLinearAddress(_) => {
+            char_counts::TWO_BYTES
+        }
+        Record::StartSegmentAddress { .. } | Record::StartLinearAddress(_) => {
+            char_counts::FOUR_BYTES
+        }
     }
 }
 
@@ -146,33 +137,17 @@ fn entry_of(e: ReaderError, line: usize) -> Entry
     ensures { Tells result line (refused (refusal_of e)) }
 {
     let figures = e.figures();
-    let why = figures.number;
-    let values = figures.values;
-    match values {
-        Values::Nothing => Entry {
-            line,
-            why,
-            a: 0,
-            b: 0,
-        },
-        Values::Position(place) => Entry {
-            line,
-            why,
-            a: place,
-            b: 0,
-        },
-        Values::Byte(byte) => Entry {
-            line,
-            why,
-            a: byte as u16,
-            b: 0,
-        },
-        Values::Bytes(first, second) => Entry {
-            line,
-            why,
-            a: first as u16,
-            b: second as u16,
-        },
+    let (a, b) = match figures.values {
+        Values::Nothing => (0, 0),
+        Values::Position(place) => (place, 0),
+        Values::Byte(byte) => (u16::from(byte), 0),
+        Values::Bytes(first, second) => (u16::from(first), u16::from(second)),
+    };
+    Entry {
+        line,
+        why: figures.number,
+        a,
+        b,
     }
 }
 
@@ -181,29 +156,29 @@ fn sort_record(state: State, known: bool, given: Record) -> Turn
     ensures { SortsRecord state known given result }
 {
     match given {
-        Record::Data {
-            offset: _,
-            at: _,
-            len: _,
-        } => {
+        Record::Data { .. } => {
+            let next = Walk { state, known };
             if known {
-                return Turn::Keeps(given, Walk { state, known });
+                Turn::Keeps(given, next)
+            } else {
+                Turn::Drops(
+                    Entry {
+                        line: state.line,
+                        why: BASE_UNKNOWN,
+                        a: 0,
+                        b: 0,
+                    },
+                    next,
+                )
             }
-            Turn::Drops(
-                Entry {
-                    line: state.line,
-                    why: BASE_UNKNOWN,
-                    a: 0,
-                    b: 0,
-                },
-                Walk { state, known },
-            )
         }
         Record::EndOfFile => Turn::Ends,
-        Record::ExtendedSegmentAddress(_) => Turn::Keeps(given, Walk { state, known: true }),
-        Record::StartSegmentAddress { cs: _, ip: _ } => Turn::Keeps(given, Walk { state, known }),
-        Record::ExtendedLinearAddress(_) => Turn::Keeps(given, Walk { state, known: true }),
-        Record::StartLinearAddress(_) => Turn::Keeps(given, Walk { state, known }),
+        Record::ExtendedSegmentAddress(_) | Record::ExtendedLinearAddress(_) => {
+            Turn::Keeps(given, Walk { state, known: true })
+        }
+        Record::StartSegmentAddress { .. } | Record::StartLinearAddress(_) => {
+            Turn::Keeps(given, Walk { state, known })
+        }
     }
 }
 
@@ -212,20 +187,19 @@ fn sort_next(text: &[u8], pool: &mut [u8], w: Walk) -> Turn
     requires { UnderWay text.now w × (length pool.old ≡ 255) }
     ensures { SortsNext text.now w pool.new result }
 {
-    let state = w.state;
-    let step = state.next(text, pool, 0);
-    let after = step.state;
-    let reply = step.reply;
-    match reply {
-        Reply::Read(given) => sort_record(after, w.known, given),
-        Reply::Refused(e) => Turn::Drops(
-            entry_of(e, after.line),
+    let step = w.state.next(text, pool, 0);
+    let Some(answer) = step.reply else {
+        return Turn::Missing;
+    };
+    match answer {
+        Ok(given) => sort_record(step.state, w.known, given),
+        Err(e) => Turn::Drops(
+            entry_of(e, step.state.line),
             Walk {
-                state: after,
+                state: step.state,
                 known: false,
             },
         ),
-        Reply::Done => Turn::Missing,
     }
 }
 
@@ -243,16 +217,15 @@ fn begin() -> Walk
 }
 
 // The first pass: what a salvage leaves of an output of this length and of so many places. Nothing is written.
+// A loop: each turn takes a whole line, so there is no index to count. No iterator walks the lines for both passes, since a record lies in the pool that the next turn overwrites.
 fn survey(text: &[u8], space: usize, places: usize) -> Spare
     ensures { Surveyed text.now space places result }
 {
     let mut pool = [0u8; payload_sizes::MOST_DATA];
     let mut w = begin();
     let mut spare = Spare {
-        space,
-        full: false,
-        places,
-        short: false,
+        space: Some(space),
+        places: Some(places),
     };
     loop {
         match sort_next(text, &mut pool, w) {
@@ -266,25 +239,18 @@ fn survey(text: &[u8], space: usize, places: usize) -> Spare
             }
             Turn::Ends => return spare.with_line(char_counts::NO_PAYLOAD),
             Turn::Missing => {
-                let ended = spare.with_line(char_counts::NO_PAYLOAD);
-                return ended.with_entry();
+                return spare.with_line(char_counts::NO_PAYLOAD).with_entry();
             }
         }
     }
 }
 
-// A number in so many bytes, low byte first.
-fn put_number(n: u64, size: usize, list: &mut [u8], at: usize)
-    requires { at + size ≤ length list.old }
-    ensures { list.new ≡ pasted list.old at (low_first size n) }
+// Bytes put into the list, from a place on.
+fn put_bytes(bytes: &[u8], list: &mut [u8], at: usize)
+    requires { at + length bytes.now ≤ length list.old }
+    ensures { list.new ≡ pasted list.old at bytes.now }
 {
-    let mut left = n;
-    let mut i = 0;
-    while i < size {
-        list[at + i] = (left % 256) as u8;
-        left = left / 256;
-        i = i + 1;
-    }
+    copying::copy(bytes, &mut list[at..]);
 }
 
 // An entry at its place of the list.
@@ -293,32 +259,21 @@ fn put_entry(e: Entry, list: &mut [u8], place: usize)
     ensures { PutEntry e list.old place list.new }
 {
     let at = ENTRY * place;
-    put_number(e.why as u64, WHY, list, at);
-    put_number(e.a as u64, VALUE, list, at + WHY);
-    put_number(e.b as u64, VALUE, list, at + WHY + VALUE);
-    put_number(e.line as u64, LINE, list, at + WHY + VALUE + VALUE);
+    put_bytes(&u32::from(e.why).to_le_bytes(), list, at);
+    put_bytes(&e.a.to_le_bytes(), list, at + WHY);
+    put_bytes(&e.b.to_le_bytes(), list, at + WHY + VALUE);
+    put_bytes(
+        &(e.line as u64).to_le_bytes(),
+        list,
+        at + WHY + VALUE + VALUE,
+    );
 }
 
 // The line of a record and its LF, and the place after them.
 fn put_line(given: Record, pool: &[u8], out: &mut [u8], at: usize) -> usize
     ensures { PutLine given pool.now out.old at result out.new }
 {
-    match writer::write_step(given, pool, out, at) {
-        Written::Wrote(end) => end,
-        Written::Refused(_) => at,
-    }
-}
-
-// The entry of an added end record.
-fn end_added() -> Entry
-    ensures { Tells result 0 (refused missing_end_of_file_record) }
-{
-    Entry {
-        line: 0,
-        why: refusals::MISSING_END_OF_FILE_RECORD,
-        a: 0,
-        b: 0,
-    }
+    writer::write_step(given, pool, out, at).unwrap_or(at)
 }
 
 // The second pass: the clean file and the list, where both fit.
@@ -338,7 +293,7 @@ fn write_all(text: &[u8], out: &mut [u8], list: &mut [u8])
             }
             Turn::Drops(e, next) => {
                 put_entry(e, list, place);
-                place = place + 1;
+                place += 1;
                 w = next;
             }
             Turn::Ends => {
@@ -347,7 +302,7 @@ fn write_all(text: &[u8], out: &mut [u8], list: &mut [u8])
             }
             Turn::Missing => {
                 put_line(Record::EndOfFile, &pool, out, at);
-                put_entry(end_added(), list, place);
+                put_entry(END_ADDED, list, place);
                 return;
             }
         }
@@ -360,15 +315,15 @@ pub fn salvage(text: &[u8], out: &mut [u8], list: &mut [u8]) -> Salvaged
 {
     let places = list.len() / ENTRY;
     let spare = survey(text, out.len(), places);
-    if spare.full {
-        return Salvaged::Refused(SalvageError::OutputFull);
-    }
-    if spare.short {
-        return Salvaged::Refused(SalvageError::ListFull);
-    }
+    let Some(space) = spare.space else {
+        return Err(SalvageError::OutputFull);
+    };
+    let Some(left) = spare.places else {
+        return Err(SalvageError::ListFull);
+    };
     write_all(text, out, list);
-    Salvaged::Saved {
-        length: out.len() - spare.space,
-        entries: places - spare.places,
-    }
+    Ok(Saved {
+        length: out.len() - space,
+        entries: places - left,
+    })
 }

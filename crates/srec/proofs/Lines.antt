@@ -1,11 +1,11 @@
 -- A line is put row by row: its S and type, its count, its address and its data two digits a byte, its checksum.
 -- Assumes nothing.
-use Rattle.std.proofs.Common.{◌≡◌, ℕ, ◌+◌, ◌-◌, ◌*◌, ◌/◌, ◌%◌, ◌<◌, ◌≤◌, List, [], ◌∷◌, ◌++◌, length, take, drop, set, sym, ap, ◌∙◌, arith, length-append, length-drop}
+use Rattle.std.proofs.Common.{◌≡◌, ℕ, ◌+◌, ◌-◌, ◌*◌, ◌/◌, ◌%◌, ◌<◌, ◌≤◌, List, [], ◌∷◌, ◌++◌, length, set, sym, ap, ◌∙◌, arith, length-append, w32}
+use Rattle.std.specs.Int.{to_be_bytes}
 use Rattle.checksum.specs.Checksum.{sum}
 use Rattle.checksum.proofs.Laws.{sum_append}
 use Rattle.digits.specs.Common.{pasted}
-use Rattle.digits.specs.Spelling.{Spell, spelt}
-use Rattle.digits.proofs.Parts.{rest_is, rest_pasted}
+use Rattle.digits.specs.Spelling.{spelt}
 use Rattle.digits.proofs.Spelt.{spelt_length, spelt_append}
 use Rattle.digits.proofs.Pasting.{pasted_two, pasted_more}
 use Rattle.record.specs.Written.{four_bytes}
@@ -16,23 +16,12 @@ use Rattle.srec.specs.Written.{in_bytes, written}
 use Rattle.srec.specs.Helpers.{Row, Fitting}
 use Rattle.srec.proofs.Writing.{address_length}
 
--- what was spelt at the start of the output's rest stands at its place
-pub row_put : (bytes : List ℕ) (before : ℕ) (out : List ℕ) (at r : ℕ) {part out' : List ℕ} → at + 2 * length bytes ≤ length out
-    → Spell bytes before (take (length out - at) (drop at out)) r part → out' ≡ take at out ++ (part ++ drop (length out - at) (drop at out))
-    → Row bytes before out at r out'
-row_put bytes before out at r {part} room s back =
-    let q : Spell bytes before (drop at out) r part = rw (rest_is out at) at s in
-    let p = q.written (omega (arith, length-drop at out)) in
-    record { sums = p.sums; left = back ∙ rest_pasted out at (spelt bytes) p.left }
-
--- the address's four bytes
-pub four_is : (a one two three four : ℕ) → a < 4294967296 → one ≡ a / 16777216 % 256 → two ≡ a / 65536 % 256 → three ≡ a / 256 % 256 → four ≡ a % 256
-    → one ∷ two ∷ three ∷ four ∷ [] ≡ four_bytes a
-four_is a one two three four small e f g h =
-    let p : one ≡ a / 65536 / 256 = omega arith in
-    let q : two ≡ a / 65536 % 256 = f in
-    let r : three ≡ a % 65536 / 256 = omega arith in
-    let s : four ≡ a % 65536 % 256 = omega arith in
+-- an address's four bytes, high byte first
+pub four_are : (a : ℕ) → a < 4294967296 → to_be_bytes w32 a ≡ four_bytes a
+four_are a small =
+    let p : a / 16777216 % 256 ≡ a / 65536 / 256 = omega arith in
+    let r : a / 256 % 256 ≡ a % 65536 / 256 = omega arith in
+    let s : a % 256 ≡ a % 65536 % 256 = omega arith in
     cc
 
 one_more : (a b x y : ℕ) → x ≡ a % 256 → y ≡ (x + b) % 256 → y ≡ (a + b) % 256

@@ -1,11 +1,14 @@
 -- The types by their digits and as the format names them: the tests of `specs/Types.antt` and the relations of `specs/Format.antt` agree.
 -- Assumes nothing.
-use Rattle.std.proofs.Common.{◌≡◌, ℕ, zero, suc, ◌<◌, ◌≤◌, Bool, true, false, eqb, ltb, ◌≢◌, sym, refl, ◌∙◌, arith, ltb-true, lt-ltb, ne_eqb, eqb-true}
+use Rattle.std.proofs.Common.{◌≡◌, ℕ, zero, suc, ◌<◌, ◌≤◌, Bool, true, false, eqb, ltb, sym, refl, ◌∙◌, arith, ltb-true, lt-ltb, ne_eqb, eqb-true}
 use borrow.Author.Tests.{lt-leb}
 use Rattle.digits.proofs.Tests.{branch, split, or_true}
 use Rattle.srec.specs.Types.{is_named, width, fits}
 use Rattle.srec.specs.Format.{Width, type_0, type_1, type_2, type_3, type_5, type_7, type_8, type_9, Size, holds, empty}
 use Rattle.srec.specs.Faults.{Unnamed}
+use Rattle.std.specs.Prelude.{None}
+use mathlib.Core.Option.{none, some}
+use Rattle.srec.specs.Record.{TypeOf}
 
 never : {X : Type 0} → true ≡ false → X
 never e = let z : ◌≡◌ {A = ℕ} 0 1 = cc in absurd (omega arith)
@@ -79,19 +82,18 @@ width_few kind =
     (λ e. branch P (eqb kind 3) _ _ (λ e. (omega arith, omega arith))
     (λ e. branch P (eqb kind 7) _ _ (λ e. (omega arith, omega arith)) (λ e. (omega arith, omega arith)))))
 
--- of the named types only 9 is left where it is none of the others
-pub only_nine : (kind : ℕ) → is_named kind ≡ true → kind ≢ 0 → kind ≢ 1 → kind ≢ 2 → kind ≢ 3 → kind ≢ 5 → kind ≢ 7 → kind ≢ 8 → 9 ≡ kind
-only_nine kind e =
-    each_type (λ (k : ℕ). k ≢ 0 → k ≢ 1 → k ≢ 2 → k ≢ 3 → k ≢ 5 → k ≢ 7 → k ≢ 8 → 9 ≡ k)
-    (λ n0 n1 n2 n3 n5 n7 n8. absurd (n0 refl))
-    (λ n0 n1 n2 n3 n5 n7 n8. absurd (n1 refl))
-    (λ n0 n1 n2 n3 n5 n7 n8. absurd (n2 refl))
-    (λ n0 n1 n2 n3 n5 n7 n8. absurd (n3 refl))
-    (λ n0 n1 n2 n3 n5 n7 n8. absurd (n5 refl))
-    (λ n0 n1 n2 n3 n5 n7 n8. absurd (n7 refl))
-    (λ n0 n1 n2 n3 n5 n7 n8. absurd (n8 refl))
-    (λ n0 n1 n2 n3 n5 n7 n8. refl)
-    kind e
+-- ---- the type that a digit names, in code
+
+some_not_none : {X : Type 0} (d : ℕ) → some d ≡ none → X
+some_not_none d e = let z : ◌≡◌ {A = ℕ} 0 1 = cc in absurd (omega arith)
+
+-- where there is none, no type has the digit
+pub type_unnamed : (d : ℕ) → TypeOf d None → is_named d ≡ false
+type_unnamed d t = go (is_named d) refl
+  where
+    go : (b : Bool) → is_named d ≡ b → is_named d ≡ false
+    go true e = some_not_none d (sym (rw e at t.answer))
+    go false e = e
 
 -- ---- data
 

@@ -19,9 +19,7 @@ use Rattle.writer.proofs.Answers as text
 use Rattle.writer.proofs.Objects.{unless_chars}
 use Rattle.srec.specs.declared.SType.{SType}
 use Rattle.srec.specs.declared.SRecord.{SRecord}
-use Rattle.srec.specs.declared.SAnswer.{SAnswer}
-use Rattle.srec.specs.declared.SAnswer.TheVariants.{Read, Refused}
-use Rattle.srec.specs.declared.SWritten.TheVariants as writings
+use Rattle.srec.specs.Aliases.{SAnswer}
 use Rattle.srec.specs.Types.{holds_data}
 use Rattle.srec.specs.Line.{judge}
 use Rattle.srec.specs.Faults.{FirstOffender}
@@ -36,6 +34,7 @@ use Rattle.srec.proofs.Writing.{said_is_writable, said_is_bounded, written_in_fo
 use Rattle.srec.proofs.Claims.{names_the_offender}
 use Rattle.srec.proofs.Measuring.{digit_named, fine}
 use Rattle.srec.proofs.Unique.{same_type, told_apart}
+use Rattle.std.specs.Prelude.{Err, Ok}
 
 -- ---- the reader
 
@@ -54,13 +53,13 @@ pub answers_the_offender : AnswersTheOffender
 unfolding answered poured
 answers_the_offender line pool at p pool' = (there, back)
   where
-    there : ReadSRecord line pool at (Refused (ContainsInvalidCharacters p)) pool' → (place : ℕ) × FirstOffender line place × (p ≡ named place) × (pool' ≡ pool)
+    there : ReadSRecord line pool at (Err (ContainsInvalidCharacters p)) pool' → (place : ℕ) × FirstOffender line place × (p ≡ named place) × (pool' ≡ pool)
     there x =
         let said : judge line ≡ wrong (contains_invalid_characters p) = said_so (judge line) (contains_invalid_characters p) (length pool) at refl x.answer in
         let (place, f, e) = (names_the_offender line (contains_invalid_characters p)).0 (said, refl) in
         (place, f, cc, x.left ∙ ap (λ (s : Said). poured s pool at) said)
 
-    back : (place : ℕ) × FirstOffender line place × (p ≡ named place) × (pool' ≡ pool) → ReadSRecord line pool at (Refused (ContainsInvalidCharacters p)) pool'
+    back : (place : ℕ) × FirstOffender line place × (p ≡ named place) × (pool' ≡ pool) → ReadSRecord line pool at (Err (ContainsInvalidCharacters p)) pool'
     back (place, f, e, k) =
         let said : judge line ≡ wrong (contains_invalid_characters p) = ((names_the_offender line (contains_invalid_characters p)).1 (place, f, ap contains_invalid_characters e)).0 in
         record { answer = rw said; left = k ∙ rw said }
@@ -82,13 +81,13 @@ never_full line n at r = go (judge line) refl
     go (wrong w) e = ne_eqb (number_of w) 10 (λ q. omega (arith, fault_few (subst (Stands line) e (stands line))))
 
 -- an answer, from what it tells
-told_gives : (r : SAnswer) (kind : ℕ) (numbers : List ℕ) → told_sanswer r ≡ gives kind numbers → (x : SRecord) × (r ≡ Read x) × (digit_of x.kind ≡ kind) × (numbers_of x ≡ numbers)
-told_gives (Read x) kind numbers e = (x, refl, cc, cc)
-told_gives (Refused f) kind numbers e = let z : ◌≡◌ {A = ℕ} 0 1 = cc in absurd (omega arith)
+told_gives : (r : SAnswer) (kind : ℕ) (numbers : List ℕ) → told_sanswer r ≡ gives kind numbers → (x : SRecord) × (r ≡ Ok x) × (digit_of x.kind ≡ kind) × (numbers_of x ≡ numbers)
+told_gives (Ok x) kind numbers e = (x, refl, cc, cc)
+told_gives (Err f) kind numbers e = let z : ◌≡◌ {A = ℕ} 0 1 = cc in absurd (omega arith)
 
-told_refuses : (r : SAnswer) (f : Refusal) → told_sanswer r ≡ refuses f → (e : ReaderError) × (r ≡ Refused e) × (refusal_of e ≡ f)
-told_refuses (Read x) f e = let z : ◌≡◌ {A = ℕ} 0 1 = cc in absurd (omega arith)
-told_refuses (Refused w) f e = (w, refl, cc)
+told_refuses : (r : SAnswer) (f : Refusal) → told_sanswer r ≡ refuses f → (e : ReaderError) × (r ≡ Err e) × (refusal_of e ≡ f)
+told_refuses (Ok x) f e = let z : ◌≡◌ {A = ℕ} 0 1 = cc in absurd (omega arith)
+told_refuses (Err w) f e = (w, refl, cc)
 
 module _ (kind address : ℕ) (payload pool : List ℕ) (r : SAnswer) (pool' : List ℕ) (room : 252 ≤ length pool) (b : Bounds kind address payload) where
   heard_data : kind < 4 → Reads (says kind address payload) pool 0 r pool' → Heard (says kind address payload) pool r pool'
@@ -124,7 +123,7 @@ pub refusal_changes_nothing : RefusalChangesNothing
 refusal_changes_nothing x pool out e out' w = text.unchanged (line_text x pool) out 0 (swriter_refusal e) out' w
 
 -- a record that was written has no fault, and its line is what stands there
-lined : (x : SRecord) (pool out : List ℕ) (n : ℕ) (out' : List ℕ) → ToSRecordString x pool out (writings.Wrote n) out'
+lined : (x : SRecord) (pool out : List ℕ) (n : ℕ) (out' : List ℕ) → ToSRecordString x pool out (Ok n) out'
     → (refusal_for x (length pool) ≡ none) × (take n out' ≡ line x pool)
 lined x pool out n out' w = unless_chars (refusal_for x (length pool)) (line x pool) (take n out') (text.stands_there (line_text x pool) out n out' w).0
 
@@ -177,21 +176,21 @@ round_trip x pool out n out' h w =
 -- a record that holds data, and one that has none
 module _ (t : SType) (address : ℕ) (payload pool : List ℕ) (at : ℕ) (r : SAnswer) (pool' : List ℕ) where
   read_data : digit_of t < 4 → at + length payload ≤ length pool → Reads (says (digit_of t) address payload) pool at r pool'
-      → (y : SRecord) × (r ≡ Read y) × (y.kind ≡ t) × (y.address ≡ address) × (data_of y pool' ≡ payload)
+      → (y : SRecord) × (r ≡ Ok y) × (y.kind ≡ t) × (y.address ≡ address) × (data_of y pool' ≡ payload)
   unfolding answered poured
   read_data k h x =
       let e = lt-ltb (digit_of t) 4 k in
       let f = le-leb (at + length payload) (length pool) h in
       let y : SRecord = record { kind = t; address = address; at = at; len = length payload } in
-      (y, told_apart r (Read y) (rw (e, f) at x.answer), refl, refl, ap (λ (l : List ℕ). take (length payload) (drop at l)) (rw (e, f) at x.left) ∙ pasted_part pool at payload h)
+      (y, told_apart r (Ok y) (rw (e, f) at x.answer), refl, refl, ap (λ (l : List ℕ). take (length payload) (drop at l)) (rw (e, f) at x.left) ∙ pasted_part pool at payload h)
 
   read_bare : 4 ≤ digit_of t → payload ≡ [] → Reads (says (digit_of t) address payload) pool at r pool'
-      → (y : SRecord) × (r ≡ Read y) × (y.kind ≡ t) × (y.address ≡ address) × (data_of y pool' ≡ payload)
+      → (y : SRecord) × (r ≡ Ok y) × (y.kind ≡ t) × (y.address ≡ address) × (data_of y pool' ≡ payload)
   unfolding answered poured
   read_bare k z x =
       let e = le-ltb (digit_of t) 4 k in
       let y : SRecord = record { kind = t; address = address; at = 0; len = 0 } in
-      (y, told_apart r (Read y) (rw e at x.answer), refl, refl, sym z)
+      (y, told_apart r (Ok y) (rw e at x.answer), refl, refl, sym z)
 
 pub reads_what_was_written : ReadsWhatWasWritten
 reads_what_was_written x pool out n out' h w pool₂ at r pool₂' room x₂ =

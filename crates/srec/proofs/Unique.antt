@@ -6,26 +6,23 @@ use Rattle.std.specs.Prelude.{if◌then◌else◌}
 use Rattle.record.specs.Refusals.{Refusal, refusal}
 use Rattle.reader.specs.declared.ReaderError.{ReaderError}
 use Rattle.reader.specs.declared.ReaderError.TheVariants.{PoolFull}
-use Rattle.reader.specs.declared.Answer.{Answer}
-use Rattle.reader.specs.declared.Answer.TheVariants as old
+use Rattle.reader.specs.Aliases.{Answer}
 use Rattle.reader.specs.Told.{Told, gives, refuses, done}
 use Rattle.reader.proofs.Claims as old-claims
 use Rattle.writer.specs.Told.{ToldWritten}
 use Rattle.writer.specs.Told as written
 use Rattle.srec.specs.declared.SType.{SType}
 use Rattle.srec.specs.declared.SType.TheVariants.{S0, S1, S2, S3, S5, S7, S8, S9}
-use Rattle.srec.specs.declared.Named.{Named}
-use Rattle.srec.specs.declared.Named.TheVariants.{Kind, Nothing}
-use Rattle.srec.specs.declared.SAnswer.{SAnswer}
-use Rattle.srec.specs.declared.SAnswer.TheVariants.{Read, Refused}
+use Rattle.srec.specs.Aliases.{Named}
+use Rattle.srec.specs.Aliases.{SAnswer}
 use Rattle.srec.specs.declared.SWriterError.{SWriterError}
 use Rattle.srec.specs.declared.SWriterError.TheVariants.{PayloadOutsidePool, InvalidLengthForType, DataExceedsMaximumLength, AddressTooWide, OutputFull}
-use Rattle.srec.specs.declared.SWritten.{SWritten}
-use Rattle.srec.specs.declared.SWritten.TheVariants as writings
+use Rattle.srec.specs.Aliases.{SWritten}
 use Rattle.srec.specs.Record.{digit_of, told_type}
 use Rattle.srec.specs.Answer.{told_sanswer}
 use Rattle.srec.specs.Writer.{swriter_refusal, told_swritten}
 use Rattle.srec.specs.Claims.{TypeOfUnique, DigitUnique, ToldApart, ReadSrecordUnique, WrittenApart, ToSrecordStringUnique}
+use Rattle.std.specs.Prelude.{Err, None, Ok, Some}
 
 -- ---- types
 
@@ -57,13 +54,13 @@ same_type t u e = sym (type_again t) ∙ ap type_at e ∙ type_again u
 
 -- what was named
 named_by : Option ℕ → Named
-named_by (some d) = Kind (type_at d)
-named_by none = Nothing
+named_by (some d) = Some (type_at d)
+named_by none = None
 
 named_again : (r : Named) → named_by (told_type r) ≡ r
 unfolding named_by
-named_again (Kind t) = ap Kind (type_again t)
-named_again Nothing = refl
+named_again (Some t) = ap Some (type_again t)
+named_again None = refl
 
 pub type_of_unique : TypeOfUnique
 type_of_unique d r r' a b = sym (named_again r) ∙ ap named_by (a.answer ∙ sym b.answer) ∙ named_again r'
@@ -75,18 +72,18 @@ digit_unique t r r' a b = a.answer ∙ sym b.answer
 
 -- a refusal is found again as that of the other reader is
 error_of : Answer → ReaderError
-error_of (old.Read r) = PoolFull
-error_of (old.Refused e) = e
+error_of (Ok r) = PoolFull
+error_of (Err e) = e
 
 untold : Told → SAnswer
-untold (gives kind ns) = Read (record { kind = type_at kind; address = get_or ns 0 0; at = get_or ns 1 0; len = get_or ns 2 0 })
-untold (refuses r) = Refused (error_of (old-claims.untold (refuses r)))
-untold done = Refused (error_of (old-claims.untold done))
+untold (gives kind ns) = Ok (record { kind = type_at kind; address = get_or ns 0 0; at = get_or ns 1 0; len = get_or ns 2 0 })
+untold (refuses r) = Err (error_of (old-claims.untold (refuses r)))
+untold done = Err (error_of (old-claims.untold done))
 
 untold_told : (r : SAnswer) → untold (told_sanswer r) ≡ r
 unfolding untold error_of
-untold_told (Read r) = ap (λ (t : SType). Read (record { kind = t; address = r.address; at = r.at; len = r.len })) (type_again r.kind)
-untold_told (Refused e) = ap (λ (a : Answer). Refused (error_of a)) (old-claims.untold_told (old.Refused e))
+untold_told (Ok r) = ap (λ (t : SType). Ok (record { kind = t; address = r.address; at = r.at; len = r.len })) (type_again r.kind)
+untold_told (Err e) = ap (λ (a : Answer). Err (error_of a)) (old-claims.untold_told (Err e))
 
 pub told_apart : ToldApart
 told_apart a b e = sym (untold_told a) ∙ ap untold e ∙ untold_told b
@@ -106,8 +103,8 @@ error (refusal n vs) =
     OutputFull
 
 unwritten : ToldWritten → SWritten
-unwritten (written.wrote n) = writings.Wrote n
-unwritten (written.refuses r) = writings.Refused (error r)
+unwritten (written.wrote n) = Ok n
+unwritten (written.refuses r) = Err (error r)
 
 error_again : (e : SWriterError) → error (swriter_refusal e) ≡ e
 unfolding error
@@ -119,8 +116,8 @@ error_again OutputFull = refl
 
 unwritten_told : (r : SWritten) → unwritten (told_swritten r) ≡ r
 unfolding unwritten
-unwritten_told (writings.Wrote n) = refl
-unwritten_told (writings.Refused e) = ap writings.Refused (error_again e)
+unwritten_told (Ok n) = refl
+unwritten_told (Err e) = ap Err (error_again e)
 
 pub written_apart : WrittenApart
 written_apart a b e = sym (unwritten_told a) ∙ ap unwritten e ∙ unwritten_told b

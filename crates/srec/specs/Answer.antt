@@ -7,16 +7,16 @@ use Rattle.record.specs.Refusals.{pool_full}
 use Rattle.record.specs.Line.{Said, says, wrong}
 use Rattle.reader.specs.Told.{Told, gives, refuses, refusal_of}
 use Rattle.reader.specs.Answer.{fits_pool}
-use Rattle.srec.specs.declared.SAnswer.{SAnswer}
-use Rattle.srec.specs.declared.SAnswer.TheVariants.{Read, Refused}
+use Rattle.srec.specs.Aliases.{SAnswer}
 use Rattle.srec.specs.Types.{holds_data}
 use Rattle.srec.specs.Line.{judge}
 use Rattle.srec.specs.Record.{digit_of, numbers_of}
+use Rattle.std.specs.Prelude.{Err, Ok}
 
 -- what an answer tells: the type's digit, then address, position and length; or a refusal
 abbrev pub told_sanswer : SAnswer → Told
-told_sanswer (Read r) = gives (digit_of r.kind) (numbers_of r)
-told_sanswer (Refused e) = refuses (refusal_of e)
+told_sanswer (Ok r) = gives (digit_of r.kind) (numbers_of r)
+told_sanswer (Err e) = refuses (refusal_of e)
 
 -- what is returned for a record that goes into a pool of n bytes at a position: S5 and the ends have no data, and name no place of the pool
 unfoldable pub answered : Said → (n at : ℕ) → Told

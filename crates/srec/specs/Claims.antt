@@ -12,13 +12,11 @@ use Rattle.reader.specs.declared.ReaderError.{ReaderError}
 use Rattle.reader.specs.declared.ReaderError.TheVariants.{ContainsInvalidCharacters}
 use Rattle.writer.specs.Text.{chars}
 use Rattle.srec.specs.declared.SType.{SType}
-use Rattle.srec.specs.declared.Named.{Named}
+use Rattle.srec.specs.Aliases.{Named}
 use Rattle.srec.specs.declared.SRecord.{SRecord}
-use Rattle.srec.specs.declared.SAnswer.{SAnswer}
-use Rattle.srec.specs.declared.SAnswer.TheVariants as answers
+use Rattle.srec.specs.Aliases.{SAnswer}
 use Rattle.srec.specs.declared.SWriterError.{SWriterError}
-use Rattle.srec.specs.declared.SWritten.{SWritten}
-use Rattle.srec.specs.declared.SWritten.TheVariants as writings
+use Rattle.srec.specs.Aliases.{SWritten}
 use Rattle.srec.specs.Types.{is_named}
 use Rattle.srec.specs.Line.{complement_sum, judge}
 use Rattle.srec.specs.Format.{Complements, Format}
@@ -27,6 +25,7 @@ use Rattle.srec.specs.Written.{written, InCapitals, Writable}
 use Rattle.srec.specs.Record.{digit_of, DigitOf, TypeOf, data_of}
 use Rattle.srec.specs.Answer.{told_sanswer, answered, ReadSRecord}
 use Rattle.srec.specs.Writer.{told_swritten, line, line_text, ToSRecordString}
+use Rattle.std.specs.Prelude.{Err, Ok}
 
 -- the judge accepts exactly what the format admits, with the same type, address and data
 abbrev pub Admits : Type 0
@@ -117,7 +116,7 @@ ReadSrecordUnique =
 abbrev pub AnswersTheOffender : Type 0
 AnswersTheOffender =
     (line pool : List ℕ) (at p : ℕ) (pool' : List ℕ)
-    → ReadSRecord line pool at (answers.Refused (ContainsInvalidCharacters p)) pool' ↔ ((place : ℕ) × FirstOffender line place × (p ≡ named place) × (pool' ≡ pool))
+    → ReadSRecord line pool at (Err (ContainsInvalidCharacters p)) pool' ↔ ((place : ℕ) × FirstOffender line place × (p ≡ named place) × (pool' ≡ pool))
 
 -- with room for 252 bytes no line is answered PoolFull
 abbrev pub NeverFull : Type 0
@@ -126,9 +125,9 @@ NeverFull = (line : List ℕ) (n at : ℕ) → at + 252 ≤ n → is_full (answe
 -- what the reader answers, and leaves, where its pool has room for 252 bytes at the start: a record with its data there, or the refusal
 abbrev pub Heard : Said → (pool : List ℕ) → SAnswer → (pool' : List ℕ) → Type 0
 Heard (says kind address payload) pool r pool' =
-    (x : SRecord) × (r ≡ answers.Read x) × (digit_of x.kind ≡ kind) × (x.address ≡ address) × (x.at ≡ 0) × (x.len ≡ length payload)
+    (x : SRecord) × (r ≡ Ok x) × (digit_of x.kind ≡ kind) × (x.address ≡ address) × (x.at ≡ 0) × (x.len ≡ length payload)
     × (take (length payload) pool' ≡ payload)
-Heard (wrong f) pool r pool' = (e : ReaderError) × (r ≡ answers.Refused e) × (refusal_of e ≡ f) × (pool' ≡ pool)
+Heard (wrong f) pool r pool' = (e : ReaderError) × (r ≡ Err e) × (refusal_of e ≡ f) × (pool' ≡ pool)
 
 abbrev pub ReadsAtStart : Type 0
 ReadsAtStart =
@@ -147,12 +146,12 @@ ToSrecordStringUnique =
 -- a refusal changes no byte of the output
 abbrev pub RefusalChangesNothing : Type 0
 RefusalChangesNothing =
-    (x : SRecord) (pool out : List ℕ) (e : SWriterError) (out' : List ℕ) → ToSRecordString x pool out (writings.Refused e) out' → out' ≡ out
+    (x : SRecord) (pool out : List ℕ) (e : SWriterError) (out' : List ℕ) → ToSRecordString x pool out (Err e) out' → out' ≡ out
 
 -- what was written is the record's line, and what lies after it is as it was
 abbrev pub RestUntouched : Type 0
 RestUntouched =
-    (x : SRecord) (pool out : List ℕ) (n : ℕ) (out' : List ℕ) → ToSRecordString x pool out (writings.Wrote n) out'
+    (x : SRecord) (pool out : List ℕ) (n : ℕ) (out' : List ℕ) → ToSRecordString x pool out (Ok n) out'
     → (take n out' ≡ line x pool) × (drop n out' ≡ drop n out)
 
 -- a line of the format that says the record, in capitals
@@ -163,7 +162,7 @@ pub record LineFor (x : SRecord) (pool l : List ℕ) : Type 0 where
 -- the first n bytes that `to_srecord_string` leaves are such a line
 abbrev pub WritesLine : Type 0
 WritesLine =
-    (x : SRecord) (pool out : List ℕ) (n : ℕ) (out' : List ℕ) → Every Byte pool → ToSRecordString x pool out (writings.Wrote n) out'
+    (x : SRecord) (pool out : List ℕ) (n : ℕ) (out' : List ℕ) → Every Byte pool → ToSRecordString x pool out (Ok n) out'
     → LineFor x pool (take n out')
 
 -- and there is no second one
@@ -183,12 +182,12 @@ LinePlain = (x : SRecord) (pool : List ℕ) → Every (λ c. 48 ≤ c) (line x p
 -- and the line says the record again, with the data that the pool holds
 abbrev pub RoundTrip : Type 0
 RoundTrip =
-    (x : SRecord) (pool out : List ℕ) (n : ℕ) (out' : List ℕ) → Every Byte pool → ToSRecordString x pool out (writings.Wrote n) out'
+    (x : SRecord) (pool out : List ℕ) (n : ℕ) (out' : List ℕ) → Every Byte pool → ToSRecordString x pool out (Ok n) out'
     → judge (take n out') ≡ says (digit_of x.kind) x.address (data_of x pool)
 
 -- so the reader, with room in its pool, gives the same record with the same data
 abbrev pub ReadsWhatWasWritten : Type 0
 ReadsWhatWasWritten =
-    (x : SRecord) (pool out : List ℕ) (n : ℕ) (out' : List ℕ) → Every Byte pool → ToSRecordString x pool out (writings.Wrote n) out'
+    (x : SRecord) (pool out : List ℕ) (n : ℕ) (out' : List ℕ) → Every Byte pool → ToSRecordString x pool out (Ok n) out'
     → (pool₂ : List ℕ) (at : ℕ) (r : SAnswer) (pool₂' : List ℕ) → at + x.len ≤ length pool₂ → ReadSRecord (take n out') pool₂ at r pool₂'
-    → (y : SRecord) × (r ≡ answers.Read y) × (y.kind ≡ x.kind) × (y.address ≡ x.address) × (data_of y pool₂' ≡ data_of x pool)
+    → (y : SRecord) × (r ≡ Ok y) × (y.kind ≡ x.kind) × (y.address ≡ x.address) × (data_of y pool₂' ≡ data_of x pool)

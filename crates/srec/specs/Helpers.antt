@@ -1,26 +1,19 @@
 -- What the helpers of the reader and the writer ask of and promise each other.
 -- Assumes nothing.
-use Rattle.std.specs.Prelude.{◌≡◌, ℕ, ◌+◌, ◌*◌, ◌%◌, ◌<◌, ◌≤◌, true, List, length, take, drop, slice_index, slice_index_or}
+use Rattle.std.specs.Prelude.{◌≡◌, ℕ, ◌+◌, ◌*◌, ◌%◌, ◌≤◌, true, List, length, take, drop, slice_index, slice_index_or}
 use Rattle.std.proofs.Math.Option.{none}
 use Rattle.checksum.specs.Checksum.{sum}
 use Rattle.digits.specs.Common.{pasted}
 use Rattle.digits.specs.Digits.{digit, big_endian}
 use Rattle.digits.specs.Spelling.{spelt}
-use Rattle.srec.specs.declared.SType.{SType}
 use Rattle.srec.specs.declared.SRecord.{SRecord}
 use Rattle.srec.specs.Types.{is_named, width}
 use Rattle.srec.specs.Written.{most_data}
-use Rattle.srec.specs.Record.{digit_of}
 use Rattle.srec.specs.Writer.{refusal_for, line}
 
 -- the number that w bytes of a buffer from its second on say
 pub record Addressed (w : ℕ) (buf : List ℕ) (r : ℕ) : Type 0 where
   pub answer : r ≡ big_endian (take w (drop 1 buf))
-
--- a type that holds data, and n bytes of it in a buffer
-pub record Holding (kind : SType) (buf : List ℕ) (start n : ℕ) : Type 0 where
-  pub holds : digit_of kind < 4
-  pub inside : start + n ≤ length buf
 
 -- m bytes of a buffer after the digit of a named type, and their sum
 pub record Summed (kind : ℕ) (buf : List ℕ) (m total : ℕ) : Type 0 where

@@ -10,3 +10,4 @@ pub mod Helpers
 pub mod Claims
 pub mod Reasons
 pub mod Examples
+pub mod Aliases

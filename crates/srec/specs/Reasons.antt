@@ -6,7 +6,7 @@ use Rattle.record.specs.Refusals.{Refusal, invalid_length_for_type, payload_outs
 use Rattle.writer.specs.Told.{ToldWritten}
 use Rattle.writer.specs.Reasons.{Why}
 use Rattle.srec.specs.declared.SRecord.{SRecord}
-use Rattle.srec.specs.declared.SWritten.{SWritten}
+use Rattle.srec.specs.Aliases.{SWritten}
 use Rattle.srec.specs.Format.{Width, Size}
 use Rattle.srec.specs.Record.{digit_of}
 use Rattle.srec.specs.Writer.{told_swritten, ToSRecordString}

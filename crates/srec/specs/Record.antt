@@ -6,9 +6,9 @@ use Rattle.std.specs.Prelude.{if◌then◌else◌}
 use Rattle.srec.specs.declared.SType.{SType}
 use Rattle.srec.specs.declared.SType.TheVariants.{S0, S1, S2, S3, S5, S7, S8, S9}
 use Rattle.srec.specs.declared.SRecord.{SRecord}
-use Rattle.srec.specs.declared.Named.{Named}
-use Rattle.srec.specs.declared.Named.TheVariants.{Kind, Nothing}
+use Rattle.srec.specs.Aliases.{Named}
 use Rattle.srec.specs.Types.{is_named}
+use Rattle.std.specs.Prelude.{None, Some}
 
 abbrev pub digit_of : SType → ℕ
 digit_of S0 = 0
@@ -26,8 +26,8 @@ pub record DigitOf (t : SType) (r : ℕ) : Type 0 where
 
 -- the digit of the type that was named, if one was
 abbrev pub told_type : Named → Option ℕ
-told_type (Kind t) = some (digit_of t)
-told_type Nothing = none
+told_type (Some t) = some (digit_of t)
+told_type None = none
 
 -- the contract of `type_of`
 pub record TypeOf (digit : ℕ) (r : Named) : Type 0 where

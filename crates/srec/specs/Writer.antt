@@ -9,11 +9,11 @@ use Rattle.writer.specs.Text.{Text, unless, Leaves}
 use Rattle.srec.specs.declared.SRecord.{SRecord}
 use Rattle.srec.specs.declared.SWriterError.{SWriterError}
 use Rattle.srec.specs.declared.SWriterError.TheVariants.{PayloadOutsidePool, InvalidLengthForType, DataExceedsMaximumLength, AddressTooWide, OutputFull}
-use Rattle.srec.specs.declared.SWritten.{SWritten}
-use Rattle.srec.specs.declared.SWritten.TheVariants.{Wrote, Refused}
+use Rattle.srec.specs.Aliases.{SWritten}
 use Rattle.srec.specs.Types.{width, fits}
 use Rattle.srec.specs.Written.{beyond, most_data, written}
 use Rattle.srec.specs.Record.{digit_of, data_of}
+use Rattle.std.specs.Prelude.{Err, Ok}
 
 abbrev pub swriter_refusal : SWriterError → Refusal
 swriter_refusal PayloadOutsidePool = payload_outside_pool
@@ -24,8 +24,8 @@ swriter_refusal OutputFull = output_full
 
 -- what an answer tells: the length of what was written, or a refusal
 abbrev pub told_swritten : SWritten → ToldWritten
-told_swritten (Wrote n) = wrote n
-told_swritten (Refused e) = refuses (swriter_refusal e)
+told_swritten (Ok n) = wrote n
+told_swritten (Err e) = refuses (swriter_refusal e)
 
 -- why a record of the type has no line, over a pool of n bytes: 11, 9, 12, 25
 unfoldable pub line_refusal : (kind address at len n : ℕ) → Option Refusal

@@ -1,6 +1,6 @@
 -- The first pass, step by step: what a record and a line come to, and that the decision on what is left stays the whole decision.
 -- Assumes nothing.
-use Rattle.std.proofs.Common.{◌≡◌, ℕ, suc, ◌+◌, ◌-◌, ◌<◌, ◌≤◌, Bool, ◌≢◌, List, [], ◌∷◌, ◌++◌, map, length, take, drop, sym, refl, ap, ◌∙◌, subst, add-one, arith, length-drop, drop_of_length-le, eq-eqb, ne_eqb, le-leb}
+use Rattle.std.proofs.Common.{◌⊎◌, ⊎_elim, ◌≡◌, ℕ, suc, ◌+◌, ◌-◌, ◌<◌, ◌≤◌, Bool, ◌≢◌, List, [], ◌∷◌, ◌++◌, map, length, take, drop, sym, refl, ap, ◌∙◌, add-one, arith, length-drop, drop_of_length-le, eq-eqb, ne_eqb, le-leb}
 use mathlib.Core.Option.{some}
 use borrow.Author.Tests.{lt-leb}
 use Rattle.record.specs.Refusals.{missing_end_of_file_record, outside_window, count_mismatch}
@@ -11,24 +11,25 @@ use Rattle.reader.specs.Lines.{first_line, rest, lines}
 use Rattle.reader.proofs.Cutting.{lines_cons}
 use Rattle.reader.proofs.Searching.{CutOff, tail_is, behind_inside, behind_moves, rest_behind}
 use Rattle.srec.specs.declared.SRecord.{SRecord}
+use Rattle.srec.specs.declared.SType.{SType}
+use Rattle.srec.specs.declared.SType.TheVariants.{S0, S1, S2, S3, S5, S7, S8, S9}
 use Rattle.srec.specs.Line.{judge}
 use Rattle.srec.specs.Record.{digit_of, data_of}
-use Rattle.steps.specs.Steps.{linear_address, places, counts, Step, step, nothing_yet, accepted, refused, turn, decision, verdict}
+use Rattle.steps.specs.Steps.{linear_address, places, counts, Step, step, accepted, refused, turn, decision, verdict}
 use Rattle.steps.specs.Source.{steps}
 use Rattle.steps.specs.Source as source
-use Rattle.steps.specs.declared.Loading.{Loading}
-use Rattle.steps.specs.Told.{told_loading}
-use Rattle.window.specs.declared.Reach.TheVariants.{Inside, Outside}
+use Rattle.steps.specs.Aliases.{Loading}
+use Rattle.steps.specs.declared.Tally.{Tally as CodeTally}
+use Rattle.steps.specs.Told.{tallied, told_loading}
 use Rattle.window.specs.Promises.{Surveyed}
 use Rattle.srecload.specs.declared.Walk.{Walk}
-use Rattle.srecload.specs.declared.Turn.{Turn}
-use Rattle.srecload.specs.declared.Turn.TheVariants.{On, Stop}
 use Rattle.srecload.specs.Placing.{s_header, s_data, s_count, s_end, s_meaning, s_address, s_placed, s_does, s_act, s_records, line_steps}
-use Rattle.srecload.specs.Load.{steps_of}
-use Rattle.srecload.specs.Helpers.{so_far, Passed, Met, ahead_of, UnderWay, Onward, Judged}
+use Rattle.srecload.specs.Helpers.{so_far, Passed, ahead_of, left_of, UnderWay, stands_in, HasMet, has_met}
+use Rattle.window.specs.LineByLine.{Begun, JudgedOn}
 use Rattle.srecload.proofs.Reading.{Came}
+use Rattle.std.specs.Prelude.{None, Some}
 
--- ---- what a digit means
+-- ---- what a digit means, and a type
 
 module _ (d address : ℕ) (bytes : List ℕ) where
   pub means_header : d ≡ 0 → s_meaning d address bytes ≡ s_header
@@ -47,36 +48,52 @@ module _ (d address : ℕ) (bytes : List ℕ) where
   unfolding s_meaning
   means_end l n = rw (ne_eqb d 0 (omega arith), lt-leb d 3 l, ne_eqb d 5 n)
 
+module _ (t : SType) (address : ℕ) (bytes : List ℕ) where
+  pub kind_header : t ≡ S0 → s_meaning (digit_of t) address bytes ≡ s_header
+  unfolding s_meaning
+  kind_header e = rw e
+
+  pub kind_data : (t ≡ S1) ⊎ ((t ≡ S2) ⊎ (t ≡ S3)) → s_meaning (digit_of t) address bytes ≡ s_data address bytes
+  unfolding s_meaning
+  kind_data e = ⊎_elim (λ p. rw p) (λ q. ⊎_elim (λ p. rw p) (λ p. rw p) q) e
+
+  pub kind_count : t ≡ S5 → s_meaning (digit_of t) address bytes ≡ s_count address
+  unfolding s_meaning
+  kind_count e = rw e
+
+  pub kind_end : (t ≡ S7) ⊎ ((t ≡ S8) ⊎ (t ≡ S9)) → s_meaning (digit_of t) address bytes ≡ s_end address
+  unfolding s_meaning
+  kind_end e = ⊎_elim (λ p. rw p) (λ q. ⊎_elim (λ p. rw p) (λ p. rw p) q) e
+
 -- ---- one record
 
-module _ (inside : ℕ → Bool) (there : Walk) (seen : ℕ) where
+module _ (inside : ℕ → Bool) (n seen : ℕ) where
   -- what does nothing
-  pub met_nothing : Passed inside there seen [] there seen
-  met_nothing = record { walk = refl; counted = omega arith; same = λ rest. refl }
+  pub met_nothing : Passed inside seen [] seen
+  met_nothing = record { counted = omega arith; same = λ rest. refl }
 
-  pub met_count : (stated : ℕ) → stated ≡ seen → Passed inside there seen (step there.line (counts stated) ∷ []) there seen
+  pub met_count : (stated : ℕ) → stated ≡ seen → Passed inside seen (step n (counts stated) ∷ []) seen
   unfolding decision turn
-  met_count stated e = record { walk = refl; counted = omega arith; same = λ rest. rw (eq-eqb stated (seen) e) }
+  met_count stated e = record { counted = omega arith; same = λ rest. rw (eq-eqb stated (seen) e) }
 
   pub met_miscount : (stated : ℕ) → stated ≢ seen
-      → (rest : List Step) → refused (count_mismatch stated (seen)) there.line ≡ verdict (decision inside (so_far seen) ((step there.line (counts stated) ∷ []) ++ rest))
+      → (rest : List Step) → refused (count_mismatch stated (seen)) n ≡ verdict (decision inside (so_far seen) ((step n (counts stated) ∷ []) ++ rest))
   unfolding decision turn verdict
-  met_miscount stated n rest = rw (ne_eqb stated (seen) n)
+  met_miscount stated ne rest = rw (ne_eqb stated (seen) ne)
 
   pub met_end : (address : ℕ) (rest : List Step)
-      → accepted (record { records = seen; start = some (linear_address address) }) ≡ verdict (decision inside (so_far seen) (map (step there.line) (s_does (s_end address)) ++ rest))
+      → accepted (record { records = seen; start = some (linear_address address) }) ≡ verdict (decision inside (so_far seen) (map (step n) (s_does (s_end address)) ++ rest))
   unfolding decision turn verdict s_does
   met_end address rest = refl
 
-module _ (inside : ℕ → Bool) (there : Walk) (seen : ℕ) (address len : ℕ) (bytes : List ℕ) (l : length bytes ≡ len) where
-  pub met_inside : Surveyed (s_address address) len inside Inside
-      → Passed inside there seen (step there.line (places (s_placed address bytes)) ∷ []) there (seen + 1)
+module _ (inside : ℕ → Bool) (n seen : ℕ) (address len : ℕ) (bytes : List ℕ) (l : length bytes ≡ len) where
+  pub met_inside : Surveyed (s_address address) len inside None → Passed inside seen (step n (places (s_placed address bytes)) ∷ []) (seen + 1)
   unfolding decision turn
-  met_inside s = record { walk = refl; counted = omega arith; same = λ rest. rw (s.answer bytes l, add-one (seen)) }
+  met_inside s = record { counted = omega arith; same = λ rest. rw (s.answer bytes l, add-one (seen)) }
 
-  pub met_outside : (i : ℕ) → Surveyed (s_address address) len inside (Outside i)
-      → (rest : List Step) → refused (outside_window (s_address address i)) there.line
-      ≡ verdict (decision inside (so_far seen) ((step there.line (places (s_placed address bytes)) ∷ []) ++ rest))
+  pub met_outside : (i : ℕ) → Surveyed (s_address address) len inside (Some i)
+      → (rest : List Step) → refused (outside_window (s_address address i)) n
+      ≡ verdict (decision inside (so_far seen) ((step n (places (s_placed address bytes)) ∷ []) ++ rest))
   unfolding decision turn verdict
   met_outside i s rest = rw (s.answer bytes l)
 
@@ -141,60 +158,37 @@ module _ (text : List ℕ) (w : Walk) (under : UnderWay text w) (left : w.positi
       ∙ steps_cons (suc w.line) (first_line (drop w.position text)) (lines (rest (drop w.position text)))
       ∙ rw (add-one w.line, ← here.first, rest_behind text w.position left n here.place)
 
-  pub judged : (inside : ℕ → Bool) (seen : ℕ) → seen ≤ w.line → (t : Turn)
-      → Met inside there seen (line_steps (w.line + 1) line) t → Judged inside text w seen t
-  judged inside seen few (On seen' w') p =
-      rw p.walk (record {
-        under_way = under_way_there;
-        counted = omega (arith, p.counted);
-        same = p.same (ahead_of there text) ∙ ap (decision inside (so_far seen)) (sym ahead_step);
-        less = omega (arith, moves);
-      })
-  judged inside seen few (Stop l) h = h (ahead_of there text) ∙ ap (λ (s : List Step). verdict (decision inside (so_far seen) s)) (sym ahead_step)
+  module _ (inside : ℕ → Bool) (seen : ℕ) where
+    pub judged_on : (tally : CodeTally) → HasMet w tally → tally.records ≡ seen → (seen' : ℕ) → Passed inside seen (line_steps (w.line + 1) line) seen'
+        → JudgedOn stands_in has_met ahead_of left_of inside text w tally there (record { records = seen'; start = tally.start })
+    judged_on tally m e seen' p =
+        record {
+          stands = under_way_there;
+          met = record { no_start = m.no_start; counted = omega (arith, p.counted, m.counted) };
+          same = rw (m.no_start, e) (p.same (ahead_of there text) ∙ ap (decision inside (so_far seen)) (sym ahead_step));
+          less = omega (arith, moves, stays_inside);
+        }
+
+    pub judged_stop : (tally : CodeTally) → HasMet w tally → tally.records ≡ seen → (l : Loading)
+        → ((rest : List Step) → told_loading l ≡ verdict (decision inside (so_far seen) (line_steps (w.line + 1) line ++ rest)))
+        → told_loading l ≡ verdict (decision inside (tallied tally) (ahead_of w text))
+    judged_stop tally m e l h = rw (m.no_start, e) (h (ahead_of there text) ∙ ap (λ (s : List Step). verdict (decision inside (so_far seen) s)) (sym ahead_step))
 
 -- at the end of the text there are no steps
 pub no_steps : (text : List ℕ) (w : Walk) → w.position ≡ length text → ahead_of w text ≡ []
 unfolding steps lines
 no_steps text w e = let d : drop w.position text ≡ [] = drop_of_length-le text {i = w.position} (omega arith) in rw d
 
-pub judged_out : (inside : ℕ → Bool) (text : List ℕ) (w : Walk) (seen : ℕ) → w.position ≡ length text
-    → refused missing_end_of_file_record 0 ≡ verdict (decision inside (so_far seen) (ahead_of w text))
+pub judged_out : (inside : ℕ → Bool) (text : List ℕ) (w : Walk) (tally : CodeTally) → w.position ≡ length text
+    → refused missing_end_of_file_record 0 ≡ verdict (decision inside (tallied tally) (ahead_of w text))
 unfolding decision verdict
-judged_out inside text w seen e = rw (no_steps text w e)
+judged_out inside text w tally e = rw (no_steps text w e)
 
--- ---- the whole text
+-- ---- the beginning of a text
 
 abbrev pub start : Walk
 start = record { position = 0; line = 0 }
 
-pub start_under_way : (text : List ℕ) → UnderWay text start
-start_under_way text = record { inside = omega arith; few = omega arith }
-
-pub start_ahead : (text : List ℕ) → ahead_of start text ≡ steps_of text
+pub begun : (text : List ℕ) → Begun s_records stands_in has_met ahead_of start text
 unfolding source.steps_of s_records
-start_ahead text = refl
-
-pub record Judging (inside : ℕ → Bool) (text pool : List ℕ) (w : Walk) (seen : ℕ) : Type 0 where
-  pub under_way : UnderWay text w
-  pub counted : seen ≤ w.line
-  pub room : length pool ≡ 252
-  pub same : decision inside (so_far seen) (ahead_of w text) ≡ decision inside nothing_yet (steps_of text)
-
-pub judging_start : (inside : ℕ → Bool) (text pool : List ℕ) → length pool ≡ 252 → Judging inside text pool start 0
-judging_start inside text pool l =
-    record { under_way = start_under_way text; counted = omega arith; room = l; same = ap (decision inside nothing_yet) (start_ahead text) }
-
-module _ (inside : ℕ → Bool) (text pool : List ℕ) (w : Walk) (seen : ℕ) (j : Judging inside text pool w seen) (t : Turn) (h : Judged inside text w seen t) where
-  onward : (w' : Walk) (seen' : ℕ) → t ≡ On seen' w' → Onward inside text w seen w' seen'
-  onward w' seen' e = subst (Judged inside text w seen) e h
-
-  pub judging_less : (w' : Walk) (seen' : ℕ) → t ≡ On seen' w' → length text - w'.position < length text - w.position
-  judging_less w' seen' e = let o = onward w' seen' e in omega (arith, o.less, o.under_way.inside)
-
-  pub judging_again : (w' : Walk) (seen' : ℕ) → t ≡ On seen' w' → (pool' : List ℕ) → length pool' ≡ length pool → Judging inside text pool' w' seen'
-  judging_again w' seen' e pool' l =
-      let o = onward w' seen' e in
-      record { under_way = o.under_way; counted = o.counted; room = l ∙ j.room; same = o.same ∙ j.same }
-
-  pub judging_end : (l : Loading) → t ≡ Stop l → told_loading l ≡ verdict (decision inside nothing_yet (steps_of text))
-  judging_end l e = subst (Judged inside text w seen) e h ∙ ap verdict j.same
+begun text = record { stands = record { inside = omega arith; few = omega arith }; met = record { no_start = refl; counted = omega arith }; all = refl }

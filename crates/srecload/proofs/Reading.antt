@@ -9,13 +9,13 @@ use Rattle.reader.specs.declared.ReaderError.{ReaderError}
 use Rattle.reader.specs.Told.{gives, refuses, refusal_of}
 use Rattle.reader.specs.Answer.{fits_pool}
 use Rattle.srec.specs.declared.SRecord.{SRecord}
-use Rattle.srec.specs.declared.SAnswer.TheVariants.{Read, Refused}
 use Rattle.srec.specs.Line.{judge}
 use Rattle.srec.specs.Types.{fits}
 use Rattle.srec.specs.Record.{digit_of, data_of}
 use Rattle.srec.specs.Answer.{answered, poured, ReadSRecord}
 use Rattle.srec.proofs.Naming.{width_few}
 use Rattle.srec.proofs.Writing.{said_is_writable}
+use Rattle.std.specs.Prelude.{Err, Ok}
 
 -- a record that was read: the line says its type and address, with the data that the pool holds then
 pub record Came (line pool' : List ℕ) (x : SRecord) : Type 0 where
@@ -68,7 +68,7 @@ module _ (line pool pool' : List ℕ) (room : length pool ≡ 252) where
       let d : data_of x pool' ≡ [] = rw l in
       record { said = e ∙ rw (k, a, d, no_bytes payload z); sized = ap length d ∙ sym l; lies = rw (at_0, l) (omega arith); few = omega arith }
 
-  pub came_read : (x : SRecord) → ReadSRecord line pool 0 (Read x) pool' → Came line pool' x
+  pub came_read : (x : SRecord) → ReadSRecord line pool 0 (Ok x) pool' → Came line pool' x
   unfolding answered poured
   came_read x h = go (judge line) refl h.answer h.left
     where
@@ -90,7 +90,7 @@ module _ (line pool pool' : List ℕ) (room : length pool ≡ 252) where
           by_kind false q t p =
               other_came x kind address payload e (none_beside kind (length payload) q (said_is_writable line kind address payload e).sized) t
 
-  pub came_refused : (e : ReaderError) → ReadSRecord line pool 0 (Refused e) pool' → judge line ≡ wrong (refusal_of e)
+  pub came_refused : (e : ReaderError) → ReadSRecord line pool 0 (Err e) pool' → judge line ≡ wrong (refusal_of e)
   unfolding answered
   came_refused e h = go (judge line) refl h.answer
     where

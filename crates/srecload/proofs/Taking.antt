@@ -10,50 +10,49 @@ use Rattle.srec.specs.declared.SRecord.{SRecord}
 use Rattle.srec.specs.Line.{judge}
 use Rattle.srec.specs.Record.{digit_of}
 use Rattle.steps.specs.declared.LoaderError.TheVariants.{BadWindow, Line}
-use Rattle.steps.specs.declared.Loading.{Loading}
-use Rattle.steps.specs.declared.Loading.TheVariants.{Refused}
+use Rattle.steps.specs.Aliases.{Loading}
 use Rattle.steps.specs.Steps.{Placement, Action, places, counts, finishes, Step, step, Tally, by, outside, turn, decision, verdict, stated, at_data}
 use Rattle.steps.specs.Taken.{Went, on, stopped, onward, acted, at_line}
 use Rattle.steps.specs.Told.{told_loading}
-use Rattle.window.specs.Promises.{Painted, PutInside}
+use Rattle.window.specs.Promises.{Painted, PutInside, OneWindow}
+use Rattle.window.specs.declared.Row.{Row}
 use Rattle.window.specs.Window.{within, window, unfit}
-use Rattle.window.specs.Table.{rows_in, inside_of, site_of}
-use Rattle.window.proofs.Alone.{alone, inside_is, alone_painted}
+use Rattle.window.specs.Table.{inside_of, site_of}
+use Rattle.window.proofs.Alone.{inside_is, alone_painted}
 use Rattle.window.proofs.Spread.{Runs}
 use Rattle.window.proofs.Whole.{whole_inside, whole_stored}
-use Rattle.srecload.specs.declared.Walk.{Walk}
 use Rattle.srecload.specs.declared.Taken.{Taken}
 use Rattle.srecload.specs.declared.Taken.TheVariants.{On, Stop}
-use Rattle.srecload.specs.Placing.{SMeaning, s_header, s_data, s_count, s_end, s_address, s_placed, s_does, s_act, s_records}
+use Rattle.srecload.specs.Placing.{SMeaning, s_meaning, s_header, s_data, s_count, s_end, s_address, s_placed, s_does, s_act, s_records}
 use Rattle.srecload.specs.Helpers.{meant_in, LiesIn, so_far, Passed, TookRecord, TookInWindow, PutWhole}
 use Rattle.srecload.specs.Taking.{told_taken, closed, TakeLine}
 use Rattle.srecload.proofs.Reading.{Came}
-use Rattle.srecload.proofs.Meeting.{means_data}
 use Rattle.srecload.proofs.Runs.{runs, from_address}
+use Rattle.steps.specs.Aliases.{refuse}
 
 -- ---- one record
 
-module _ (inside : ℕ → Bool) (there : Walk) (seen : ℕ) where
+module _ (inside : ℕ → Bool) (n seen : ℕ) where
   -- what the actions of a line come to, as steps before whatever follows
   abbrev Comes : List Action → Went Unit → Type 0
   Comes acts (on st) =
-      (st.stated ≡ stated (map (step there.line) acts))
-      × ((rest : List Step) → decision inside (so_far seen) (map (step there.line) acts ++ rest) ≡ decision inside st.tally rest)
-  Comes acts (stopped v ps) = (ps ≡ []) × ((rest : List Step) → decision inside (so_far seen) (map (step there.line) acts ++ rest) ≡ some (by there.line v))
+      (st.stated ≡ stated (map (step n) acts))
+      × ((rest : List Step) → decision inside (so_far seen) (map (step n) acts ++ rest) ≡ decision inside st.tally rest)
+  Comes acts (stopped v ps) = (ps ≡ []) × ((rest : List Step) → decision inside (so_far seen) (map (step n) acts ++ rest) ≡ some (by n v))
 
-  comes : (m : SMeaning) → Comes (s_does m) (acted inside there.line tt (so_far seen) [] (s_does m))
+  comes : (m : SMeaning) → Comes (s_does m) (acted inside n tt (so_far seen) [] (s_does m))
   unfolding acted decision turn stated s_does
   comes s_header = (refl, λ rest. refl)
   comes (s_data address bytes) = go (outside inside (s_placed address bytes)) refl
     where
       go : (o : Option ℕ) → outside inside (s_placed address bytes) ≡ o
           → Comes (places (s_placed address bytes) ∷ [])
-          (onward (at_data there.line o (so_far seen)) [] (λ t. on (record { state = tt; tally = t; stated = s_placed address bytes })))
+          (onward (at_data n o (so_far seen)) [] (λ t. on (record { state = tt; tally = t; stated = s_placed address bytes })))
       go none e = (sym (append-nil (s_placed address bytes)), λ rest. rw e)
       go (some out) e = (refl, λ rest. rw e)
   comes (s_count c) = go (eqb c seen) refl
     where
-      go : (b : Bool) → eqb c seen ≡ b → Comes (counts c ∷ []) (acted inside there.line tt (so_far seen) [] (counts c ∷ []))
+      go : (b : Bool) → eqb c seen ≡ b → Comes (counts c ∷ []) (acted inside n tt (so_far seen) [] (counts c ∷ []))
       go true e = rw e (refl, λ rest. rw e)
       go false e = rw e (refl, λ rest. rw e)
   comes (s_end address) = (refl, λ rest. refl)
@@ -63,17 +62,17 @@ module _ (inside : ℕ → Bool) (there : Walk) (seen : ℕ) where
   last = step 0 finishes ∷ []
 
   -- the load goes on with the tally that the first pass goes on with
-  went_on : (acts : List Action) (w' : Walk) (seen' : ℕ) → Passed inside there seen (map (step there.line) acts) w' seen'
-      → (w : Went Unit) → Comes acts w → w ≡ told_taken (On seen') (stated (map (step there.line) acts))
+  went_on : (acts : List Action) (seen' : ℕ) → Passed inside seen (map (step n) acts) seen'
+      → (w : Went Unit) → Comes acts w → w ≡ told_taken (On seen') (stated (map (step n) acts))
   unfolding decision turn
-  went_on acts w' seen' p (on st) (s, d) =
+  went_on acts seen' p (on st) (s, d) =
       let both : decision inside (so_far seen') last ≡ decision inside st.tally last = p.same last ∙ d last in
       let t : so_far seen' ≡ st.tally = cc in
       ap₂ (λ (t : Tally) (ps : List Placement). on (record { state = tt; tally = t; stated = ps })) (sym t) s
-  went_on acts w' seen' p (stopped v ps) (s, d) = let none-some = p.same [] ∙ d [] in let z : ◌≡◌ {A = ℕ} 0 1 = cc in absurd (omega arith)
+  went_on acts seen' p (stopped v ps) (s, d) = let none-some = p.same [] ∙ d [] in let z : ◌≡◌ {A = ℕ} 0 1 = cc in absurd (omega arith)
 
   -- and it stops with the answer at which the first pass stops
-  went_out : (acts : List Action) (l : Loading) → ((rest : List Step) → told_loading l ≡ verdict (decision inside (so_far seen) (map (step there.line) acts ++ rest)))
+  went_out : (acts : List Action) (l : Loading) → ((rest : List Step) → told_loading l ≡ verdict (decision inside (so_far seen) (map (step n) acts ++ rest)))
       → (w : Went Unit) → Comes acts w → w ≡ told_taken (Stop l) []
   unfolding decision turn verdict
   went_out acts l h (on st) (s, d) =
@@ -83,20 +82,22 @@ module _ (inside : ℕ → Bool) (there : Walk) (seen : ℕ) where
   went_out acts l h (stopped v ps) (s, d) = ap₂ stopped (sym (h [] ∙ ap verdict (d []))) s
 
   -- so it is with a record
-  pub record_goes : (m : SMeaning) (w' : Walk) (seen' : ℕ) → Passed inside there seen (map (step there.line) (s_does m)) w' seen'
-      → acted inside there.line tt (so_far seen) [] (s_does m) ≡ told_taken (On seen') (stated (map (step there.line) (s_does m)))
-  record_goes m w' seen' p = went_on (s_does m) w' seen' p (acted inside there.line tt (so_far seen) [] (s_does m)) (comes m)
+  pub record_goes : (m : SMeaning) (seen' : ℕ) → Passed inside seen (map (step n) (s_does m)) seen'
+      → acted inside n tt (so_far seen) [] (s_does m) ≡ told_taken (On seen') (stated (map (step n) (s_does m)))
+  record_goes m seen' p = went_on (s_does m) seen' p (acted inside n tt (so_far seen) [] (s_does m)) (comes m)
 
-  pub record_stops : (m : SMeaning) (l : Loading) → ((rest : List Step) → told_loading l ≡ verdict (decision inside (so_far seen) (map (step there.line) (s_does m) ++ rest)))
-      → acted inside there.line tt (so_far seen) [] (s_does m) ≡ told_taken (Stop l) []
-  record_stops m l h = went_out (s_does m) l h (acted inside there.line tt (so_far seen) [] (s_does m)) (comes m)
+  pub record_stops : (m : SMeaning) (l : Loading) → ((rest : List Step) → told_loading l ≡ verdict (decision inside (so_far seen) (map (step n) (s_does m) ++ rest)))
+      → acted inside n tt (so_far seen) [] (s_does m) ≡ told_taken (Stop l) []
+  record_stops m l h = went_out (s_does m) l h (acted inside n tt (so_far seen) [] (s_does m)) (comes m)
 
 -- taken through the window as a table of its own, upon a page and marks that were left as they were
-pub took_by_table : (n seen : ℕ) (x : SRecord) (pool : List ℕ) (first : ℕ) (page marks page₁ marks₁ : List ℕ) → (page₁ ≡ page) × (marks₁ ≡ marks) → (r : Taken) (page' marks' : List ℕ)
-    → TookRecord (inside_of 1 (rows_in (alone first (length page₁)))) (site_of 1 (rows_in (alone first (length page₁)))) n seen x pool page₁ marks₁ r page' marks'
-    → TookInWindow n seen x pool first page marks r page' marks'
-took_by_table n seen x pool first page marks page₁ marks₁ (e, f) r page' marks' (ps, h, p) =
-    rw (← e, ← f) (ps, rw (inside_is first (length page₁)) at h, alone_painted first (length page₁) ps page₁ marks₁ page' marks' p)
+pub took_by_table : (n seen : ℕ) (x : SRecord) (pool : List ℕ) (first : ℕ) (page marks page₁ marks₁ : List ℕ) → (page₁ ≡ page) × (marks₁ ≡ marks)
+    → (rows : List Row) → OneWindow first (length page₁) rows → (r : Taken) (page' marks' : List ℕ)
+    → TookRecord (inside_of 1 rows) (site_of 1 rows) n seen x pool page₁ marks₁ r page' marks' → TookInWindow n seen x pool first page marks r page' marks'
+took_by_table n seen x pool first page marks page₁ marks₁ (e, f) rows one r page' marks' (ps, h, p) =
+    let h₁ = rw (one.answer, inside_is first (length page₁)) at h in
+    let p₁ = rw one.answer at p in
+    rw (← e, ← f) (ps, h₁, alone_painted first (length page₁) ps page₁ marks₁ page' marks' p₁)
 
 -- ---- a data record stored at once
 
@@ -104,7 +105,7 @@ module _ (x : SRecord) (pool : List ℕ) (first : ℕ) (page marks : List ℕ) w
   pub not_put : PutWhole x pool first page marks false page marks
   not_put = record { took = λ t. absurd (true≢false (sym t)); kept = λ f. (refl, refl) }
 
-  module _ (lies : LiesIn x pool) (no_Header : digit_of x.kind ≢ 0) (is-data : digit_of x.kind ≤ 3) (a : x.address < 2 ^ 32)
+  module _ (lies : LiesIn x pool) (is_data : (bytes : List ℕ) → s_meaning (digit_of x.kind) x.address bytes ≡ s_data x.address bytes) (a : x.address < 2 ^ 32)
       (k : ℕ) (is-k : k ≡ min x.len (2 ^ 32 - x.address)) (all : x.len ≤ k) where
     abbrev bytes : List ℕ
     bytes = take (x.at + x.len - x.at) (drop x.at pool)
@@ -121,7 +122,7 @@ module _ (x : SRecord) (pool : List ℕ) (first : ℕ) (page marks : List ℕ) w
     counts_one : (n seen : ℕ) → outside (within first (length page)) (s_placed x.address bytes) ≡ none
         → acted (within first (length page)) n tt (so_far seen) [] (s_does (meant_in x pool)) ≡ told_taken (On (seen + 1)) (s_placed x.address bytes)
     unfolding acted turn s_does
-    counts_one n seen o = rw (← (part_is pool x.at x.len), means_data (digit_of x.kind) x.address bytes no_Header is-data, o, add-one seen)
+    counts_one n seen o = rw (← (part_is pool x.at x.len), is_data bytes, o, add-one seen)
 
     pub put_data : (r : Bool) (page' marks' : List ℕ) → PutInside first x.address bytes page marks r page' marks' → PutWhole x pool first page marks r page' marks'
     put_data r page' marks' p =
@@ -146,7 +147,7 @@ module _ (inside : ℕ → Bool) (n seen : ℕ) (line : List ℕ) where
   unfolding at_line s_records s_act
   line_read pool x w c h = rw c.said h
 
-  pub line_refused : (e : ReaderError) → judge line ≡ wrong (refusal_of e) → LineIs (told_taken (Stop (Refused (Line e) n)) [])
+  pub line_refused : (e : ReaderError) → judge line ≡ wrong (refusal_of e) → LineIs (told_taken (Stop (refuse (Line e) n)) [])
   unfolding at_line acted turn s_records s_act
   line_refused e h = rw h
 
@@ -164,7 +165,7 @@ module _ (seen first page marks : ℕ) where
 
 module _ (line : List ℕ) (number seen first : ℕ) (page marks : List ℕ) where
   -- nothing is taken
-  pub take_closed : closed seen first (length page) (length marks) ≡ true → TakeLine line number seen first page marks (Stop (Refused BadWindow 0)) page marks
+  pub take_closed : closed seen first (length page) (length marks) ≡ true → TakeLine line number seen first page marks (Stop (refuse BadWindow 0)) page marks
   take_closed c = record { refused = λ t. (refl, refl, refl); taken = λ f. let z : ◌≡◌ {A = ℕ} 0 1 = cc in absurd (omega arith) }
 
   -- a line that came to something in the window

@@ -14,7 +14,7 @@ use Rattle.srec.specs.Format.{Format}
 use Rattle.srec.specs.Faults.{FirstOffender}
 use Rattle.marks.specs.Marks.{row_length, mark_at}
 use Rattle.marks.specs.Claims.{Bytes}
-use Rattle.steps.specs.declared.Loading.{Loading}
+use Rattle.steps.specs.Aliases.{Loading}
 use Rattle.steps.specs.Steps.{Placement, linear_address, Tally, Verdict, accepted, refused, by}
 use Rattle.steps.specs.Sites.{Loaded, OwedAt}
 use Rattle.steps.specs.Account.{Account, Among}

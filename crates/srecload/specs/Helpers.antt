@@ -1,26 +1,23 @@
 -- What the private functions of the crate promise each other.
 -- Assumes nothing.
-use Rattle.std.specs.Prelude.{◌≡◌, ℕ, suc, ◌+◌, ◌<◌, ◌≤◌, Bool, true, false, List, [], ◌∷◌, ◌++◌, map, length, take, drop}
+use Rattle.std.specs.Prelude.{◌≡◌, ℕ, suc, ◌+◌, ◌-◌, ◌≤◌, Bool, true, false, List, [], ◌∷◌, ◌++◌, map, length, take, drop}
 use Rattle.std.proofs.Math.Option.{Option, none}
 use Rattle.reader.specs.Lines.{lines}
 use Rattle.srec.specs.declared.SRecord.{SRecord}
 use Rattle.srec.specs.Record.{digit_of}
 use Rattle.steps.specs.Steps.{Placement, places, counts, Step, step, Tally, decision, verdict, stated}
+use Rattle.steps.specs.declared.Tally.{Tally as CodeTally}
 use Rattle.steps.specs.Source.{steps}
 use Rattle.steps.specs.Taken.{acted}
 use Rattle.steps.specs.Told.{told_loading}
 use Rattle.window.specs.Window.{within, window}
 use Rattle.window.specs.Promises.{Painted}
-use Rattle.window.specs.Load.{SamePainting}
 use Rattle.srecload.specs.declared.Walk.{Walk}
-use Rattle.srecload.specs.declared.Turn.{Turn}
-use Rattle.srecload.specs.declared.Turn.TheVariants.{On, Stop}
 use Rattle.srecload.specs.declared.Taken.{Taken}
 use Rattle.srecload.specs.declared.Taken.TheVariants as taken
-use Rattle.srecload.specs.declared.Further.{Further}
-use Rattle.srecload.specs.declared.Further.TheVariants as further
 use Rattle.srecload.specs.Placing.{SMeaning, s_meaning, s_placed, s_does, s_records, line_steps}
 use Rattle.srecload.specs.Taking.{told_taken}
+use Rattle.std.specs.Prelude.{None}
 
 -- ---- one record
 
@@ -43,49 +40,52 @@ abbrev pub so_far : (seen : ℕ) → Tally
 so_far seen = record { records = seen; start = none }
 
 -- steps that come before whatever follows: the load goes on from there, with so many data records seen
-pub record Passed (inside : ℕ → Bool) (there : Walk) (seen : ℕ) (s : List Step) (w' : Walk) (seen' : ℕ) : Type 0 where
-  pub walk : w' ≡ there
+pub record Passed (inside : ℕ → Bool) (seen : ℕ) (s : List Step) (seen' : ℕ) : Type 0 where
   pub counted : seen' ≤ suc (seen)
   pub same : (rest : List Step) → decision inside (so_far seen') rest ≡ decision inside (so_far seen) (s ++ rest)
 
 -- it goes on, or it stops with an answer
-abbrev pub Met : (inside : ℕ → Bool) (there : Walk) (seen : ℕ) (s : List Step) → Turn → Type 0
-Met inside there seen s (On seen' w') = Passed inside there seen s w' seen'
-Met inside there seen s (Stop l) = (rest : List Step) → told_loading l ≡ verdict (decision inside (so_far seen) (s ++ rest))
+abbrev pub Met : (inside : ℕ → Bool) (seen : ℕ) (s : List Step) → Taken → Type 0
+Met inside seen s (taken.On seen') = Passed inside seen s seen'
+Met inside seen s (taken.Stop l) = (rest : List Step) → told_loading l ≡ verdict (decision inside (so_far seen) (s ++ rest))
 
--- a data record, whatever its data is
-abbrev pub MeetsData : (inside : ℕ → Bool) (there : Walk) (seen : ℕ) → SRecord → Turn → Type 0
-MeetsData inside there seen x t =
-    (bytes : List ℕ) → length bytes ≡ x.len → Met inside there seen (step there.line (places (s_placed x.address bytes)) ∷ []) t
+-- a data record of line n, whatever its data is
+abbrev pub MeetsData : (inside : ℕ → Bool) (n seen : ℕ) → SRecord → Taken → Type 0
+MeetsData inside n seen x t = (bytes : List ℕ) → length bytes ≡ x.len → Met inside seen (step n (places (s_placed x.address bytes)) ∷ []) t
 
 -- a count, in whatever window
-abbrev pub MeetsCount : (there : Walk) (seen : ℕ) (stated : ℕ) → Turn → Type 0
-MeetsCount there seen stated t = (inside : ℕ → Bool) → Met inside there seen (step there.line (counts stated) ∷ []) t
+abbrev pub MeetsCount : (n seen stated : ℕ) → Taken → Type 0
+MeetsCount n seen stated t = (inside : ℕ → Bool) → Met inside seen (step n (counts stated) ∷ []) t
 
 -- a record, whatever its data is
-abbrev pub Meets : (inside : ℕ → Bool) (there : Walk) (seen : ℕ) → SRecord → Turn → Type 0
-Meets inside there seen x t =
-    (bytes : List ℕ) → length bytes ≡ x.len → Met inside there seen (map (step there.line) (s_does (meant_with x bytes))) t
+abbrev pub Meets : (inside : ℕ → Bool) (n seen : ℕ) → SRecord → Taken → Type 0
+Meets inside n seen x t = (bytes : List ℕ) → length bytes ≡ x.len → Met inside seen (map (step n) (s_does (meant_with x bytes))) t
 
--- the steps that a walk has still before it
+-- ---- a walk
+
+-- the steps that it has still before it
 abbrev pub ahead_of : Walk → (text : List ℕ) → List Step
 ahead_of w text = steps s_records tt (suc w.line) (lines (drop w.position text))
 
--- a walk in a text: no more lines are passed than bytes
+-- how much of the text is left
+abbrev pub left_of : Walk → (text : List ℕ) → ℕ
+left_of w text = length text - w.position
+
+-- no more lines are passed than bytes
 pub record UnderWay (text : List ℕ) (w : Walk) : Type 0 where
   pub inside : w.position ≤ length text
   pub few : w.line ≤ w.position
 
--- a line was judged: the decision on what is left is the decision on what was left, or it is returned
-pub record Onward (inside : ℕ → Bool) (text : List ℕ) (w : Walk) (seen : ℕ) (w' : Walk) (seen' : ℕ) : Type 0 where
-  pub under_way : UnderWay text w'
-  pub counted : seen' ≤ w'.line
-  pub same : decision inside (so_far seen') (ahead_of w' text) ≡ decision inside (so_far seen) (ahead_of w text)
-  pub less : w.position < w'.position
+abbrev pub stands_in : Walk → (text : List ℕ) → Type 0
+stands_in w text = UnderWay text w
 
-abbrev pub Judged : (inside : ℕ → Bool) (text : List ℕ) (w : Walk) (seen : ℕ) → Turn → Type 0
-Judged inside text w seen (On seen' w') = Onward inside text w seen w' seen'
-Judged inside text w seen (Stop l) = told_loading l ≡ verdict (decision inside (so_far seen) (ahead_of w text))
+-- no start is stated, and no more data records are counted than lines are passed
+pub record HasMet (w : Walk) (tally : CodeTally) : Type 0 where
+  pub no_start : tally.start ≡ None
+  pub counted : tally.records ≤ w.line
+
+abbrev pub has_met : Walk → (text : List ℕ) → CodeTally → Type 0
+has_met w text tally = HasMet w tally
 
 -- ---- the second pass
 
@@ -103,16 +103,6 @@ WroteRecord site x pool page₀ marks₀ more page' marks' =
 
 abbrev pub WroteLine : (site : ℕ → Option ℕ) (line page₀ marks₀ : List ℕ) (more : Bool) (page' marks' : List ℕ) → Type 0
 WroteLine site line page₀ marks₀ more page' marks' = (n : ℕ) → WroteSteps site (line_steps n line) page₀ marks₀ more page' marks'
-
--- a line was written: the walk goes on, or nothing more is stated
-pub record WrittenOn (site : ℕ → Option ℕ) (text : List ℕ) (w : Walk) (page₀ marks₀ : List ℕ) (w' : Walk) (page' marks' : List ℕ) : Type 0 where
-  pub under_way : UnderWay text w'
-  pub less : w.position < w'.position
-  pub same : SamePainting site (ahead_of w text) page₀ marks₀ (ahead_of w' text) page' marks'
-
-abbrev pub Wrote : (site : ℕ → Option ℕ) (text : List ℕ) (w : Walk) (page₀ marks₀ : List ℕ) → Further → (page' marks' : List ℕ) → Type 0
-Wrote site text w page₀ marks₀ (further.On w') page' marks' = WrittenOn site text w page₀ marks₀ w' page' marks'
-Wrote site text w page₀ marks₀ further.End page' marks' = (stated (ahead_of w text) ≡ []) × (page' ≡ page₀) × (marks' ≡ marks₀)
 
 -- ---- one line by itself
 

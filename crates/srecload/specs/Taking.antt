@@ -3,7 +3,6 @@
 use Rattle.std.specs.Prelude.{◌≡◌, ℕ, ◌+◌, ◌^◌, Bool, true, false, ◌||◌, List, length, ◌==◌}
 use Rattle.std.proofs.Math.Option.{none}
 use Rattle.steps.specs.declared.LoaderError.TheVariants.{BadWindow}
-use Rattle.steps.specs.declared.Loading.TheVariants.{Refused}
 use Rattle.steps.specs.Steps.{Placement}
 use Rattle.steps.specs.Taken.{Went, on, stopped}
 use Rattle.steps.specs.Told.{told_loading}
@@ -12,6 +11,7 @@ use Rattle.window.specs.Taking.{TakesLine}
 use Rattle.srecload.specs.declared.Taken.{Taken}
 use Rattle.srecload.specs.declared.Taken.TheVariants.{On, Stop}
 use Rattle.srecload.specs.Placing.{s_records}
+use Rattle.steps.specs.Aliases.{refuse}
 
 -- what an answer tells of a line that stated these placements
 abbrev pub told_taken : Taken → List Placement → Went Unit
@@ -24,6 +24,6 @@ closed seen first page marks = unfit first page marks || seen + 1 == 2 ^ 64
 
 -- the contract of `take_line`
 pub record TakeLine (line : List ℕ) (number seen first : ℕ) (page₀ marks₀ : List ℕ) (r : Taken) (page' marks' : List ℕ) : Type 0 where
-  pub refused : closed seen first (length page₀) (length marks₀) ≡ true → (r ≡ Stop (Refused BadWindow 0)) × (page' ≡ page₀) × (marks' ≡ marks₀)
+  pub refused : closed seen first (length page₀) (length marks₀) ≡ true → (r ≡ Stop (refuse BadWindow 0)) × (page' ≡ page₀) × (marks' ≡ marks₀)
   pub taken : closed seen first (length page₀) (length marks₀) ≡ false
       → TakesLine s_records number tt (record { records = seen; start = none }) line first page₀ marks₀ (told_taken r) page' marks'

@@ -6,24 +6,24 @@ use lib.Dec.{eqb}
 use lib.ListN.{get_or}
 use Rattle.std.specs.Prelude.{if◌then◌else◌}
 use Rattle.record.specs.Refusals.{Refusal, refusal}
-use Rattle.reader.specs.declared.Answer.{Answer}
-use Rattle.reader.specs.declared.Answer.TheVariants.{Read, Refused as AnswerRefused}
+use Rattle.reader.specs.Aliases.{Answer}
 use Rattle.reader.specs.declared.ReaderError.{ReaderError}
 use Rattle.reader.specs.declared.ReaderError.TheVariants.{MissingStartCode, RecordTooShort, RecordTooLong, RecordNotEvenLength, ContainsInvalidCharacters, ChecksumMismatch, PayloadLengthMismatch, UnsupportedRecordType, InvalidLengthForType, PoolFull}
 use Rattle.reader.specs.Told.{refuses, refusal_of}
 use Rattle.reader.proofs.Claims.{untold, untold_told}
 use Rattle.steps.specs.declared.LoaderError.{LoaderError}
 use Rattle.steps.specs.declared.LoaderError.TheVariants.{Line, MissingEndOfFileRecord, BadWindow, OutsideWindow, CountMismatch, StartConflict, BadTable}
-use Rattle.steps.specs.declared.Loading.{Loading}
-use Rattle.steps.specs.declared.Loading.TheVariants.{Accepted, Refused}
-use Rattle.steps.specs.declared.Start.{Start as CodeStart}
-use Rattle.steps.specs.declared.Start.TheVariants.{Unstated, Segment, Linear}
+use Rattle.steps.specs.Aliases.{Loading}
+use Rattle.steps.specs.Aliases.{Stated as CodeStart}
+use Rattle.steps.specs.declared.Start.TheVariants.{Segment, Linear}
 use Rattle.steps.specs.Steps.{Start, cs_with_ip, linear_address, Verdict, accepted, refused}
-use Rattle.steps.specs.Told.{loader_refusal, told_start, told_loading, IsAcceptedUnique, DiffersFromUnique, ToldApart}
+use Rattle.steps.specs.Told.{loader_refusal, told_start, told_loading, IsAcceptedUnique, DiffersFromUnique, ToldApart, AtUnique}
+use Rattle.std.specs.Prelude.{Err, None, Ok, Some}
+use Rattle.steps.specs.Aliases.{refuse}
 
 reader_error : Answer → ReaderError
-reader_error (AnswerRefused e) = e
-reader_error (Read r) = PoolFull
+reader_error (Err e) = e
+reader_error (Ok r) = PoolFull
 
 -- a refusal's error: the loader's own by their numbers, a line's as the reader finds it again
 error : Refusal → LoaderError
@@ -39,7 +39,7 @@ error (refusal n vs) =
 
 of_line : (e : ReaderError) → Line (reader_error (untold (refuses (refusal_of e)))) ≡ Line e
 unfolding reader_error
-of_line e = ap (λ (a : Answer). Line (reader_error a)) (untold_told (AnswerRefused e))
+of_line e = ap (λ (a : Answer). Line (reader_error a)) (untold_told (Err e))
 
 again : (e : LoaderError) → error (loader_refusal e) ≡ e
 unfolding error
@@ -61,25 +61,25 @@ again StartConflict = refl
 again BadTable = refl
 
 untold_start : Option Start → CodeStart
-untold_start none = Unstated
-untold_start (some (cs_with_ip cs ip)) = Segment cs ip
-untold_start (some (linear_address address)) = Linear address
+untold_start none = None
+untold_start (some (cs_with_ip cs ip)) = Some (Segment cs ip)
+untold_start (some (linear_address address)) = Some (Linear address)
 
 start_again : (s : CodeStart) → untold_start (told_start s) ≡ s
 unfolding untold_start
-start_again Unstated = refl
-start_again (Segment cs ip) = refl
-start_again (Linear address) = refl
+start_again None = refl
+start_again (Some (Segment cs ip)) = refl
+start_again (Some (Linear address)) = refl
 
 untold_load : Verdict → Loading
 unfolding untold_start
-untold_load (accepted t) = Accepted (record { records = t.records; start = untold_start t.start })
-untold_load (refused r n) = Refused (error r) n
+untold_load (accepted t) = Ok (record { records = t.records; start = untold_start t.start })
+untold_load (refused r n) = refuse (error r) n
 
 told_again : (l : Loading) → untold_load (told_loading l) ≡ l
 unfolding untold_load
-told_again (Accepted t) = ap (λ (s : CodeStart). Accepted (record { records = t.records; start = s })) (start_again t.start)
-told_again (Refused e n) = ap (λ (x : LoaderError). Refused x n) (again e)
+told_again (Ok t) = ap (λ (s : CodeStart). Ok (record { records = t.records; start = s })) (start_again t.start)
+told_again (Err z) = ap (λ (x : LoaderError). refuse x z.line) (again z.why)
 
 pub told_apart : ToldApart
 told_apart a b e = sym (told_again a) ∙ ap untold_load e ∙ told_again b
@@ -89,3 +89,6 @@ is_accepted_unique l r r' x y = x.answer ∙ sym y.answer
 
 pub differs_from_unique : DiffersFromUnique
 differs_from_unique s first r r' x y = x.answer ∙ sym y.answer
+
+pub at_unique : AtUnique
+at_unique why line r r' x y = x.answer ∙ sym y.answer

@@ -11,3 +11,4 @@ pub mod Account
 pub mod Owners
 pub mod Ask
 pub mod Taken
+pub mod Aliases

@@ -1,6 +1,6 @@
 #![tactic(auto)]
 // Steps: what the lines of a text do, what they come to, and where their bytes are stored. Definitions and laws; in code, what a load returns.
-ghost use Rattle.steps.specs.Told.{IsAccepted, DiffersFrom};
+ghost use Rattle.steps.specs.Told.{IsAccepted, DiffersFrom, RefusedAt};
 
 use reader::ReaderError;
 
@@ -22,35 +22,19 @@ pub enum LoaderError {
 }
 
 // Where a program starts, as a text states it.
-#[derive(Clone, Copy)]
+#[derive(Clone, Copy, PartialEq, Eq)]
 pub enum Start {
-    // No record states it.
-    Unstated,
     // The registers CS and IP.
     Segment { cs: u16, ip: u16 },
     // An address of 32 bits.
     Linear(u32),
 }
 
-impl Start {
-    // Whether both are stated and are not the same. CS with IP is never the same as a linear address.
-    pub fn differs_from(self, first: Start) -> bool
-        ensures { DiffersFrom self first result }
-    {
-        match first {
-            Start::Unstated => false,
-            Start::Segment { cs, ip } => match self {
-                Start::Unstated => false,
-                Start::Segment { cs: c, ip: i } => cs != c || ip != i,
-                Start::Linear(_) => true,
-            },
-            Start::Linear(address) => match self {
-                Start::Unstated => false,
-                Start::Segment { cs: _, ip: _ } => true,
-                Start::Linear(a) => address != a,
-            },
-        }
-    }
+// Whether both are stated and are not the same. CS with IP is never the same as a linear address.
+pub fn differs_from(stated: Option<Start>, first: Option<Start>) -> bool
+    ensures { DiffersFrom stated first result }
+{
+    stated.is_some() && first.is_some() && stated != first
 }
 
 // What an accepted load reports.
@@ -58,25 +42,32 @@ impl Start {
 pub struct Tally {
     // How many data records it met.
     pub records: usize,
-    // The start that its records state.
-    pub start: Start,
+    // The start that its records state, if they state one.
+    pub start: Option<Start>,
+}
+
+// A refusal, and the number of the line that it is about, 0 for none.
+#[derive(Clone, Copy)]
+pub struct Refused {
+    pub why: LoaderError,
+    pub line: usize,
 }
 
 // What a load returns: its tally, or a refusal and the number of its line.
-#[derive(Clone, Copy)]
-pub enum Loading {
-    Accepted(Tally),
-    Refused(LoaderError, usize),
+pub type Loading = Result<Tally, Refused>;
+
+impl LoaderError {
+    // The refusal at a line, 0 for none.
+    pub fn at(self, line: usize) -> Refused
+        ensures { RefusedAt self line result }
+    {
+        Refused { why: self, line }
+    }
 }
 
-impl Loading {
-    // Whether the text was accepted. Only then is anything written.
-    pub fn is_accepted(self) -> bool
-        ensures { IsAccepted self result }
-    {
-        match self {
-            Loading::Accepted(_) => true,
-            Loading::Refused(_, _) => false,
-        }
-    }
+// Whether the text was accepted. Only then is anything written.
+pub fn is_accepted(answer: Loading) -> bool
+    ensures { IsAccepted answer result }
+{
+    answer.is_ok()
 }

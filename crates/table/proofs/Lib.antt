@@ -1,3 +1,3 @@
-pub mod Numbers
+pub mod Windows
 pub mod Passing
 pub mod Claims

@@ -4,7 +4,7 @@ use Rattle.std.specs.Prelude.{◌≡◌, ◌≢◌, ◌↔◌, ◌⊎◌, ℕ, �
 use Rattle.std.proofs.Math.Option.{some}
 use Rattle.record.specs.Refusals.{bad_table}
 use Rattle.reader.specs.Lines.{through}
-use Rattle.steps.specs.declared.Loading.{Loading}
+use Rattle.steps.specs.Aliases.{Loading}
 use Rattle.steps.specs.Steps.{Verdict, refused, by}
 use Rattle.steps.specs.Source.{Source}
 use Rattle.window.specs.Table.{IsOwner, BadTable}

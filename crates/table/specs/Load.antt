@@ -1,15 +1,15 @@
 -- A window table in bytes, and a load through it.
 -- Assumes nothing.
-use Rattle.std.specs.Prelude.{◌≡◌, ℕ, ◌/◌, ◌%◌, ◌<◌, Bool, not, ◌||◌, List, eqb, ltb, length, get_or}
+use Rattle.std.specs.Prelude.{◌≡◌, ℕ, ◌%◌, ◌<◌, Bool, not, ◌||◌, List, eqb, ltb, length, get_or}
 use Rattle.std.specs.Prelude.{if◌then◌else◌}
 use Rattle.record.specs.Refusals.{bad_table}
-use Rattle.steps.specs.declared.Loading.{Loading}
+use Rattle.steps.specs.Aliases.{Loading}
 use Rattle.steps.specs.Steps.{refused}
 use Rattle.steps.specs.Source.{Source}
 use Rattle.steps.specs.Sites.{Loaded}
 use Rattle.steps.specs.Told.{told_loading}
 use Rattle.window.specs.declared.Row.{Row}
-use Rattle.window.specs.Table.{fits}
+use Rattle.window.specs.Table.{nobody, MOST_WINDOWS, fits}
 use Rattle.window.specs.Tables.{load_table}
 use Rattle.entries.specs.Entry.{WINDOW_SIZE, row_at, rows_of}
 
@@ -41,22 +41,7 @@ pub record LoadBytes {S : Type 0} (src : Source S) (text : List ℕ) (owner : �
 pub record IsBad (table : List ℕ) (pool marks : ℕ) (r : Bool) : Type 0 where
   pub answer : r ≡ torn table || not (fits 1 pool marks (rows_of table))
 
--- ---- numbers
-
--- one of the four numbers of a window
-unfoldable pub field : Row → (which : ℕ) → ℕ
-field r which = if eqb which 0 then r.owner else if eqb which 1 then r.first else if eqb which 2 then r.size else r.place
-
--- number k of a table
-unfoldable pub number_of : (table : List ℕ) (k : ℕ) → ℕ
-unfolding field row_at
-number_of table k = field (row_at table (k / 4)) (k % 4)
-
--- the numbers of 16 windows
-abbrev pub MOST_NUMBERS : ℕ
-MOST_NUMBERS = 64
-
--- the contract of `numbers_of`
-pub record NumbersOf (table numbers : List ℕ) : Type 0 where
-  pub as_many : length numbers ≡ MOST_NUMBERS
-  pub each : (k : ℕ) → k < MOST_NUMBERS → get_or numbers k 0 ≡ number_of table k
+-- the contract of `rows_of`: as many windows as a table can have, each as the table has it, and windows of nobody after the table's last one
+pub record RowsOf (table : List ℕ) (rows : List Row) : Type 0 where
+  pub as_many : length rows ≡ MOST_WINDOWS
+  pub each : (i : ℕ) → i < MOST_WINDOWS → get_or rows i nobody ≡ row_at table i

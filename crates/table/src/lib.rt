@@ -3,65 +3,31 @@
 ghost use Rattle.std.specs.Prelude.{◌≡◌};
 ghost use Rattle.intel.specs.Placing.{intel};
 ghost use Rattle.srecload.specs.Placing.{s_records};
-ghost use Rattle.table.specs.Load.{torn_or_long, number_of, NumbersOf, IsBad, LoadBytes};
+ghost use Rattle.table.specs.Load.{torn_or_long, RowsOf, IsBad, LoadBytes};
 
+use std::array;
 use steps::{LoaderError, Loading};
-use window::owners;
+use window::by_line::{self, LineByLine};
+use window::{Row, owners};
 
 // The bytes of a window in a table.
 const WINDOW: usize = 24;
 
-// The most bytes of a table, and the most numbers: those of 16 windows.
-const MOST_BYTES: usize = 384;
-
-const MOST_NUMBERS: usize = 64;
-
-// Which of a window's numbers is its owner, its first address, and its length. The last one is its place.
-const OWNER: usize = 0;
-
-const FIRST: usize = 1;
-
-const LENGTH: usize = 2;
+// The most windows of a table.
+const MOST_WINDOWS: usize = 16;
 
 // Whether bytes are not a table: a part of a window is left over, or there are too many windows.
 fn is_torn_or_long(table: &[u8]) -> bool
     ensures { result ≡ torn_or_long table.now }
 {
-    if table.len() % WINDOW != 0 {
-        return true;
-    }
-    table.len() > MOST_BYTES
+    table.len() % WINDOW != 0 || table.len() > WINDOW * MOST_WINDOWS
 }
 
-// Number k of a table, four a window; 0 where the table has no such one.
-fn number_at(table: &[u8], k: usize) -> usize
-    ensures { result ≡ number_of table.now k }
+// The windows of a table, and windows of nobody after them.
+fn rows_of(table: &[u8]) -> [Row; MOST_WINDOWS]
+    ensures { RowsOf table.now result }
 {
-    let row = entries::row_at(table, k / window::NUMBERS);
-    let which = k % window::NUMBERS;
-    if which == OWNER {
-        return row.owner;
-    }
-    if which == FIRST {
-        return row.first;
-    }
-    if which == LENGTH {
-        return row.size;
-    }
-    row.place
-}
-
-// The numbers of a table, and zeros after them.
-fn numbers_of(table: &[u8]) -> [usize; MOST_NUMBERS]
-    ensures { NumbersOf table.now result }
-{
-    let mut numbers = [0usize; MOST_NUMBERS];
-    let mut k = 0;
-    while k < MOST_NUMBERS {
-        numbers[k] = number_at(table, k);
-        k += 1;
-    }
-    numbers
+    array::from_fn(|i| entries::row_at(table, i))
 }
 
 // Whether a table is refused, with a pool and marks of these lengths.
@@ -71,21 +37,38 @@ pub fn is_bad(table: &[u8], pool: usize, marks: usize) -> bool
     if is_torn_or_long(table) {
         return true;
     }
-    let numbers = numbers_of(table);
-    let n = window::NUMBERS * (table.len() / WINDOW);
-    window::is_bad_table(owners::FIRST, &numbers[..n], pool, marks)
+    let rows = rows_of(table);
+    window::is_bad_table(owners::FIRST, &rows[..table.len() / WINDOW], pool, marks)
 }
 
-// Loads a text for one owner through a table into a shared pool.
+// Loads a text for one owner through a table into a shared pool, by a walk through such texts.
+fn load_by<W: LineByLine>(
+    text: &[u8],
+    owner: u32,
+    table: &[u8],
+    pool: &mut [u8],
+    marks: &mut [u8],
+) -> Loading
+    ensures { LoadBytes W.source text.now owner table.now pool.old marks.old result pool.new marks.new }
+{
+    if is_torn_or_long(table) {
+        return Err(LoaderError::BadTable.at(0));
+    }
+    let rows = rows_of(table);
+    by_line::load_through_table::<W>(
+        text,
+        owner as usize,
+        &rows[..table.len() / WINDOW],
+        pool,
+        marks,
+    )
+}
+
+// Loads a text of Intel HEX so.
 pub fn load(text: &[u8], owner: u32, table: &[u8], pool: &mut [u8], marks: &mut [u8]) -> Loading
     ensures { LoadBytes intel text.now owner table.now pool.old marks.old result pool.new marks.new }
 {
-    if is_torn_or_long(table) {
-        return Loading::Refused(LoaderError::BadTable, 0);
-    }
-    let numbers = numbers_of(table);
-    let n = window::NUMBERS * (table.len() / WINDOW);
-    loader::load_table(text, owner as usize, &numbers[..n], pool, marks)
+    load_by::<loader::Walk>(text, owner, table, pool, marks)
 }
 
 // Loads a text of S-records so.
@@ -98,10 +81,5 @@ pub fn load_srecords(
 ) -> Loading
     ensures { LoadBytes s_records text.now owner table.now pool.old marks.old result pool.new marks.new }
 {
-    if is_torn_or_long(table) {
-        return Loading::Refused(LoaderError::BadTable, 0);
-    }
-    let numbers = numbers_of(table);
-    let n = window::NUMBERS * (table.len() / WINDOW);
-    srecload::load_srecords_table(text, owner as usize, &numbers[..n], pool, marks)
+    load_by::<srecload::Walk>(text, owner, table, pool, marks)
 }

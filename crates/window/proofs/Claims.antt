@@ -11,15 +11,15 @@ use lib.ListN.{length, replicate, length-replicate}
 use borrow.Author.Tests.{ltb-true, not-true}
 use Rattle.std.specs.Prelude.{if◌then◌else◌}
 use Rattle.marks.proofs.Claims.{same_bits}
-use Rattle.window.specs.declared.Reach.{Reach}
-use Rattle.window.specs.declared.Reach.TheVariants.{Inside, Outside}
+use Rattle.window.specs.Aliases.{Reach}
 use Rattle.window.specs.Window.{within, window, unfit}
 use Rattle.window.specs.Promises.{first_byte}
-use Rattle.window.specs.Claims.{HoldsItsAddresses, ShownIffWithin, Window, UnfitIsNoWindow, BadTableIsRefused, IsUnfitUnique, IsBadTableUnique, FirstOutsideUnique, PutRunUnique, ClearMarksUnique}
+use Rattle.window.specs.Claims.{HoldsItsAddresses, ShownIffWithin, Window, UnfitIsNoWindow, BadTableIsRefused, OneWindowUnique, IsUnfitUnique, IsBadTableUnique, FirstOutsideUnique, PutRunUnique, ClearMarksUnique}
 use Rattle.window.specs.Table.{fits}
 use Rattle.window.proofs.Storing.{shows}
 use Rattle.window.proofs.Tests.{within_true, true_within, good_window, no_window}
 use Rattle.window.proofs.Table.{refused_exactly}
+use Rattle.std.specs.Prelude.{None, Some}
 
 pub holds_its_addresses : HoldsItsAddresses
 holds_its_addresses first size address = (within_true first size address, λ (l, u). true_within first size address l u)
@@ -53,15 +53,18 @@ bad_table_is_refused owner rows pool marks r x =
 pub is_bad_table_unique : IsBadTableUnique
 is_bad_table_unique owner rows pool marks r r' x y = x.answer ∙ sym y.answer
 
+pub one_window_unique : OneWindowUnique
+one_window_unique first places r r' x y = x.answer ∙ sym y.answer
+
 pub is_unfit_unique : IsUnfitUnique
 is_unfit_unique first page marks r r' x y = x.answer ∙ sym y.answer
 
 -- the byte that is named says which answer it was
 named_apart : (address : ℕ) (r r' : Reach) → map (λ i. address + i) (first_byte r) ≡ map (λ i. address + i) (first_byte r') → r ≡ r'
-named_apart address Inside Inside e = refl
-named_apart address Inside (Outside k) e = let z : ◌≡◌ {A = ℕ} 0 1 = cc in absurd (omega arith)
-named_apart address (Outside i) Inside e = let z : ◌≡◌ {A = ℕ} 0 1 = cc in absurd (omega arith)
-named_apart address (Outside i) (Outside k) e = let h : address + i ≡ address + k = cc in ap Outside (omega arith)
+named_apart address None None e = refl
+named_apart address None (Some k) e = let z : ◌≡◌ {A = ℕ} 0 1 = cc in absurd (omega arith)
+named_apart address (Some i) None e = let z : ◌≡◌ {A = ℕ} 0 1 = cc in absurd (omega arith)
+named_apart address (Some i) (Some k) e = let h : address + i ≡ address + k = cc in ap Some (omega arith)
 
 pub first_outside_unique : FirstOutsideUnique
 first_outside_unique inside address len r r' x y =

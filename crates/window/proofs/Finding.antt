@@ -1,22 +1,22 @@
 -- The windows of an owner, looked at one after the other: the addresses that they hold.
 -- Assumes nothing.
-use mathlib.Core.Path.{◌≡◌, refl, sym, ap, ◌∙◌}
+use mathlib.Core.Path.{◌≡◌, sym, ap, ◌∙◌}
 use Prim.Native.Nat.{ℕ, zero, suc, ◌+◌, ◌-◌, ◌≤◌, ◌<◌}
 use native.Mathlib.Numerals.{add-one}
 use native.Mathlib.Omega.{arith}
-use mathlib.Core.Bool.{Bool, true, false, ◌&&◌}
+use mathlib.Core.Bool.{true, false}
 use mathlib.Core.List.{List, [], ◌∷◌}
-use lib.Dec.{eqb, ltb}
+use lib.Dec.{eqb}
 use lib.ListN.{length, get_or, drop, drop_of_length-le}
 use lib.Seq.{drop-cons}
-use borrow.Author.Tests.{eq-eqb, ne_eqb, eqb-true, lt-ltb, le-ltb}
+use borrow.Author.Tests.{eq-eqb, eqb-true}
 use Rattle.digits.proofs.Tests.{both, or_true}
 use Rattle.marks.proofs.Below.{split}
 use Rattle.window.specs.declared.Row.{Row}
 use Rattle.window.specs.Window.{within}
 use Rattle.window.specs.Table.{nobody, takes, inside_of}
 use Rattle.window.specs.Promises.{RoomAt}
-use Rattle.window.proofs.Tests.{within_true, true_within, beyond_false}
+use Rattle.window.proofs.Tests.{within_true, true_within}
 
 -- a window of the table that takes an address makes it one of the owner's
 pub taken : (owner a : ℕ) (rows : List Row) (i : ℕ) → i < length rows → takes owner a (get_or rows i nobody) ≡ true → inside_of owner rows a ≡ true
@@ -40,25 +40,10 @@ module _ (owner a : ℕ) (rows : List Row) where
   unfolding inside_of
   none_left i h d = sym d ∙ ap (λ (l : List Row). inside_of owner l a) (drop_of_length-le rows h)
 
--- a window of another owner takes nothing, and one of the owner what lies in it
+-- a window of the owner takes what lies in it
 module _ (owner a : ℕ) (r : Row) where
-  pub not_owner : (r.owner ≡ owner → ⊥) → takes owner a r ≡ false
-  not_owner n = rw (ne_eqb r.owner owner n)
-
-  pub not_held : within r.first r.size a ≡ false → takes owner a r ≡ false
-  not_held e = go (eqb r.owner owner)
-    where
-      go : (b : Bool) → b && within r.first r.size a ≡ false
-      go true = e
-      go false = refl
-
   pub held : r.owner ≡ owner → r.first ≤ a → a < r.first + r.size → takes owner a r ≡ true
   held o l u = rw (eq-eqb r.owner owner o, true_within r.first r.size a l u)
-
-  pub by_distance : r.owner ≡ owner → r.first ≤ a → takes owner a r ≡ ltb (a - r.first) r.size
-  by_distance o l = split (r.first + r.size) a
-      (λ u. not_held (beyond_false r.first r.size a u) ∙ sym (le-ltb (a - r.first) r.size (omega arith)))
-      (λ u. held o l u ∙ sym (lt-ltb (a - r.first) r.size (omega arith)))
 
   pub held_so : takes owner a r ≡ true → (r.owner ≡ owner) × (r.first ≤ a) × (a < r.first + r.size)
   held_so e =

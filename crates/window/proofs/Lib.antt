@@ -8,11 +8,10 @@ pub mod AsBytes
 pub mod Table
 pub mod Tables
 pub mod Reasons
-pub mod Words
-pub mod TableTests
 pub mod Finding
 pub mod Through
 pub mod Alone
 pub mod Asks
 pub mod Taking
 pub mod Whole
+pub mod Rounds

@@ -13,8 +13,7 @@ use Rattle.std.specs.Prelude.{if◌then◌else◌}
 use Rattle.record.specs.Refusals.{Refusal, bad_window}
 use Rattle.steps.specs.declared.LoaderError.{LoaderError}
 use Rattle.steps.specs.declared.LoaderError.TheVariants.{BadWindow}
-use Rattle.steps.specs.declared.Loading.{Loading}
-use Rattle.steps.specs.declared.Loading.TheVariants.{Accepted, Refused}
+use Rattle.steps.specs.Aliases.{Loading}
 use Rattle.steps.specs.declared.Tally.{Tally as CodeTally}
 use Rattle.steps.specs.Told.{loader_refusal, tallied, told_loading, is_accepted}
 use Rattle.steps.specs.Steps.{Placement, Step, Tally, nothing_yet, Verdict, accepted, refused, decision, verdict, stated}
@@ -40,6 +39,9 @@ use Rattle.window.specs.Loads.{Alike, NonInterference, SamePlacements, WhatIsSto
 use Rattle.window.proofs.Tests.{good_window}
 use Rattle.window.proofs.Storing.{shows}
 use Rattle.window.proofs.Packed.{row_same, row_both, marks_anew, packed_anew}
+use Rattle.std.specs.Prelude.{Ok}
+use Rattle.steps.specs.Aliases.{refuse}
+use Rattle.std.specs.Prelude.{Err}
 
 -- ---- a window that is not refused
 
@@ -275,13 +277,13 @@ painting_end site s₀ s page₀ marks₀ page marks p n =
 
 -- ---- the load in code
 
-pub passed : (a : Loading) → is_accepted a ≡ true → (t : CodeTally) × (a ≡ Accepted t)
-passed (Accepted t) e = (t, refl)
-passed (Refused r n) e = let z : ◌≡◌ {A = ℕ} 0 1 = cc in absurd (omega arith)
+pub passed : (a : Loading) → is_accepted a ≡ true → (t : CodeTally) × (a ≡ Ok t)
+passed (Ok t) e = (t, refl)
+passed (Err z) e = let z : ◌≡◌ {A = ℕ} 0 1 = cc in absurd (omega arith)
 
-pub turned_away : (a : Loading) → is_accepted a ≡ false → (e : LoaderError) × (n : ℕ) × (a ≡ Refused e n)
-turned_away (Accepted t) e = (BadWindow, 0, cc)
-turned_away (Refused r n) e = (r, n, refl)
+pub turned_away : (a : Loading) → is_accepted a ≡ false → (e : LoaderError) × (n : ℕ) × (a ≡ refuse e n)
+turned_away (Ok t) e = (BadWindow, 0, cc)
+turned_away (Err z) e = (z.why, z.line, refl)
 
 module _ {S : Type 0} (src : Source S) (text : List ℕ) (first : ℕ) (page marks : List ℕ) where
   -- what a load returns and leaves is its contract
@@ -289,9 +291,9 @@ module _ {S : Type 0} (src : Source S) (text : List ℕ) (first : ℕ) (page mar
   as_loaded a p m l =
       record { answer = ap (λ (x : Loaded). x.answer) (sym l); page = ap (λ (x : Loaded). x.page) (sym l); marks = ap (λ (x : Loaded). x.marks) (sym l) }
 
-  pub load_unfit : unfit first (length page) (length marks) ≡ true → LoadWindow src text first page marks (Refused BadWindow 0) page marks
+  pub load_unfit : unfit first (length page) (length marks) ≡ true → LoadWindow src text first page marks (refuse BadWindow 0) page marks
   unfolding stopping_by_window one_window stopping_by verdict
-  load_unfit e = as_loaded (Refused BadWindow 0) page marks (refused_load src text first page marks bad_window 0 (rw e))
+  load_unfit e = as_loaded (refuse BadWindow 0) page marks (refused_load src text first page marks bad_window 0 (rw e))
 
   module _ (fit : unfit first (length page) (length marks) ≡ false) (a : Loading) (h : told_loading a ≡ verdict (decision (within first (length page)) nothing_yet (steps_of src text))) where
     judged_so : verdict (stopping_by_window src text first page marks) ≡ told_loading a

@@ -17,11 +17,11 @@ use Rattle.steps.specs.Sites.{painted}
 use Rattle.steps.specs.Runs.{spread, run, as_mark}
 use Rattle.steps.proofs.Places.{painted_append}
 use Rattle.steps.proofs.Runs.{outside_append}
-use Rattle.window.specs.declared.Reach.{Reach}
-use Rattle.window.specs.declared.Reach.TheVariants.{Inside, Outside}
+use Rattle.window.specs.Aliases.{Reach}
 use Rattle.window.specs.Promises.{first_byte, FirstOutside, Surveyed, Painted}
 use Rattle.window.proofs.Packed.{row_both}
 use Rattle.window.proofs.Tests.{outside_nothing}
+use Rattle.std.specs.Prelude.{None, Some}
 
 -- ---- bytes one after the other
 
@@ -66,30 +66,30 @@ module _ (at : ℕ → ℕ) (k len : ℕ) (h : k ≤ len) (r : Runs at k len) (b
     in_two = ap (outside inside) as_runs ∙ outside_append inside (run (at 0) (take k bytes)) (run (at k) (drop k bytes))
 
     -- the first run leaves the window
-    outside_low : (i : ℕ) → FirstOutside inside (at 0) k (Outside i) → outside inside (spread at 0 bytes) ≡ some (at i)
+    outside_low : (i : ℕ) → FirstOutside inside (at 0) k (Some i) → outside inside (spread at 0 bytes) ≡ some (at i)
     outside_low i o = in_two ∙ rw (o.answer (take k bytes) front) (ap (λ (x : ℕ). some x) (sym (r.low i (o.among i refl))))
 
     -- it lies inside, and then the second decides
-    outside_high : (q : Reach) → FirstOutside inside (at 0) k Inside → FirstOutside inside (at k) (len - k) q
+    outside_high : (q : Reach) → FirstOutside inside (at 0) k None → FirstOutside inside (at k) (len - k) q
         → outside inside (spread at 0 bytes) ≡ Option.map (λ i. at k + i) (first_byte q)
     outside_high q o p = in_two ∙ rw (o.answer (take k bytes) front, p.answer (drop k bytes) (length-drop k bytes ∙ ap (λ (x : ℕ). x - k) l))
 
 module _ (at : ℕ → ℕ) (k len : ℕ) (inside : ℕ → Bool) (h : k ≤ len) (r : Runs at k len) where
-  surveyed_low : (i : ℕ) → FirstOutside inside (at 0) k (Outside i) → Surveyed at len inside (Outside i)
+  surveyed_low : (i : ℕ) → FirstOutside inside (at 0) k (Some i) → Surveyed at len inside (Some i)
   surveyed_low i o =
       record { answer = λ bytes l. outside_low at k len h r bytes l inside i o; among = λ j e. let z : i ≡ j = cc in omega (arith, o.among i refl) }
 
-  surveyed_high : (i : ℕ) → FirstOutside inside (at 0) k Inside → FirstOutside inside (at k) (len - k) (Outside i)
-      → Surveyed at len inside (Outside (k + i))
+  surveyed_high : (i : ℕ) → FirstOutside inside (at 0) k None → FirstOutside inside (at k) (len - k) (Some i)
+      → Surveyed at len inside (Some (k + i))
   surveyed_high i o p =
       record {
-        answer = λ bytes l. outside_high at k len h r bytes l inside (Outside i) o p ∙ ap (λ (x : ℕ). some x) (sym (r.high i (omega (arith, p.among i refl))));
+        answer = λ bytes l. outside_high at k len h r bytes l inside (Some i) o p ∙ ap (λ (x : ℕ). some x) (sym (r.high i (omega (arith, p.among i refl))));
         among = λ j e. let z : k + i ≡ j = cc in omega (arith, p.among i refl);
       }
 
-  surveyed_inside : FirstOutside inside (at 0) k Inside → FirstOutside inside (at k) (len - k) Inside → Surveyed at len inside Inside
+  surveyed_inside : FirstOutside inside (at 0) k None → FirstOutside inside (at k) (len - k) None → Surveyed at len inside None
   surveyed_inside o p =
-      record { answer = λ bytes l. outside_high at k len h r bytes l inside Inside o p; among = λ j e. let z : ◌≡◌ {A = ℕ} 0 1 = cc in absurd (omega arith) }
+      record { answer = λ bytes l. outside_high at k len h r bytes l inside None o p; among = λ j e. let z : ◌≡◌ {A = ℕ} 0 1 = cc in absurd (omega arith) }
 
 -- ---- what is stored
 
@@ -108,19 +108,19 @@ painted_both site ps qs page₀ marks₀ page marks page' marks' x y =
 -- ---- as code meets it: the first run begins at `a`, and the second at `b`
 
 module _ (at : ℕ → ℕ) (len : ℕ) (inside : ℕ → Bool) (k : ℕ) (few : k ≤ len) (runs : Runs at k len) (a : ℕ) (is_a : a ≡ at 0) where
-  pub code_low : (r : Reach) → FirstOutside inside a k r → (i : ℕ) → r ≡ Outside i → Surveyed at len inside (Outside i)
+  pub code_low : (r : Reach) → FirstOutside inside a k r → (i : ℕ) → r ≡ Some i → Surveyed at len inside (Some i)
   code_low r f i e = surveyed_low at k len inside few runs i (rw (e, is_a) at f)
 
   -- where the first run is all of them
   pub code_whole : k ≡ len → (r : Reach) → FirstOutside inside a len r → Surveyed at len inside r
-  code_whole e (Outside i) f = code_low (Outside i) (rw e f) i refl
-  code_whole e Inside f = surveyed_inside at k len inside few runs (rw (e, ← is_a) f) (outside_nothing inside (at k) (len - k) (omega arith))
+  code_whole e (Some i) f = code_low (Some i) (rw e f) i refl
+  code_whole e None f = surveyed_inside at k len inside few runs (rw (e, ← is_a) f) (outside_nothing inside (at k) (len - k) (omega arith))
 
-  module _ (r : Reach) (f : FirstOutside inside a k r) (e : r ≡ Inside) (b : ℕ) (is_b : b ≡ at k) (q : Reach) (g : FirstOutside inside b (len - k) q) where
-    pub code_high : (i : ℕ) → q ≡ Outside i → Surveyed at len inside (Outside (k + i))
+  module _ (r : Reach) (f : FirstOutside inside a k r) (e : r ≡ None) (b : ℕ) (is_b : b ≡ at k) (q : Reach) (g : FirstOutside inside b (len - k) q) where
+    pub code_high : (i : ℕ) → q ≡ Some i → Surveyed at len inside (Some (k + i))
     code_high i h = surveyed_high at k len inside few runs i (rw (e, is_a) at f) (rw (h, is_b) at g)
 
-    pub code_inside : q ≡ Inside → Surveyed at len inside Inside
+    pub code_inside : q ≡ None → Surveyed at len inside None
     code_inside h = surveyed_inside at k len inside few runs (rw (e, is_a) at f) (rw (h, is_b) at g)
 
 -- the bytes of a record, stored as one run or as two

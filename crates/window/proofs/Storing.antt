@@ -7,9 +7,9 @@ use native.Mathlib.Omega.{arith}
 use mathlib.Core.Bool.{Bool, true, false, ◌&&◌}
 use mathlib.Core.Option
 use mathlib.Core.Option.{Option, none, some}
-use mathlib.Core.List.{List, ◌++◌, append-nil}
-use lib.ListN.{length, get_or, take, drop, replicate, length-replicate, get_or-replicate, get_or-eq_default, get_or-append, length-append, length-drop, drop_of_length-le}
-use lib.Seq.{ext_get_or, drop-drop, length-take-le, get_or-append-add, get_or-take, get_or-drop}
+use mathlib.Core.List.{List}
+use lib.ListN.{length, get_or, take, drop, replicate, length-replicate, get_or-replicate, get_or-eq_default, length-drop}
+use lib.Seq.{ext_get_or, length-take-le, get_or-take, get_or-drop}
 use lib.Dec.{ltb}
 use borrow.Author.Tests.{lt-ltb, le-ltb, ltb-true}
 use Rattle.std.specs.Prelude.{if◌then◌else◌}
@@ -120,45 +120,6 @@ module _ (site : ℕ → Option ℕ) (address : ℕ) (bytes page marks : List �
 
 pub run_is_stored : RunIsStored
 run_is_stored site address bytes page marks page' marks' = (is_put site address bytes page marks page' marks', put_is site address bytes page marks page' marks')
-
--- ---- what the code makes of it
-
--- bytes in the place of others, in a page
-pasted : (bytes : List ℕ) (place : ℕ) (page : List ℕ) → place + length bytes ≤ length page
-    → Copied bytes place page (take place page ++ (bytes ++ drop (place + length bytes) page))
-pasted bytes place page h =
-    record {
-      same_length = length-append (take place page) (bytes ++ drop (place + length bytes) page)
-          ∙ omega (arith, front, length-append bytes (drop (place + length bytes) page), length-drop (place + length bytes) page);
-      there = λ k l. at k ∙ get_or-append bytes (drop (place + length bytes) page) 0 k l;
-      elsewhere = other;
-    }
-  where
-    front : length (take place page) ≡ place
-    front = length-take-le place page (omega arith)
-
-    at : (k : ℕ) → get_or (take place page ++ (bytes ++ drop (place + length bytes) page)) (place + k) 0 ≡ get_or (bytes ++ drop (place + length bytes) page) k 0
-    at k = rw front at (get_or-append-add (take place page) (bytes ++ drop (place + length bytes) page) k 0)
-
-    other : (i : ℕ) → (i < place) ⊎ (place + length bytes ≤ i) → get_or (take place page ++ (bytes ++ drop (place + length bytes) page)) i 0 ≡ get_or page i 0
-    other i (inl l) = get_or-append (take place page) (bytes ++ drop (place + length bytes) page) 0 i (omega (arith, front)) ∙ get_or-take place page i 0 l
-    other i (inr u) =
-        let j = i - (place + length bytes) in
-        let e : i ≡ place + (length bytes + j) = omega arith in
-        let f : place + length bytes + j ≡ place + (length bytes + j) = omega arith in
-        rw e (at (length bytes + j) ∙ get_or-append-add bytes (drop (place + length bytes) page) j 0 ∙ get_or-drop (place + length bytes) page j 0 ∙ ap (λ (x : ℕ). get_or page x 0) f)
-
--- a part of a page that was lent and filled, in the page
-pub copied : (bytes : List ℕ) (place : ℕ) (page : List ℕ) → place + length bytes ≤ length page
-    → (part old : List ℕ) → length old ≤ length bytes → part ≡ bytes ++ drop (length bytes) old
-    → Copied bytes place page (take place page ++ (part ++ drop (place + length bytes - place) (drop place page)))
-copied bytes place page h part old l e = rw (is, drop-drop (place + length bytes - place) place page, rest) (pasted bytes place page h)
-  where
-    rest : place + (place + length bytes - place) ≡ place + length bytes
-    rest = omega arith
-
-    is : part ≡ bytes
-    is = e ∙ rw (drop_of_length-le old l) (append-nil bytes)
 
 -- ---- one window of a table
 

@@ -17,8 +17,7 @@ use Rattle.marks.specs.Claims.{Bytes, AllFlags, RowOf}
 use Rattle.marks.proofs.Below.{split}
 use Rattle.marks.proofs.Rows.{flags_length}
 use Rattle.marks.proofs.Claims.{bits_length, bits_say, flags_made_so, flags_are_flags, row_made_so, row_unpacks, row_holds_places, same_bits}
-use Rattle.steps.specs.declared.Loading.{Loading}
-use Rattle.steps.specs.declared.Loading.TheVariants.{Refused}
+use Rattle.steps.specs.Aliases.{Loading}
 use Rattle.steps.specs.declared.LoaderError.TheVariants.{BadTable}
 use Rattle.steps.specs.Told.{loader_refusal, tallied, told_loading, is_accepted}
 use Rattle.steps.specs.Steps.{Step, Tally, nothing_yet, Verdict, accepted, refused, decision, verdict, stated}
@@ -44,6 +43,7 @@ use Rattle.window.specs.Tables.{stopping_by_table, load_rows, load_table, LoadTa
 use Rattle.window.proofs.Tests.{within_true}
 use Rattle.window.proofs.Loads as loads
 use Rattle.window.proofs.Table.{owners_apart, one_window_table}
+use Rattle.steps.specs.Aliases.{refuse}
 
 -- ---- every bit a place
 
@@ -80,10 +80,6 @@ module _ (owner : ℕ) (rows : List Row) (steps : List Step) (pool marks : List 
   plain_lengths : (length plain.page ≡ length pool) × (length plain.marks ≡ length (bits marks))
   unfolding after
   plain_lengths = after_lengths room steps (record { page = pool; marks = bits marks })
-
-  plain_flags : AllFlags plain.marks
-  unfolding load_steps
-  plain_flags = stored_flags room.site (stated steps) pool (bits marks) (general.judged room steps) (bits_flags marks)
 
   -- the bits after it, and the bytes
   pub as_plain : ((load_rows owner rows steps pool marks).answer ≡ plain.answer) × ((load_rows owner rows steps pool marks).page ≡ plain.page)
@@ -334,9 +330,9 @@ module _ {S : Type 0} (src : Source S) (owner : ℕ) (rows : List Row) (text poo
   unfolding load_table load_rows row_after load_steps store owned
   accepted_load t e = rw e
 
-  pub load_bad_table : fits owner (length pool) (length marks) rows ≡ false → LoadTable src owner rows text pool marks (Refused BadTable 0) pool marks
+  pub load_bad_table : fits owner (length pool) (length marks) rows ≡ false → LoadTable src owner rows text pool marks (refuse BadTable 0) pool marks
   unfolding owned stopping_by verdict
-  load_bad_table e = as_loaded (Refused BadTable 0) pool marks (refused_load bad_table 0 (rw e))
+  load_bad_table e = as_loaded (refuse BadTable 0) pool marks (refused_load bad_table 0 (rw e))
 
   module _ (fit : fits owner (length pool) (length marks) rows ≡ true) (a : Loading) (h : told_loading a ≡ verdict (decision (inside_of owner rows) nothing_yet (steps_of src text))) where
     judged_so : judged ≡ told_loading a

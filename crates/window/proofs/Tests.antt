@@ -16,10 +16,10 @@ use Rattle.marks.proofs.Below.{split}
 use Rattle.steps.specs.Steps.{outside}
 use Rattle.steps.specs.Runs.{run}
 use Rattle.steps.proofs.Runs.{run_inside, run_outside}
-use Rattle.window.specs.declared.Reach.TheVariants.{Inside, Outside}
 use Rattle.window.specs.Window.{within, unfit}
 use Rattle.window.specs.Promises.{FirstOutside}
 use Rattle.window.specs.Claims.{Window}
+use Rattle.std.specs.Prelude.{None, Some}
 
 -- ---- the addresses that it holds
 
@@ -70,7 +70,7 @@ no_window first page marks e w =
 -- ---- the first byte outside
 
 module _ (inside : ℕ → Bool) (address : ℕ) where
-  pub outside_nothing : (len : ℕ) → len ≡ 0 → FirstOutside inside address len Inside
+  pub outside_nothing : (len : ℕ) → len ≡ 0 → FirstOutside inside address len None
   unfolding outside run
   outside_nothing len z = record { answer = go; among = λ i e. let w : ◌≡◌ {A = ℕ} 0 1 = cc in absurd (omega arith) }
     where
@@ -78,7 +78,7 @@ module _ (inside : ℕ → Bool) (address : ℕ) where
       go [] e = refl
       go (b ∷ bytes) e = absurd (omega arith)
 
-  pub outside_none : (len : ℕ) → ((i : ℕ) → i < len → inside (address + i) ≡ true) → FirstOutside inside address len Inside
+  pub outside_none : (len : ℕ) → ((i : ℕ) → i < len → inside (address + i) ≡ true) → FirstOutside inside address len None
   outside_none len x =
       record {
         answer = λ bytes e. run_inside inside address bytes (λ i h. x i (omega arith));
@@ -86,7 +86,7 @@ module _ (inside : ℕ → Bool) (address : ℕ) where
       }
 
   pub outside_at : (len k : ℕ) → k < len → ((i : ℕ) → i < k → inside (address + i) ≡ true) → inside (address + k) ≡ false
-      → FirstOutside inside address len (Outside k)
+      → FirstOutside inside address len (Some k)
   outside_at len k h x o =
       record {
         answer = λ bytes e. run_outside inside address k bytes (omega arith) x o;

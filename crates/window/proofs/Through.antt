@@ -125,37 +125,31 @@ module _ (owner : ℕ) (r : Row) (address : ℕ) (bytes page marks : List ℕ) w
 
 -- what is left to be done, on page and marks as they are, is all of it on them as they were
 pub record Putting (owner : ℕ) (rows : List Row) (address : ℕ) (bytes page₀ marks₀ page marks : List ℕ) (i : ℕ) : Type 0 where
-  pub up_to : i ≤ length rows
   pub size : length page ≡ length page₀
   pub page_is : through (length page₀) owner (drop i rows) (run address bytes) page ≡ through (length page₀) owner rows (run address bytes) page₀
   pub marks_is : through (length page₀) owner (drop i rows) (map as_mark (run address bytes)) (bits marks) ≡ through (length page₀) owner rows (map as_mark (run address bytes)) (bits marks₀)
   pub row : RowKept marks₀ marks
 
-module _ (owner : ℕ) (rows : List Row) (address : ℕ) (bytes page₀ marks₀ : List ℕ) where
-  pub putting_start : Putting owner rows address bytes page₀ marks₀ page₀ marks₀ 0
-  putting_start = record { up_to = omega arith; size = refl; page_is = refl; marks_is = refl; row = row_same marks₀ }
+module _ (owner : ℕ) (rows : List Row) (address : ℕ) (bytes page₀ marks₀ page marks : List ℕ) (i : ℕ) (t : Putting owner rows address bytes page₀ marks₀ page marks i) where
+  pub putting_again : i < length rows → (r : Row) → r ≡ get_or rows i nobody → (page' marks' : List ℕ) → PutRun owner (r ∷ []) address bytes page marks page' marks'
+      → Putting owner rows address bytes page₀ marks₀ page' marks' (i + 1)
+  unfolding through
+  putting_again h r is page' marks' p =
+      let x = rw t.size at p.page in
+      let y = rw t.size at p.marks in
+      let next : drop i rows ≡ r ∷ drop (i + 1) rows = rw (add-one i, is) (drop-cons rows i nobody h) in
+      record {
+        size = ap length p.page ∙ through_length (length page) owner (run address bytes) (r ∷ []) page ∙ t.size;
+        page_is = ap (through (length page₀) owner (drop (i + 1) rows) (run address bytes)) x ∙ rw next at t.page_is;
+        marks_is = ap (through (length page₀) owner (drop (i + 1) rows) (map as_mark (run address bytes))) y ∙ rw next at t.marks_is;
+        row = row_both marks₀ marks marks' t.row p.row;
+      }
 
-  module _ (page marks : List ℕ) (i : ℕ) (t : Putting owner rows address bytes page₀ marks₀ page marks i) where
-    pub putting_again : i < length rows → (r : Row) → r ≡ get_or rows i nobody → (page' marks' : List ℕ) → PutRun owner (r ∷ []) address bytes page marks page' marks'
-        → Putting owner rows address bytes page₀ marks₀ page' marks' (i + 1)
-    unfolding through
-    putting_again h r is page' marks' p =
-        let x = rw t.size at p.page in
-        let y = rw t.size at p.marks in
-        let next : drop i rows ≡ r ∷ drop (i + 1) rows = rw (add-one i, is) (drop-cons rows i nobody h) in
-        record {
-          up_to = omega arith;
-          size = ap length p.page ∙ through_length (length page) owner (run address bytes) (r ∷ []) page ∙ t.size;
-          page_is = ap (through (length page₀) owner (drop (i + 1) rows) (run address bytes)) x ∙ rw next at t.page_is;
-          marks_is = ap (through (length page₀) owner (drop (i + 1) rows) (map as_mark (run address bytes))) y ∙ rw next at t.marks_is;
-          row = row_both marks₀ marks marks' t.row p.row;
-        }
-
-    pub putting_end : length rows ≤ i → PutRun owner rows address bytes page₀ marks₀ page marks
-    unfolding through
-    putting_end h =
-        let none_left : drop i rows ≡ [] = drop_of_length-le rows h in
-        record { page = rw none_left at t.page_is; marks = rw none_left at t.marks_is; row = t.row }
+  pub putting_end : length rows ≤ i → PutRun owner rows address bytes page₀ marks₀ page marks
+  unfolding through
+  putting_end h =
+      let none_left : drop i rows ≡ [] = drop_of_length-le rows h in
+      record { page = rw none_left at t.page_is; marks = rw none_left at t.marks_is; row = t.row }
 
 -- ---- marks taken away
 
@@ -224,28 +218,22 @@ module _ (owner : ℕ) (r : Row) where
 
 -- what is left to be cleared
 pub record Clearing (owner : ℕ) (rows : List Row) (marks₀ marks : List ℕ) (i : ℕ) : Type 0 where
-  pub up_to : i ≤ length rows
   pub marks_is : cleared (site_of owner (drop i rows)) 0 (bits marks) ≡ cleared (site_of owner rows) 0 (bits marks₀)
   pub row : RowKept marks₀ marks
 
-module _ (owner : ℕ) (rows : List Row) (marks₀ : List ℕ) where
-  pub clearing_start : Clearing owner rows marks₀ marks₀ 0
-  clearing_start = record { up_to = omega arith; marks_is = refl; row = row_same marks₀ }
+module _ (owner : ℕ) (rows : List Row) (marks₀ marks : List ℕ) (i : ℕ) (t : Clearing owner rows marks₀ marks i) where
+  pub clearing_again : i < length rows → (r : Row) → r ≡ get_or rows i nobody → (marks' : List ℕ) → ClearMarks owner (r ∷ []) marks marks' → Clearing owner rows marks₀ marks' (i + 1)
+  clearing_again h r is marks' c =
+      let next : drop i rows ≡ r ∷ drop (i + 1) rows = rw (add-one i, is) (drop-cons rows i nobody h) in
+      record {
+        marks_is = sym (cleared_more owner r (drop (i + 1) rows) marks₀ marks marks' c) ∙ rw next at t.marks_is;
+        row = row_both marks₀ marks marks' t.row c.row;
+      }
 
-  module _ (marks : List ℕ) (i : ℕ) (t : Clearing owner rows marks₀ marks i) where
-    pub clearing_again : i < length rows → (r : Row) → r ≡ get_or rows i nobody → (marks' : List ℕ) → ClearMarks owner (r ∷ []) marks marks' → Clearing owner rows marks₀ marks' (i + 1)
-    clearing_again h r is marks' c =
-        let next : drop i rows ≡ r ∷ drop (i + 1) rows = rw (add-one i, is) (drop-cons rows i nobody h) in
-        record {
-          up_to = omega arith;
-          marks_is = sym (cleared_more owner r (drop (i + 1) rows) marks₀ marks marks' c) ∙ rw next at t.marks_is;
-          row = row_both marks₀ marks marks' t.row c.row;
-        }
-
-    pub clearing_end : length rows ≤ i → ClearMarks owner rows marks₀ marks
-    unfolding cleared site_of
-    clearing_end h = record { marks = sym (none_cleared 0 (bits marks)) ∙ rw (drop_of_length-le rows h) at t.marks_is; row = t.row }
-      where
-        none_cleared : (k : ℕ) (m : List ℕ) → cleared (site_of owner []) k m ≡ m
-        none_cleared k [] = refl
-        none_cleared k (x ∷ m) = ap (λ (l : List ℕ). x ∷ l) (none_cleared (suc k) m)
+  pub clearing_end : length rows ≤ i → ClearMarks owner rows marks₀ marks
+  unfolding cleared site_of
+  clearing_end h = record { marks = sym (none_cleared 0 (bits marks)) ∙ rw (drop_of_length-le rows h) at t.marks_is; row = t.row }
+    where
+      none_cleared : (k : ℕ) (m : List ℕ) → cleared (site_of owner []) k m ≡ m
+      none_cleared k [] = refl
+      none_cleared k (x ∷ m) = ap (λ (l : List ℕ). x ∷ l) (none_cleared (suc k) m)

@@ -15,7 +15,6 @@ use Rattle.marks.specs.Marks.{marked_run}
 use Rattle.marks.proofs.Below.{split}
 use Rattle.steps.specs.Runs.{spread, run}
 use Rattle.window.specs.declared.Part.{Part}
-use Rattle.window.specs.declared.Reach.TheVariants.{Inside, Outside}
 use Rattle.window.specs.Window.{within, window}
 use Rattle.window.specs.Table.{row}
 use Rattle.window.specs.Promises.{FirstOutside, Surveyed, Copied, Painted, stretch, PutInside}
@@ -26,6 +25,7 @@ use Rattle.window.proofs.Claims.{first_outside_unique}
 use Rattle.window.proofs.Loads.{painted_nothing}
 use Rattle.window.proofs.Spread.{Runs, code_whole, stored_once}
 use Rattle.window.proofs.Taking.{painted_once}
+use Rattle.std.specs.Prelude.{None, Some}
 
 -- ---- what the page shows
 
@@ -39,7 +39,7 @@ shown_alike first size i =
 -- ---- the run lies in it
 
 module _ (first address : ℕ) (bytes page marks : List ℕ) where
-  none_outside : first ≤ address → address + length bytes ≤ first + length page → FirstOutside (within first (length page)) address (length bytes) Inside
+  none_outside : first ≤ address → address + length bytes ≤ first + length page → FirstOutside (within first (length page)) address (length bytes) None
   none_outside l u = outside_none (within first (length page)) address (length bytes) (λ i h. true_within first (length page) (address + i) (omega arith) (omega arith))
 
   whole_painted : (place : ℕ) → first + place ≡ address → place + length bytes ≤ length page → (page' marks' : List ℕ)
@@ -73,11 +73,11 @@ abbrev pub Apart : (first size address len : ℕ) → Type 0
 Apart first size address len = (address < first) ⊎ (first + size < address + len)
 
 -- then, if it has a byte, one lies outside
-not_inside : (first size address len : ℕ) → 0 < len → Apart first size address len → FirstOutside (within first size) address len Inside → ⊥
+not_inside : (first size address len : ℕ) → 0 < len → Apart first size address len → FirstOutside (within first size) address len None → ⊥
 not_inside first size address len h a f = go a
   where
-    no_other : (k : ℕ) → FirstOutside (within first size) address len (Outside k) → ⊥
-    no_other k o = let e : Inside ≡ Outside k = first_outside_unique (within first size) address len Inside (Outside k) f o in let z : ◌≡◌ {A = ℕ} 0 1 = cc in absurd (omega arith)
+    no_other : (k : ℕ) → FirstOutside (within first size) address len (Some k) → ⊥
+    no_other k o = let e : None ≡ Some k = first_outside_unique (within first size) address len None (Some k) f o in let z : ◌≡◌ {A = ℕ} 0 1 = cc in absurd (omega arith)
 
     before : address < first → ⊥
     before l = no_other 0 (outside_at (within first size) address len 0 h (λ i x. absurd (omega arith)) (below_false first size (address + 0) (omega arith)))
@@ -105,15 +105,15 @@ module _ (first address : ℕ) (bytes page marks : List ℕ) where
         kept = λ f. (refl, refl);
       }
     where
-      empty : FirstOutside (within first (length page)) address (length bytes) Inside → length bytes ≡ 0
+      empty : FirstOutside (within first (length page)) address (length bytes) None → length bytes ≡ 0
       empty f = split 1 (length bytes) (λ h. absurd (not_inside first (length page) address (length bytes) (omega arith) a f)) (λ h. omega arith)
 
 -- ---- the bytes of a record that lie one after the other, as `put_inside` stores them
 
 module _ (at : ℕ → ℕ) (first a : ℕ) (is_a : a ≡ at 0) (bytes page marks : List ℕ) (runs : Runs at (length bytes) (length bytes))
     (r : Bool) (page' marks' : List ℕ) (p : PutInside first a bytes page marks r page' marks') (t : r ≡ true) where
-  pub whole_inside : Surveyed at (length bytes) (within first (length page)) Inside
-  whole_inside = code_whole at (length bytes) (within first (length page)) (length bytes) (omega arith) runs a is_a refl Inside (p.answer.0 t)
+  pub whole_inside : Surveyed at (length bytes) (within first (length page)) None
+  whole_inside = code_whole at (length bytes) (within first (length page)) (length bytes) (omega arith) runs a is_a refl None (p.answer.0 t)
 
   pub whole_stored : Painted (window first (length page)) (spread at 0 bytes) page marks page' marks'
   whole_stored = stored_once at (window first (length page)) bytes page marks (length bytes) (omega arith) runs a is_a page' marks' (rw (take-length bytes) (p.stored t)) (omega arith)

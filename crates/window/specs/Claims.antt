@@ -5,10 +5,10 @@ use Rattle.std.proofs.Math.Option.{Option, none, some}
 use Rattle.marks.specs.Marks.{row_length, mark_at}
 use Rattle.marks.specs.Claims.{Bytes}
 use Rattle.steps.specs.Runs.{run}
-use Rattle.window.specs.declared.Reach.{Reach}
+use Rattle.window.specs.Aliases.{Reach}
 use Rattle.window.specs.declared.Row.{Row}
 use Rattle.window.specs.Window.{within, window}
-use Rattle.window.specs.Promises.{IsUnfit, IsBadTable, FirstOutside, Painted, PutRun, PutInside, ClearMarks}
+use Rattle.window.specs.Promises.{OneWindow, IsUnfit, IsBadTable, FirstOutside, Painted, PutRun, PutInside, ClearMarks}
 use Rattle.window.specs.Table.{site_of, Sound, BadTable}
 
 -- an address is held exactly if it is one of the window's
@@ -64,6 +64,9 @@ PutThroughSite =
     → PutRun owner rows address bytes page marks page' marks' → Painted (site_of owner rows) (run address bytes) page marks page' marks'
 
 -- ---- no second answer meets a contract
+
+abbrev pub OneWindowUnique : Type 0
+OneWindowUnique = (first places : ℕ) (r r' : List Row) → OneWindow first places r → OneWindow first places r' → r ≡ r'
 
 abbrev pub IsUnfitUnique : Type 0
 IsUnfitUnique = (first page marks : ℕ) (r r' : Bool) → IsUnfit first page marks r → IsUnfit first page marks r' → r ≡ r'

@@ -8,3 +8,5 @@ pub mod Tables
 pub mod Reasons
 pub mod Asks
 pub mod Taking
+pub mod Aliases
+pub mod LineByLine

@@ -4,7 +4,7 @@
 use Rattle.std.specs.Prelude.{ℕ, ◌≡◌, List, map, length}
 use Rattle.std.proofs.Math.Option.{Option}
 use Rattle.marks.specs.Marks.{bits}
-use Rattle.steps.specs.declared.Loading.{Loading}
+use Rattle.steps.specs.Aliases.{Loading}
 use Rattle.steps.specs.Steps.{Step, Decision, stated}
 use Rattle.steps.specs.Source.{Source, steps_of}
 use Rattle.steps.specs.Sites.{Room, Loaded, stopping_by, stopping_in, painted}

@@ -8,7 +8,7 @@ use Rattle.std.specs.Prelude.{if◌then◌else◌}
 use Rattle.record.specs.Refusals.{Refusal, bad_window}
 use Rattle.reader.specs.Lines.{through}
 use Rattle.marks.specs.Marks.{row_length, mark_at, Marked, flags, UnusedClear}
-use Rattle.steps.specs.declared.Loading.{Loading}
+use Rattle.steps.specs.Aliases.{Loading}
 use Rattle.steps.specs.Steps.{Tally, Verdict, accepted, refused, by, stated}
 use Rattle.steps.specs.Source.{Source, steps_of}
 use Rattle.steps.specs.Sites.{Loaded, Room, OwedAt}

@@ -9,16 +9,20 @@ use Rattle.marks.specs.Claims.{Bytes}
 use Rattle.steps.specs.Steps.{Placement, outside}
 use Rattle.steps.specs.Sites.{painted}
 use Rattle.steps.specs.Runs.{spread, run, as_mark, cleared}
-use Rattle.window.specs.declared.Reach.{Reach}
-use Rattle.window.specs.declared.Reach.TheVariants.{Inside, Outside}
+use Rattle.window.specs.Aliases.{Reach}
 use Rattle.window.specs.declared.Part.{Part}
 use Rattle.window.specs.declared.Row.{Row}
 use Rattle.window.specs.Window.{within, window, unfit}
-use Rattle.window.specs.Table.{MOST_WINDOWS, MOST_PLACES, is_owner, fits, site_of, inside_of}
+use Rattle.window.specs.Table.{alone, MOST_WINDOWS, MOST_PLACES, is_owner, fits, site_of, inside_of}
+use Rattle.std.specs.Prelude.{None, Some}
 
 -- the contract of `is_unfit`
 pub record IsUnfit (first page marks : ℕ) (r : Bool) : Type 0 where
   pub answer : r ≡ unfit first page marks
+
+-- the contract of `one_window`
+pub record OneWindow (first places : ℕ) (r : List Row) : Type 0 where
+  pub answer : r ≡ alone first places
 
 -- owner, number of windows, pool and marks keep within the limits
 abbrev pub call_fits : (owner windows pool marks : ℕ) → Bool
@@ -30,8 +34,8 @@ pub record IsBadTable (owner : ℕ) (rows : List Row) (pool marks : ℕ) (r : Bo
 
 -- the number of the byte that is named
 abbrev pub first_byte : Reach → Option ℕ
-first_byte Inside = none
-first_byte (Outside i) = some i
+first_byte None = none
+first_byte (Some i) = some i
 
 -- so many addresses from this one on are inside; none if this one is not
 pub record RoomAt (owner : ℕ) (rows : List Row) (address r : ℕ) : Type 0 where
@@ -95,7 +99,7 @@ pub record PutRun (owner : ℕ) (rows : List Row) (address : ℕ) (bytes page₀
 
 -- the contract of `put_inside`: true exactly if no byte of the run lies outside of the window that the page is; then the run is painted, else nothing changes
 pub record PutInside (first address : ℕ) (bytes page₀ marks₀ : List ℕ) (r : Bool) (page' marks' : List ℕ) : Type 0 where
-  pub answer : (r ≡ true) ↔ FirstOutside (within first (length page₀)) address (length bytes) Inside
+  pub answer : (r ≡ true) ↔ FirstOutside (within first (length page₀)) address (length bytes) None
   pub stored : r ≡ true → Painted (window first (length page₀)) (run address bytes) page₀ marks₀ page' marks'
   pub kept : r ≡ false → (page' ≡ page₀) × (marks' ≡ marks₀)
 

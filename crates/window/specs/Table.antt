@@ -19,13 +19,9 @@ row owner first size place = record { owner = owner; first = first; size = size;
 abbrev pub nobody : Row
 nobody = row 0 0 0 0
 
--- a table in numbers, four a window: its owner, its first address, its length and its place. What is left over is not read
-unfoldable pub rows_in : List ℕ → List Row
-rows_in [] = []
-rows_in (owner ∷ []) = []
-rows_in (owner ∷ first ∷ []) = []
-rows_in (owner ∷ first ∷ size ∷ []) = []
-rows_in (owner ∷ first ∷ size ∷ place ∷ numbers) = row owner first size place ∷ rows_in numbers
+-- a table of one window, the first owner's, that holds a whole page
+abbrev pub alone : (first size : ℕ) → List Row
+alone first size = row 1 first size 0 ∷ []
 
 -- ---- what an owner has
 

@@ -7,7 +7,7 @@ use Rattle.std.specs.Prelude.{if◌then◌else◌}
 use Rattle.record.specs.Refusals.{Refusal}
 use Rattle.reader.specs.Lines.{through}
 use Rattle.marks.specs.Marks.{mark_at, Marked, bits}
-use Rattle.steps.specs.declared.Loading.{Loading}
+use Rattle.steps.specs.Aliases.{Loading}
 use Rattle.steps.specs.Steps.{Step, Tally, Verdict, accepted, refused, Decision, by, stated}
 use Rattle.steps.specs.Source.{Source, steps_of}
 use Rattle.steps.specs.Sites.{Loaded, Shown, Owed, stopping_by, stopping_in, load_steps}

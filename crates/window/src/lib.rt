@@ -1,29 +1,28 @@
 #![tactic(auto)]
 // Windows: the addresses that they hold, a table of them, and a run of bytes stored through them in a page and marked.
-ghost use Rattle.std.specs.Prelude.{◌≡◌, ◌+◌, ◌-◌, ◌≤◌, ◌<◌, min, [], ◌∷◌, not, ltb, length, get_or, drop};
-ghost use Rattle.window.specs.Table.{rows_in, nobody, takes, inside_of, is_owner, good_row, good_rows, overlap, clash, clashes, any_clash};
-ghost use Rattle.window.specs.Promises.{IsUnfit, call_fits, IsBadTable, RoomAt, FirstOutside, Parted, Copied, PutIn, PutRun, PutInside, ClearMarks};
+ghost use Rattle.std.specs.Prelude.{◌≡◌, ◌+◌, ◌≤◌, not, ltb, length};
+ghost use Rattle.window.specs.Table.{takes, inside_of, is_owner, good_row, good_rows, overlap, clash, clashes, any_clash};
+ghost use Rattle.window.specs.Promises.{OneWindow, IsUnfit, call_fits, IsBadTable, RoomAt, FirstOutside, Parted, Copied, PutIn, PutRun, PutInside, ClearMarks};
+
+pub mod by_line;
 
 // The most places that a page can have, or the pool of a table.
 const MOST_PLACES: usize = 65536;
 
 // How many addresses there are.
-const ADDRESSES: u64 = 4294967296;
+const ADDRESSES: usize = 1 << 32;
 
 // The most windows of a table.
 const MOST_WINDOWS: usize = 16;
 
-// The owners that a table can have.
+// The owners that a table can have. They are numbers, not an enum: a table holds what C wrote into it, and `is_bad_table` is to refuse any other.
 pub mod owners {
     pub const FIRST: usize = 1;
 
     pub const SECOND: usize = 2;
 }
 
-// How many numbers a table has for a window: its owner, its first address, how many places it has, and which place of the page its first address has.
-pub const NUMBERS: usize = 4;
-
-// One window of a table.
+// One window of a table: its owner, its first address, how many places it has, and which place of the page its first address has.
 #[derive(Clone, Copy)]
 pub struct Row {
     pub owner: usize,
@@ -32,38 +31,24 @@ pub struct Row {
     pub place: usize,
 }
 
-// Where the bytes of a run lie: all in the window, or the number of the first byte that does not, counted from 0.
-#[derive(Clone, Copy)]
-pub enum Reach {
-    Inside,
-    Outside(usize),
-}
-
 // Whether a window is refused: a page and marks of these lengths, from the address `first` on.
+#[tactic(auto, unfolding(crate::specs::Window::unfit))]
 pub fn is_unfit(first: u32, page: usize, marks: usize) -> bool
     ensures { IsUnfit first page marks result }
 {
-    if marks::row_length(page) != marks {
-        return true;
-    }
-    if page > MOST_PLACES {
-        return true;
-    }
-    (first as u64) + (page as u64) > ADDRESSES
+    marks::row_length(page) != marks || page > MOST_PLACES || first as usize + page > ADDRESSES
 }
 
-// Window i of a table.
-fn row_at(rows: &[usize], i: usize) -> Row
-    requires { i < length (rows_in rows.now) }
-    ensures { result ≡ get_or (rows_in rows.now) i nobody }
+// A table of one window, the first owner's, that holds a whole page from the address `first` on.
+pub fn one_window(first: u32, places: usize) -> [Row; 1]
+    ensures { OneWindow first places result }
 {
-    let p = NUMBERS * i;
-    Row {
-        owner: rows[p],
-        first: rows[p + 1],
-        size: rows[p + 2],
-        place: rows[p + 3],
-    }
+    [Row {
+        owner: owners::FIRST,
+        first: first as usize,
+        size: places,
+        place: 0,
+    }]
 }
 
 // Whether there is such an owner.
@@ -77,92 +62,72 @@ fn is_owner(owner: usize) -> bool
 fn is_beyond(start: usize, size: usize, end: usize) -> bool
     ensures { result ≡ ltb end (start + size) }
 {
-    if end < size {
-        return true;
-    }
-    end - size < start
+    size > end || start > end - size
 }
 
-// Whether a window has an owner, and ends neither beyond the last address nor beyond a pool of so many bytes.
-fn is_good(row: Row, pool: usize) -> bool
-    ensures { result ≡ good_row pool row }
+// Whether two stretches share a number. An empty one has none. Each is a start and a size, not a range: its end may be too large for a `usize`.
+fn overlap(start: usize, size: usize, other_start: usize, other_size: usize) -> bool
+    ensures { result ≡ overlap start size other_start other_size }
 {
-    if !is_owner(row.owner) {
+    if size == 0 || other_size == 0 {
         return false;
     }
-    if is_beyond(row.first, row.size, ADDRESSES as usize) {
-        return false;
+    if start <= other_start {
+        other_start - start < size
+    } else {
+        start - other_start < other_size
     }
-    !is_beyond(row.place, row.size, pool)
+}
+
+impl Row {
+    // Whether the window has an owner, and ends neither beyond the last address nor beyond a pool of so many bytes.
+    fn is_good(&self, pool: usize) -> bool
+        ensures { result ≡ good_row pool self.now }
+    {
+        is_owner(self.owner)
+            && !is_beyond(self.first, self.size, ADDRESSES)
+            && !is_beyond(self.place, self.size, pool)
+    }
+
+    // Whether it shares a place of the pool with another, or an address if both have one owner.
+    fn clashes_with(&self, other: &Row) -> bool
+        ensures { result ≡ clash self.now other.now }
+    {
+        overlap(self.place, self.size, other.place, other.size)
+            || self.owner == other.owner && overlap(self.first, self.size, other.first, other.size)
+    }
+
+    // Whether it is the owner's, and holds the address.
+    #[tactic(auto, unfolding(crate::specs::Window::within))]
+    fn takes(&self, owner: usize, address: usize) -> bool
+        ensures { result ≡ takes owner address self.now }
+    {
+        self.owner == owner && self.first <= address && address - self.first < self.size
+    }
 }
 
 // Whether all windows are good.
-fn are_good(rows: &[usize], pool: usize) -> bool
-    ensures { result ≡ good_rows pool (rows_in rows.now) }
+fn are_good(rows: &[Row], pool: usize) -> bool
+    ensures { result ≡ good_rows pool rows.now }
 {
-    let mut i = 0;
-    while i < rows.len() / NUMBERS {
-        if !is_good(row_at(rows, i), pool) {
-            return false;
-        }
-        i += 1;
-    }
-    true
+    rows.iter().all(|row| row.is_good(pool))
 }
 
-// Whether two stretches share a number. An empty one has none.
-fn overlap(start: usize, size: usize, other: usize, others: usize) -> bool
-    ensures { result ≡ overlap start size other others }
+// Whether a window clashes with one of these.
+fn clashes(row: &Row, rows: &[Row]) -> bool
+    ensures { result ≡ clashes row.now rows.now }
 {
-    if size == 0 {
-        return false;
-    }
-    if others == 0 {
-        return false;
-    }
-    if start <= other {
-        return other - start < size;
-    }
-    start - other < others
-}
-
-// Whether two windows share a place of the pool, or an address of one owner.
-fn clash(row: Row, other: Row) -> bool
-    ensures { result ≡ clash row other }
-{
-    if overlap(row.place, row.size, other.place, other.size) {
-        return true;
-    }
-    if row.owner != other.owner {
-        return false;
-    }
-    overlap(row.first, row.size, other.first, other.size)
-}
-
-// Whether a window clashes with one of those from window `from` on.
-fn clashes(row: Row, rows: &[usize], from: usize) -> bool
-    ensures { result ≡ clashes row (drop from (rows_in rows.now)) }
-{
-    let mut i = from;
-    while i < rows.len() / NUMBERS {
-        if clash(row, row_at(rows, i)) {
-            return true;
-        }
-        i += 1;
-    }
-    false
+    rows.iter().any(|other| row.clashes_with(other))
 }
 
 // Whether any two windows clash, neighbours or not.
-fn any_clash(rows: &[usize]) -> bool
-    ensures { result ≡ any_clash (rows_in rows.now) }
+fn any_clash(rows: &[Row]) -> bool
+    ensures { result ≡ any_clash rows.now }
 {
-    let mut i = 0;
-    while i < rows.len() / NUMBERS {
-        if clashes(row_at(rows, i), rows, i + 1) {
+    for (i, row) in rows.iter().enumerate() {
+        if clashes(row, &rows[i + 1..]) {
             return true;
         }
-        i += 1;
     }
     false
 }
@@ -171,84 +136,49 @@ fn any_clash(rows: &[usize]) -> bool
 fn is_bad_call(owner: usize, windows: usize, pool: usize, marks: usize) -> bool
     ensures { result ≡ not (call_fits owner windows pool marks) }
 {
-    if !is_owner(owner) {
-        return true;
-    }
-    if windows > MOST_WINDOWS {
-        return true;
-    }
-    pool > MOST_PLACES || marks != marks::row_length(pool)
+    !is_owner(owner)
+        || windows > MOST_WINDOWS
+        || pool > MOST_PLACES
+        || marks != marks::row_length(pool)
 }
 
 // Whether a table is refused, or a call with it: for an owner, with a pool and marks of these lengths.
-pub fn is_bad_table(owner: usize, rows: &[usize], pool: usize, marks: usize) -> bool
-    ensures { IsBadTable owner (rows_in rows.now) pool marks result }
+// Owner and table are two parameters here and above, since one table serves both owners.
+#[tactic(auto, unfolding(crate::specs::Table::fits))]
+pub fn is_bad_table(owner: usize, rows: &[Row], pool: usize, marks: usize) -> bool
+    ensures { IsBadTable owner rows.now pool marks result }
 {
-    if is_bad_call(owner, rows.len() / NUMBERS, pool, marks) {
-        return true;
-    }
-    if any_clash(rows) {
-        return true;
-    }
-    !are_good(rows, pool)
-}
-
-// Whether a window is the owner's, and holds the address.
-fn takes(row: Row, owner: usize, address: usize) -> bool
-    ensures { result ≡ takes owner address row }
-{
-    if row.owner != owner {
-        return false;
-    }
-    if address < row.first {
-        return false;
-    }
-    address - row.first < row.size
+    is_bad_call(owner, rows.len(), pool, marks) || any_clash(rows) || !are_good(rows, pool)
 }
 
 // How many addresses from this one on lie in the same window of the owner, itself the first; 0 if it lies in none.
-fn room_at(owner: usize, rows: &[usize], address: usize) -> usize
-    ensures { RoomAt owner (rows_in rows.now) address result }
+fn room_at(owner: usize, rows: &[Row], address: usize) -> usize
+    ensures { RoomAt owner rows.now address result }
 {
-    let mut i = 0;
-    while i < rows.len() / NUMBERS {
-        let row = row_at(rows, i);
-        if takes(row, owner, address) {
+    for row in rows {
+        if row.takes(owner, address) {
             return row.size - (address - row.first);
         }
-        i += 1;
     }
     0
 }
 
-// Where `len` bytes from an address on lie, in the windows of the owner.
-pub fn first_outside(owner: usize, rows: &[usize], address: u32, len: u32) -> Reach
-    ensures { FirstOutside (inside_of owner (rows_in rows.now)) address len result }
+// Which of `len` bytes from an address on is the first that lies in no window of the owner, counted from 0; none if all lie in one.
+pub fn first_outside(owner: usize, rows: &[Row], address: u32, len: u32) -> Option<usize>
+    ensures { FirstOutside (inside_of owner rows.now) address len result }
 {
     let first = address as usize;
     let bytes = len as usize;
     let mut i = 0;
+    // A while: each turn passes all the bytes that lie in one window.
     while i < bytes {
         let room = room_at(owner, rows, first + i);
         if room == 0 {
-            return Reach::Outside(i);
+            return Some(i);
         }
-        if bytes - i <= room {
-            return Reach::Inside;
-        }
-        i += room;
+        i = i.saturating_add(room);
     }
-    Reach::Inside
-}
-
-// The lesser of two.
-fn least(a: usize, b: usize) -> usize
-    ensures { result ≡ min a b }
-{
-    if a < b {
-        return a;
-    }
-    b
+    None
 }
 
 // The part of a run that lies in a window: `len` bytes after the first `skip` of the run, from a place of the window on.
@@ -263,19 +193,12 @@ struct Part {
 fn part_inside(first: usize, size: usize, address: usize, len: usize) -> Part
     ensures { Parted first size address len result }
 {
-    if address < first {
-        let skip = least(len, first - address);
-        return Part {
-            skip,
-            place: 0,
-            len: least(len - skip, size),
-        };
-    }
-    let place = least(size, address - first);
+    let skip = len.min(first.saturating_sub(address));
+    let place = size.min(address.saturating_sub(first));
     Part {
-        skip: 0,
+        skip,
         place,
-        len: least(len, size - place),
+        len: (len - skip).min(size - place),
     }
 }
 
@@ -284,50 +207,37 @@ fn copy_to(bytes: &[u8], page: &mut [u8], place: usize)
     requires { place + length bytes.now ≤ length page.old }
     ensures { Copied bytes.now place page.old page.new }
 {
-    let end = place + bytes.len();
-    copying::copy(bytes, &mut page[place..end]);
+    copying::copy(bytes, &mut page[place..place + bytes.len()]);
 }
 
 // Stores the part of a run that lies in a window, from the window's place in the page on, and marks its places. What lies beyond the page is left out.
-fn put_in(row: Row, address: u32, bytes: &[u8], page: &mut [u8], marks: &mut [u8])
-    ensures { PutIn row address bytes.now page.old marks.old page.new marks.new }
+fn put_in(row: &Row, address: u32, bytes: &[u8], page: &mut [u8], marks: &mut [u8])
+    ensures { PutIn row.now address bytes.now page.old marks.old page.new marks.new }
 {
-    let start = least(row.place, page.len());
-    let size = least(row.size, page.len() - start);
+    let start = row.place.min(page.len());
+    let size = row.size.min(page.len() - start);
     let part = part_inside(row.first, size, address as usize, bytes.len());
-    let skip = part.skip;
-    let end = skip + part.len;
     let place = start + part.place;
-    copy_to(&bytes[skip..end], page, place);
+    copy_to(&bytes[part.skip..part.skip + part.len], page, place);
     marks::mark_run(marks, place, part.len);
 }
 
-// Does so if the window is the owner's.
-fn put_own(owner: usize, row: Row, address: u32, bytes: &[u8], page: &mut [u8], marks: &mut [u8])
-    ensures { PutRun owner (row ∷ []) address bytes.now page.old marks.old page.new marks.new }
-{
-    if row.owner != owner {
-        return;
-    }
-    put_in(row, address, bytes, page, marks);
-}
-
 // Stores a run of bytes, from an address on, in the owner's windows, and marks their places. A byte outside them changes nothing.
+// Page and marks are two parameters here and above: they are lent as two slices, by C too.
 pub fn put_run(
     owner: usize,
-    rows: &[usize],
+    rows: &[Row],
     address: u32,
     bytes: &[u8],
     page: &mut [u8],
     marks: &mut [u8],
 )
-    ensures { PutRun owner (rows_in rows.now) address bytes.now page.old marks.old page.new marks.new }
+    ensures { PutRun owner rows.now address bytes.now page.old marks.old page.new marks.new }
 {
-    let mut i = 0;
-    while i < rows.len() / NUMBERS {
-        let row = row_at(rows, i);
-        put_own(owner, row, address, bytes, page, marks);
-        i += 1;
+    for row in rows {
+        if row.owner == owner {
+            put_in(row, address, bytes, page, marks);
+        }
     }
 }
 
@@ -338,7 +248,7 @@ pub fn put_inside(first: u32, address: u32, bytes: &[u8], page: &mut [u8], marks
     let start = first as usize;
     let from = address as usize;
     if from < start || is_beyond(from - start, bytes.len(), page.len()) {
-        return bytes.len() == 0;
+        return bytes.is_empty();
     }
     let place = from - start;
     copy_to(bytes, page, place);
@@ -346,24 +256,13 @@ pub fn put_inside(first: u32, address: u32, bytes: &[u8], page: &mut [u8], marks
     true
 }
 
-// Takes away the marks of a window's places, if it is the owner's.
-fn clear_own(owner: usize, row: Row, marks: &mut [u8])
-    ensures { ClearMarks owner (row ∷ []) marks.old marks.new }
-{
-    if row.owner != owner {
-        return;
-    }
-    marks::clear_run(marks, row.place, row.size);
-}
-
 // Takes away the marks of the owner's places. Every other bit stays.
-pub fn clear_marks(owner: usize, rows: &[usize], marks: &mut [u8])
-    ensures { ClearMarks owner (rows_in rows.now) marks.old marks.new }
+pub fn clear_marks(owner: usize, rows: &[Row], marks: &mut [u8])
+    ensures { ClearMarks owner rows.now marks.old marks.new }
 {
-    let mut i = 0;
-    while i < rows.len() / NUMBERS {
-        let row = row_at(rows, i);
-        clear_own(owner, row, marks);
-        i += 1;
+    for row in rows {
+        if row.owner == owner {
+            marks::clear_run(marks, row.place, row.size);
+        }
     }
 }

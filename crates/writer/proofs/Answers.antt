@@ -1,6 +1,6 @@
 -- Each answer, from the text that is to be written: what the code's `return` has to show.
 -- Assumes nothing.
-use Rattle.std.proofs.Common.{◌≡◌, ℕ, ◌+◌, ◌<◌, ◌≤◌, List, length, take, drop, sym, refl, ap, ◌∙◌, arith, take_at, le-leb}
+use Rattle.std.proofs.Common.{◌≡◌, ℕ, ◌+◌, ◌≤◌, List, length, take, drop, sym, refl, ap, ◌∙◌, arith, take_at, le-leb}
 use mathlib.Core.Option.{Option, none, some}
 use borrow.Author.Tests.{lt-leb}
 use Rattle.digits.specs.Common.{pasted}
@@ -16,16 +16,7 @@ pub there : (f : Option Refusal) (cs : List ℕ) (n : ℕ) → wrote n ≡ place
 there none cs n e = let z : n ≡ 0 + length cs = cc in (refl, omega arith)
 there (some r) cs n e = let z : ◌≡◌ {A = ℕ} 0 1 = cc in absurd (omega arith)
 
--- or it is refused, and so is the text that stands for it at any place
-pub not_there : (f : Option Refusal) (cs ds out : List ℕ) (at : ℕ) (r : Refusal) → refuses r ≡ place_behind (unless f cs) 0
-    → Leaves (unless f ds) out at (refuses r) out
-not_there none cs ds out at r q = let z : ◌≡◌ {A = ℕ} 0 1 = cc in absurd (omega arith)
-not_there (some f) cs ds out at r q = record { answer = q; left = refl }
-
 module _ (f : Option Refusal) (cs out : List ℕ) (at : ℕ) (t : f ≡ none) where
-  pub full : length out < at + length cs → Leaves (unless f cs) out at (refuses output_full) out
-  full h = rw t (record { answer = rw (lt-leb (at + length cs) (length out) h); left = rw (lt-leb (at + length cs) (length out) h) })
-
   pub written_there : (n : ℕ) (out' : List ℕ) → at + length cs ≤ length out → n ≡ at + length cs → out' ≡ pasted out at cs → Leaves (unless f cs) out at (wrote n) out'
   written_there n out' h e p =
       rw t (record { answer = rw (le-leb (at + length cs) (length out) h) (ap wrote e); left = rw (le-leb (at + length cs) (length out) h) p })

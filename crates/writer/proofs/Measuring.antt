@@ -1,15 +1,13 @@
 -- The length of each record's line, eleven characters and two for each byte of its payload, which a data record states and any other
--- type fixes; and why a data record has none, by the definition's own tests.
+-- type fixes.
 -- Assumes nothing.
-use Rattle.std.proofs.Common.{◌≡◌, ℕ, ◌+◌, ◌*◌, ◌<◌, ◌≤◌, List, length, ap, arith, le-leb}
-use borrow.Author.Tests.{lt-leb}
-use Rattle.record.specs.Refusals.{payload_outside_pool, data_exceeds_maximum_length}
+use Rattle.std.proofs.Common.{◌≡◌, ℕ, ◌+◌, ◌*◌, ◌≤◌, List, length, ap, arith, le-leb}
 use Rattle.record.specs.declared.Record.TheVariants.{Data, EndOfFile, ExtendedSegmentAddress, StartSegmentAddress, ExtendedLinearAddress, StartLinearAddress}
 use Rattle.record.specs.Record.{meant}
 use Rattle.record.specs.Written.{kind_of, address_of, payload_of}
 use Rattle.digits.proofs.Parts.{part_length}
 use Rattle.record.proofs.Writing.{written_length}
-use Rattle.writer.specs.Told.{wrote, refuses}
+use Rattle.writer.specs.Told.{wrote}
 use Rattle.writer.specs.Text.{place_behind}
 use Rattle.writer.specs.Line.{line_text}
 use Rattle.writer.specs.Claims.{LineLength}
@@ -17,19 +15,11 @@ use Rattle.writer.specs.Claims.{LineLength}
 pub line_length : LineLength
 line_length r pool = written_length (kind_of (meant r pool)) (address_of (meant r pool)) (payload_of (meant r pool))
 
-module _ (offset at len : ℕ) (pool : List ℕ) where
-  pub outside : length pool < at + len → refuses payload_outside_pool ≡ place_behind (line_text (Data offset at len) pool) 0
-  outside h = rw (lt-leb (at + len) (length pool) h)
-
-  module _ (inside : at + len ≤ length pool) where
-    pub too_long : 255 < len → refuses (data_exceeds_maximum_length len) ≡ place_behind (line_text (Data offset at len) pool) 0
-    too_long h = rw (le-leb (at + len) (length pool) inside, lt-leb len 255 h)
-
-    pub fits_line : len ≤ 255 → wrote (11 + 2 * len) ≡ place_behind (line_text (Data offset at len) pool) 0
-    fits_line h =
-        let n = part_length pool at len inside in
-        let l = line_length (Data offset at len) pool in
-        rw (le-leb (at + len) (length pool) inside, le-leb len 255 h) (ap wrote (omega arith))
+pub fits_line : (offset at len : ℕ) (pool : List ℕ) → at + len ≤ length pool → len ≤ 255 → wrote (11 + 2 * len) ≡ place_behind (line_text (Data offset at len) pool) 0
+fits_line offset at len pool inside h =
+    let n = part_length pool at len inside in
+    let l = line_length (Data offset at len) pool in
+    rw (le-leb (at + len) (length pool) inside, le-leb len 255 h) (ap wrote (omega arith))
 
 -- the others are as long as their type says
 pub plain_end : (pool : List ℕ) → wrote 11 ≡ place_behind (line_text EndOfFile pool) 0

@@ -1,16 +1,13 @@
--- Each record's type, address and payload, as the code hands them on: a data record's part of the pool is its payload, and a number's
--- bytes are its quotient and remainder by 256.
+-- What a record that has a line gives the code that puts it: its payload lies in the pool, and fits where the line does.
 -- Assumes nothing.
-use Rattle.std.proofs.Common.{◌≡◌, ℕ, ◌+◌, ◌-◌, ◌/◌, ◌%◌, ◌≤◌, Bool, true, false, leb, List, [], ◌∷◌, ◌++◌, length, take, drop, refl, ◌∙◌, ap₂, arith, leb-true}
+use Rattle.std.proofs.Common.{◌≡◌, ℕ, ◌+◌, ◌≤◌, Bool, true, false, leb, List, length, refl, arith, leb-true}
 use mathlib.Core.Option.{none, some}
-use Rattle.digits.specs.Common.{pasted}
 use Rattle.std.specs.Prelude.{if◌then◌else◌}
 use Rattle.record.specs.Refusals.{Refusal}
 use Rattle.record.specs.declared.Record.{Record}
 use Rattle.record.specs.declared.Record.TheVariants.{Data}
 use Rattle.record.specs.Record.{meant}
-use Rattle.record.specs.Written.{written, payload_of, two_bytes}
-use Rattle.digits.proofs.Parts.{part_is}
+use Rattle.record.specs.Written.{payload_of}
 use Rattle.writer.specs.Line.{line_refusal, line}
 use Rattle.writer.specs.Helpers.{Fitting, Ready}
 use Rattle.writer.proofs.Measuring.{line_length}
@@ -33,18 +30,3 @@ fitting r pool out at payload ready same small =
     let l = line_length r pool in
     let room : at + length (line r pool) ≤ length out = ready.room in
     record { most = small; room = omega arith }
-
-pub put_part : (out : List ℕ) (at offset : ℕ) (pool : List ℕ) (from len : ℕ) {out' : List ℕ}
-    → out' ≡ pasted out at (written 0 offset (take (from + len - from) (drop from pool))) → out' ≡ pasted out at (written 0 offset (take len (drop from pool)))
-put_part out at offset pool from len e = rw (part_is pool from len) at e
-
-module _ (kind : ℕ) (out : List ℕ) (at : ℕ) {out' : List ℕ} where
-  pub put_two : (a x y : ℕ) → x ≡ a / 256 → y ≡ a % 256 → out' ≡ pasted out at (written kind 0 (x ∷ y ∷ [])) → out' ≡ pasted out at (written kind 0 (two_bytes a))
-  put_two a x y h l e = e ∙ ap₂ (λ (p q : ℕ). pasted out at (written kind 0 (p ∷ q ∷ []))) h l
-
-  pub put_four : (a b x y z w : ℕ) → x ≡ a / 256 → y ≡ a % 256 → z ≡ b / 256 → w ≡ b % 256
-      → out' ≡ pasted out at (written kind 0 (x ∷ y ∷ z ∷ w ∷ [])) → out' ≡ pasted out at (written kind 0 (two_bytes a ++ two_bytes b))
-  put_four a b x y z w h l h' l' e =
-      e
-      ∙ ap₂ (λ (p q : ℕ). pasted out at (written kind 0 (p ∷ q ∷ z ∷ w ∷ []))) h l
-      ∙ ap₂ (λ (p q : ℕ). pasted out at (written kind 0 ((a / 256) ∷ (a % 256) ∷ p ∷ q ∷ []))) h' l'

@@ -1,13 +1,13 @@
 -- Steps behind a survey: each text stands behind the one before it, or nothing is written at all.
 -- Assumes nothing.
-use Rattle.std.proofs.Common.{◌≡◌, ℕ, ◌+◌, ◌≤◌, Bool, true, false, leb, List, [], ◌∷◌, ◌++◌, length, sym, refl, ap, ◌∙◌, subst, inl, arith, length-append, le-leb, leb-true}
+use Rattle.std.proofs.Common.{◌≡◌, ℕ, ◌+◌, ◌≤◌, Bool, true, false, leb, List, [], ◌∷◌, ◌++◌, length, sym, refl, ap, ◌∙◌, subst, inl, append-nil, append_assoc, arith, length-append, le-leb, leb-true}
 use mathlib.Core.Option.{Option, none, some}
 use Rattle.digits.specs.Common.{pasted}
 use Rattle.std.specs.Prelude.{if◌then◌else◌}
 use Rattle.record.specs.Refusals.{Refusal, output_full}
 use Rattle.record.specs.declared.Record.{Record}
-use Rattle.writer.specs.declared.Written.{Written}
-use Rattle.writer.specs.declared.Written.TheVariants.{Wrote, Refused}
+use Rattle.writer.specs.declared.WriterError.{WriterError}
+use Rattle.writer.specs.Aliases.{Written}
 use Rattle.writer.specs.Told.{wrote, refuses, told_written}
 use Rattle.writer.specs.Text.{Text, chars, refused, unless, place_behind, if_room, Writes}
 use Rattle.writer.specs.Line.{line_refusal, ended_line, WriteNext}
@@ -18,13 +18,14 @@ use Rattle.record.proofs.Choices.{or_else_both}
 use Rattle.digits.proofs.Pasting.{pasted_none, pasted_length, pasted_on}
 use Rattle.writer.proofs.Objects.{first_refusal_snoc, lines_snoc, parts}
 use Rattle.writer.proofs.Surveying.{answered}
+use Rattle.std.specs.Prelude.{Err, Ok}
 
 -- ---- a refusal stays, and nothing is written
 
 stuck_next : (w : Written) (r : Refusal) (x : Record) (pool out : List ℕ) (w' : Written) (out' : List ℕ)
     → told_written w ≡ refuses r → WriteNext w x pool out w' out' → (told_written w' ≡ refuses r) × (out' ≡ out)
-stuck_next (Wrote at) r x pool out w' out' e n = let z : ◌≡◌ {A = ℕ} 0 1 = cc in absurd (omega arith)
-stuck_next (Refused q) r x pool out w' out' e n = (n.answer ∙ e, n.left)
+stuck_next (Ok at) r x pool out w' out' e n = let z : ◌≡◌ {A = ℕ} 0 1 = cc in absurd (omega arith)
+stuck_next (Err q) r x pool out w' out' e n = (n.answer ∙ e, n.left)
 
 stuck : (pool out : List ℕ) (start : Written) (r : Refusal) {rs : List Record} {w : Written} {out' : List ℕ} → told_written start ≡ refuses r
     → Steps pool out start rs w out' → (told_written w ≡ refuses r) × (out' ≡ out)
@@ -33,6 +34,13 @@ stuck pool out start r e (then_step x {w} {w'} {out₁} out₂ v n q) =
     let b = stuck pool out start r e v in
     let p = stuck_next w r x pool out₁ w' out₂ b.0 n in
     (p.0, p.1 ∙ b.1)
+
+-- it stays through whatever records follow
+pub stays : (pool out : List ℕ) (start : Written) (qs : List Record) {rs all : List Record} {e : WriterError} {out' : List ℕ}
+    → Steps pool out start rs (Err e) out' → all ≡ rs ++ qs → Steps pool out start all (Err e) out'
+stays pool out start [] {rs} t q = rw (q, append-nil rs) t
+stays pool out start (x ∷ qs) {rs} {all} {e} {out'} t q =
+    stays pool out start qs (then_step x out' t (record { answer = refl; left = refl }) refl) (q ∙ sym (append_assoc rs (x ∷ []) qs))
 
 -- ---- all is written
 
@@ -47,10 +55,10 @@ there_next none cs out at w out' t h n =
 step_on : (w : Written) (x : Record) (pool out : List ℕ) (at : ℕ) (w' : Written) (out' : List ℕ)
     → told_written w ≡ wrote at → line_refusal x (length pool) ≡ none → at + length (ended_line x pool) ≤ length out
     → WriteNext w x pool out w' out' → (told_written w' ≡ wrote (at + length (ended_line x pool))) × (out' ≡ pasted out at (ended_line x pool))
-step_on (Wrote k) x pool out at w' out' e t h n =
+step_on (Ok k) x pool out at w' out' e t h n =
     let same : k ≡ at = cc in
-    there_next (line_refusal x (length pool)) (ended_line x pool) out at w' out' t h (subst (λ (m : ℕ). WriteNext (Wrote m) x pool out w' out') same n)
-step_on (Refused q) x pool out at w' out' e t h n = let z : ◌≡◌ {A = ℕ} 0 1 = cc in absurd (omega arith)
+    there_next (line_refusal x (length pool)) (ended_line x pool) out at w' out' t h (subst (λ (m : ℕ). WriteNext (Ok m) x pool out w' out') same n)
+step_on (Err q) x pool out at w' out' e t h n = let z : ◌≡◌ {A = ℕ} 0 1 = cc in absurd (omega arith)
 
 -- the records so far are written
 abbrev Done : (rs : List Record) (pool out : List ℕ) (w : Written) (out' : List ℕ) → Type 0

@@ -1,8 +1,10 @@
 -- A survey keeps of a list of records what its object's answer needs; its numbers stay at the largest where they would pass it.
 -- Assumes nothing.
-use Rattle.std.proofs.Common.{◌≡◌, ℕ, ◌+◌, ◌<◌, ◌≤◌, Bool, true, false, ltb, ◌⊎◌, List, [], ◌∷◌, ◌++◌, length, sym, refl, ap, ◌∙◌, inl, inr, arith, length-append, le-leb}
+use Rattle.std.proofs.Common.{◌≡◌, ℕ, ◌+◌, ◌-◌, ◌^◌, min, ◌<◌, ◌≤◌, Bool, true, false, ltb, ◌⊎◌, List, [], ◌∷◌, ◌++◌, length, sym, refl, ap, ◌∙◌, inl, inr, arith, length-append, le-leb}
 use mathlib.Core.Option.{Option, none, some}
+use mir.Val.{bool_byte}
 use borrow.Author.Tests.{lt-leb}
+use Rattle.std.proofs.Math.Nat.{min-eq_left, min-eq_right}
 use Rattle.digits.specs.Common.{or_else}
 use Rattle.std.specs.Prelude.{if◌then◌else◌}
 use Rattle.record.specs.Refusals.{Refusal, missing_end_of_file_record, multiple_end_of_file_records}
@@ -26,6 +28,15 @@ cap_below n h = rw (le-leb n most h)
 cap_above : (n : ℕ) → most ≤ n → cap n ≡ most
 unfolding cap
 cap_above n h = split n most (λ k. let e : n ≡ most = omega arith in rw (le-leb n most k) e) (λ k. rw (lt-leb n most k))
+
+-- as the machine caps it
+pub cap_min : (n : ℕ) → min n (2 ^ 64 - 1) ≡ cap n
+cap_min n = split n most (λ h. min-eq_left h ∙ sym (cap_below n h)) (λ h. min-eq_right (omega arith) ∙ sym (cap_above n (omega arith)))
+
+-- one more, where a test says so
+pub one_more : (b : Bool) (n x : ℕ) → n ≤ most → x ≡ bool_byte b → min (n + x) (2 ^ 64 - 1) ≡ (if b then cap (n + 1) else n)
+one_more true n x h e = rw e (cap_min (n + 1))
+one_more false n x h e = let z : n + x ≡ n = omega arith in rw z (cap_min n ∙ cap_below n h)
 
 -- a sum may be capped in two steps
 pub cap_twice : (n m : ℕ) → cap (n + cap m) ≡ cap (n + m)

@@ -5,12 +5,12 @@ use Rattle.std.specs.Prelude.{if◌then◌else◌}
 use Rattle.record.specs.Refusals.{Refusal, refusal}
 use Rattle.writer.specs.declared.WriterError.{WriterError}
 use Rattle.writer.specs.declared.WriterError.TheVariants.{DataExceedsMaximumLength, MissingEndOfFileRecord, MultipleEndOfFileRecords, PayloadOutsidePool, OutputFull}
-use Rattle.writer.specs.declared.Written.{Written}
-use Rattle.writer.specs.declared.Written.TheVariants.{Wrote, Refused}
+use Rattle.writer.specs.Aliases.{Written}
 use Rattle.writer.specs.declared.Survey.{Survey}
 use Rattle.writer.specs.Told.{ToldWritten, wrote, refuses, writer_refusal, told_written}
 use Rattle.writer.specs.Text.{Text, Writes}
 use Rattle.writer.specs.Claims.{ToRecordStringUnique, WriteStepUnique, WriteNextUnique, NewUnique, AddUnique, AnswerUnique, BeginUnique, CreateObjectFileRepresentationUnique}
+use Rattle.std.specs.Prelude.{Err, Ok}
 
 -- the error of a refusal, by its number
 error : Refusal → WriterError
@@ -23,8 +23,8 @@ error (refusal n vs) =
 
 untold : ToldWritten → Written
 unfolding error
-untold (wrote n) = Wrote n
-untold (refuses r) = Refused (error r)
+untold (wrote n) = Ok n
+untold (refuses r) = Err (error r)
 
 error_again : (e : WriterError) → error (writer_refusal e) ≡ e
 unfolding error
@@ -36,8 +36,8 @@ error_again OutputFull = refl
 
 untold_told : (r : Written) → untold (told_written r) ≡ r
 unfolding untold
-untold_told (Wrote n) = refl
-untold_told (Refused e) = ap Refused (error_again e)
+untold_told (Ok n) = refl
+untold_told (Err e) = ap Err (error_again e)
 
 -- what is told says which answer it was
 pub told_apart : (a b : Written) → told_written a ≡ told_written b → a ≡ b
@@ -53,8 +53,8 @@ pub write_step_unique : WriteStepUnique
 write_step_unique x pool out at r r' o o' p q = writes_unique _ _ _ r r' o o' p q
 
 pub write_next_unique : WriteNextUnique
-write_next_unique (Wrote at) x pool out r r' o o' p q = writes_unique _ _ _ r r' o o' p q
-write_next_unique (Refused e) x pool out r r' o o' p q = writes_unique _ _ _ r r' o o' p q
+write_next_unique (Ok at) x pool out r r' o o' p q = writes_unique _ _ _ r r' o o' p q
+write_next_unique (Err e) x pool out r r' o o' p q = writes_unique _ _ _ r r' o o' p q
 
 -- a survey is its three fields
 alike : (s t : Survey) → s.ends ≡ t.ends → s.ended ≡ t.ended → told_written s.total ≡ told_written t.total → s ≡ t

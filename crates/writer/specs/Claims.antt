@@ -13,14 +13,14 @@ use Rattle.record.specs.Line.{says, judge}
 use Rattle.record.specs.Format.{Format}
 use Rattle.record.specs.Written.{written, kind_of, address_of, payload_of, InCapitals}
 use Rattle.writer.specs.declared.WriterError.{WriterError}
-use Rattle.writer.specs.declared.Written.{Written}
-use Rattle.writer.specs.declared.Written.TheVariants.{Wrote, Refused}
+use Rattle.writer.specs.Aliases.{Written}
 use Rattle.writer.specs.declared.Survey.{Survey}
 use Rattle.writer.specs.Told.{told_written}
 use Rattle.writer.specs.Text.{Text, chars, refused, place_behind, if_room, Writes}
 use Rattle.writer.specs.Line.{line_refusal, line, line_text, ToRecordString, WriteStep, WriteNext}
 use Rattle.writer.specs.Object.{ends, ends_in_end, joined_lines, object, WriteObject}
 use Rattle.writer.specs.Survey.{SurveyNew, SurveyAdd, SurveyAnswer, SurveyBegin, most}
+use Rattle.std.specs.Prelude.{Err, Ok}
 
 -- ---- one record
 
@@ -52,7 +52,7 @@ pub record LineFor (r : Record) (pool l : List ℕ) : Type 0 where
 abbrev pub WritesLine : Type 0
 WritesLine =
     (r : Record) (pool out : List ℕ) (n : ℕ) (out' : List ℕ) → InRange r → Every Byte pool
-    → ToRecordString r pool out (Wrote n) out' → LineFor r pool (take n out')
+    → ToRecordString r pool out (Ok n) out' → LineFor r pool (take n out')
 
 -- and there is no second one
 abbrev pub OneLine : Type 0
@@ -79,12 +79,12 @@ LinePlain = (r : Record) (pool : List ℕ) → Every (λ c. 48 ≤ c) (line r po
 
 -- a refusal changes nothing
 abbrev pub RefusalChangesNothing : Type 0
-RefusalChangesNothing = (t : Text) (out : List ℕ) (at : ℕ) (e : WriterError) (out' : List ℕ) → Writes t out at (Refused e) out' → out' ≡ out
+RefusalChangesNothing = (t : Text) (out : List ℕ) (at : ℕ) (e : WriterError) (out' : List ℕ) → Writes t out at (Err e) out' → out' ≡ out
 
 -- what lies before the place, and from the returned one on, is as it was
 abbrev pub RestUntouched : Type 0
 RestUntouched =
-    (t : Text) (out : List ℕ) (at n : ℕ) (out' : List ℕ) → Writes t out at (Wrote n) out'
+    (t : Text) (out : List ℕ) (at n : ℕ) (out' : List ℕ) → Writes t out at (Ok n) out'
     → (take at out' ≡ take at out) × (drop n out' ≡ drop n out)
 
 -- ---- an object
@@ -112,7 +112,7 @@ pub data TextFor (pool : List ℕ) : List Record → (t : List ℕ) → Type 0 w
 abbrev pub WritesText : Type 0
 WritesText =
     (rs : List Record) (pool out : List ℕ) (n : ℕ) (out' : List ℕ) → Every InRange rs → Every Byte pool
-    → WriteObject rs pool out (Wrote n) out' → TextFor pool rs (take n out')
+    → WriteObject rs pool out (Ok n) out' → TextFor pool rs (take n out')
 
 -- and there is no second one
 abbrev pub OneText : Type 0

@@ -6,3 +6,4 @@ pub mod Survey
 pub mod Helpers
 pub mod Claims
 pub mod Reasons
+pub mod Aliases

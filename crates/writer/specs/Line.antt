@@ -8,10 +8,10 @@ use Rattle.record.specs.declared.Record.{Record}
 use Rattle.record.specs.declared.Record.TheVariants.{Data, EndOfFile, ExtendedSegmentAddress, StartSegmentAddress, ExtendedLinearAddress, StartLinearAddress}
 use Rattle.record.specs.Record.{meant}
 use Rattle.record.specs.Written.{line_of}
-use Rattle.writer.specs.declared.Written.{Written}
-use Rattle.writer.specs.declared.Written.TheVariants.{Wrote, Refused}
+use Rattle.writer.specs.Aliases.{Written}
 use Rattle.writer.specs.Told.{writer_refusal}
 use Rattle.writer.specs.Text.{Text, refused, unless, Writes}
+use Rattle.std.specs.Prelude.{Err, Ok}
 
 -- why a record has no line, over a pool of n bytes
 abbrev pub line_refusal : Record → (n : ℕ) → Option Refusal
@@ -49,5 +49,5 @@ WriteStep record' pool out at r out' = Writes (step_text record' pool) out at r 
 
 -- the contract of `write_next`
 abbrev pub WriteNext : (done : Written) → Record → (pool out : List ℕ) → Written → (out' : List ℕ) → Type 0
-WriteNext (Wrote at) record' pool out r out' = WriteStep record' pool out at r out'
-WriteNext (Refused e) record' pool out r out' = Writes (refused (writer_refusal e)) out 0 r out'
+WriteNext (Ok at) record' pool out r out' = WriteStep record' pool out at r out'
+WriteNext (Err e) record' pool out r out' = Writes (refused (writer_refusal e)) out 0 r out'

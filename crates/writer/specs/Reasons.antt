@@ -8,7 +8,7 @@ use Rattle.record.specs.declared.Record.{Record}
 use Rattle.record.specs.declared.Record.TheVariants.{Data, EndOfFile}
 use Rattle.record.specs.Record.{type_of}
 use Rattle.record.specs.Format.{Size}
-use Rattle.writer.specs.declared.Written.{Written}
+use Rattle.writer.specs.Aliases.{Written}
 use Rattle.writer.specs.declared.Survey.{Survey}
 use Rattle.writer.specs.Told.{ToldWritten, wrote, refuses, told_written}
 use Rattle.writer.specs.Line.{ToRecordString, WriteStep}

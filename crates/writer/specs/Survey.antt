@@ -4,7 +4,7 @@ use Rattle.std.specs.Prelude.{◌≡◌, ℕ, ◌+◌, false, List, nat_le, nat_
 use Rattle.std.specs.Prelude.{if◌then◌else◌}
 use Rattle.record.specs.Refusals.{missing_end_of_file_record, multiple_end_of_file_records}
 use Rattle.record.specs.declared.Record.{Record}
-use Rattle.writer.specs.declared.Written.{Written}
+use Rattle.writer.specs.Aliases.{Written}
 use Rattle.writer.specs.declared.Survey.{Survey}
 use Rattle.writer.specs.Told.{ToldWritten, wrote, refuses, told_written}
 use Rattle.writer.specs.Text.{place_behind, if_room}

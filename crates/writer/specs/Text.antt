@@ -5,7 +5,7 @@ use Rattle.std.proofs.Math.Option.{Option, none, some}
 use Rattle.digits.specs.Common.{pasted}
 use Rattle.std.specs.Prelude.{if◌then◌else◌}
 use Rattle.record.specs.Refusals.{Refusal, output_full}
-use Rattle.writer.specs.declared.Written.{Written}
+use Rattle.writer.specs.Aliases.{Written}
 use Rattle.writer.specs.Told.{ToldWritten, wrote, refuses, told_written}
 
 -- a text, or the refusal that stands in its place

@@ -7,26 +7,21 @@ use Rattle.lent.specs.Lent.{asked}
 use Rattle.lent.proofs.Turns.{goes_on, the_last}
 use Rattle.lent.proofs.nth_of.Goals as goal
 
-pub loop-i-init : goal.loop-i-init
-loop-i-init c =
+pub loop-init : goal.loop-init
+loop-init c =
     let a = c.args in
-    let e = c.new_with_options-reader.ensures in
-    let all : a.n - 0 ≡ a.n = omega arith in (
-      omega arith,
-      ap (λ (n : ℕ). asked n c.new_with_options-reader.result.state c.new_with_options-reader.result.text.now a.pool.now a.at) all
-          ∙ ap₂ (λ (s : State) (t : Bor (List ℕ)). asked a.n s t.now a.pool.now a.at) e.stands e.holds,
-    )
+    let r = c.new_with_options-reader in
+    let all : a.n - 0 ≡ a.n = omega arith in
+    ap (λ (n : ℕ). asked n r.result.state r.result.text.now a.pool.now a.at) all
+    ∙ ap₂ (λ (s : State) (t : Bor (List ℕ)). asked a.n s t.now a.pool.now a.at) r.ensures.stands r.ensures.holds
 
-pub returns-then-i-n : goal.returns-then-i-n
-returns-then-i-n c =
-    let l = c.loop-i in
-    let m = subst (λ (o : Outcome). Meets o (record { reply = c.next-reply.result; state = c.next-reply.new.self.state }) c.next-reply.new.pool) l.invariant.1 (the_last c.next-reply.ensures c.args.n l.i c.if-i-n.true) in
+pub loop-preserved : goal.loop-preserved
+loop-preserved c = goes_on c.next.ensures c.args.n c.loop.counter c.loop-test.true ∙ c.loop.invariant
+
+pub returns : goal.returns
+returns c =
+    let last = c.next-reply in
+    let m =
+    subst (λ (o : Outcome). Meets o (record { reply = last.result; state = last.new.self.state }) last.new.pool) c.loop.invariant
+    (the_last last.ensures c.args.n c.loop.counter c.loop-test.false) in
     record { answer = m.answer; state = m.state; left = m.left }
-
-pub loop-i-smaller : goal.loop-i-smaller
-loop-i-smaller c = omega (arith, c.if-i-n.false)
-
-pub loop-i-preserved : goal.loop-i-preserved
-loop-i-preserved c =
-    let l = c.loop-i in
-    (omega (arith, c.if-i-n.false), goes_on c.next-reply.ensures c.args.n l.i c.if-i-n.false ∙ l.invariant.1)

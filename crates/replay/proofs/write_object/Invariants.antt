@@ -1,7 +1,6 @@
--- `replay::write_object` is safe and ends: the measure is how many records are left to fill.
--- Assumes nothing.
-use Rattle.std.proofs.Common.{◌-◌}
+-- No more are counted than were stored.
+use Rattle.std.proofs.Common.{◌≤◌}
 use Rattle.replay.proofs.write_object.Given as goal
 
-abbrev pub decreases-loop-n : goal.decreases-loop-n
-decreases-loop-n g l = 64 - l.n
+abbrev pub invariant-loop-slot : goal.invariant-loop-slot
+invariant-loop-slot g l = l.n ≤ l.slot-index

@@ -1,9 +1,0 @@
-pub mod Machine
-pub mod Counting
-pub mod Past
-pub mod Ways
-pub mod Helpers
-pub mod Intake
-pub mod Ending
-pub mod Claims
-pub mod Rows
