@@ -3,7 +3,8 @@
 
 In a cell of a table of docs/CLAIMS.md each file in backquotes is there, and each name in backquotes after a file stands in
 that file, outside its comments. A claim is a name of a crate's specs/ that is a statement by itself: `abbrev pub X : Type n`,
-or a record without parameters each of whose fields is a statement. A name for an Option, a Result or a ControlFlow of values states nothing. It stands in docs/CLAIMS.md after its file, and has a proof of exactly its type: `pub x : X` in the
+or a record without parameters each of whose fields is a statement. A name that specs/Aliases.antt gives to an Option, a
+Result or a ControlFlow of numbers and of types of the code, or of such names, states nothing. It stands in docs/CLAIMS.md after its file, and has a proof of exactly its type: `pub x : X` in the
 crate's proofs/, in a file that has X from the file of specs/ that states it. That the proof holds is the check's to say.
 Files and names of docs/GLOSSARY.md are looked up in the same way. Each text that an edit of a must-fail folder changes stands once in
 the file that it names, as the edit's changes before it leave that, and the edit has a row in docs/CLAIMS.md."""
@@ -12,7 +13,7 @@ import re
 import sys
 
 repo = pathlib.Path(__file__).resolve().parent.parent
-ALIAS = re.compile(r'(?m)^abbrev pub (\S+) : Type 0\n\1 = (?:Option|Result|ControlFlow) [^→↔≡≢≤<⊎¬×]*$')
+ALIAS = re.compile(r'(?m)^abbrev pub (\S+) : Type 0\n\1 = (?:Option|Result|ControlFlow) ([\w ()ℕ]*)$')
 CLAIM = re.compile(r'^(?:abbrev|unfoldable) pub (?P<name>\S+) : Type \d+$|^pub record (?P<record>\S+) : Type \d+ where\n(?P<fields>(?: .*\n|\n)*)', re.M)
 
 
@@ -43,8 +44,16 @@ def is_statement(field):
     return re.search('[→↔≡≢≤<⊎¬]', field) is not None and re.search(r'→ Type \d+\s*$', field) is None
 
 
+def without_aliases(spec):
+    """The text of a file of aliases without those of values: what stands on the right is a number, a type of the code, or another alias."""
+    values = {'ℕ', 'Option', 'Result', 'ControlFlow', *re.findall(r'(?m)^abbrev pub (\S+) : Type 0$', spec)}
+    for names in re.findall(r'(?m)^use Rattle\.\w+\.specs\.(?:declared\.\S+|Aliases)\.\{([^}]*)\}$', spec):
+        values.update(name.split(' as ')[-1].strip() for name in names.split(','))
+    return ALIAS.sub(lambda found: '' if set(re.findall(r'[\wℕ]+', found[2])) <= values else found[0], spec)
+
+
 def claims(spec):
-    for found in CLAIM.finditer(ALIAS.sub('', spec) + '\n'):
+    for found in CLAIM.finditer(spec + '\n'):
         fields = re.split(r'(?m)^  pub ', found['fields'] or '')[1:]
         if found['name'] or fields and all(map(is_statement, fields)):
             yield found['name'] or found['record']
@@ -60,12 +69,14 @@ def proves(proof, crate, stem, claim):
 
 def finds_what_is_wrong():
     """A claim with its proof; and texts that do not prove it: of another type, of another file's name, stated anew, in a comment."""
-    spec = ('abbrev pub Holds : Type 0\nHolds = Unit\n\nabbrev pub Answer : Type 0\nAnswer = Result ℕ Error\n\nabbrev pub Takes : ℕ → Type 0\n\npub record Cell : Type 0 where\n  pub place : ℕ\n\n'
+    spec = ('abbrev pub Holds : Type 0\nHolds = Unit\n\nabbrev pub Takes : ℕ → Type 0\n\npub record Cell : Type 0 where\n  pub place : ℕ\n\n'
             'pub record Given : Type 1 where\n  pub holds : (n : ℕ) → Type 0\n\n'
             'pub record Examples : Type 0 where\n  -- one\n  pub one : 1 ≤ 1\n\n  pub all : (n : ℕ)\n      → n ≡ n\n')
     use, lemma = 'use Rattle.a.specs.B.{Other, Holds}\n', 'pub holds : Holds\n'
     wrong = [use + 'pub holds : ℕ → Holds\n', use.replace('.B.', '.C.') + lemma, use + 'abbrev Holds : Type 0\n' + lemma, use + '-- ' + lemma]
-    return (list(claims(spec)) == ['Holds', 'Examples'] and proves(use + lemma, 'a', 'B', 'Holds')
+    aliases = ('use Rattle.a.specs.declared.Error.{Error}\nuse Rattle.a.specs.B.{Holds}\nabbrev pub Answer : Type 0\nAnswer = Result ℕ Error\n\n'
+               'abbrev pub Reply : Type 0\nReply = Option Answer\n\nabbrev pub Hides : Type 0\nHides = Option Holds\n')
+    return (list(claims(spec)) == ['Holds', 'Examples'] and list(claims(without_aliases(aliases))) == ['Hides'] and proves(use + lemma, 'a', 'B', 'Holds')
             and not any(proves(text, 'a', 'B', 'Holds') for text in wrong)
             and counts('file: f\nold:   x = 1\nnew:   x = 2\n', 'x = 1\n  x = 1\n') == [1]
             and counts('file: f\nold: y\nnew: x\nold: x\nnew: z\n', 'x y') == [1, 2] and counts('file: f\nold: x\nold: y\nnew: z\nnew: x\n', 'x y') == []
@@ -78,7 +89,8 @@ def unproved(listed):
         proofs = [p.read_text(encoding='utf-8') for p in sorted((crate / 'proofs').rglob('*.antt'))]
         for path in sorted((crate / 'specs').rglob('*.antt')):
             file = str(path.relative_to(repo))
-            for claim in claims(path.read_text(encoding='utf-8')):
+            spec = path.read_text(encoding='utf-8')
+            for claim in claims(without_aliases(spec) if path.stem == 'Aliases' else spec):
                 yield file, claim, [*([] if any(proves(text, crate.name, path.stem, claim) for text in proofs) else ['has no proof of exactly that type']),
                                     *([] if (file, claim) in listed else ['is not in docs/CLAIMS.md'])]
 
