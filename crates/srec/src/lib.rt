@@ -35,6 +35,11 @@ pub mod types {
 
     pub const S9: u8 = 9;
 
+    // The two below S9 that no type has.
+    pub const NOT_S4: u8 = 4;
+
+    pub const NOT_S6: u8 = 6;
+
     // Headers and data have a digit below this one.
     pub const FIRST_WITHOUT_DATA: u8 = 4;
 }
@@ -58,6 +63,8 @@ pub mod address_sizes {
 
 // The first number that so many bytes cannot hold.
 pub mod address_limits {
+    pub const ONE: u32 = 256;
+
     pub const TWO: u32 = 65536;
 
     pub const THREE: u32 = 16777216;

@@ -22,6 +22,9 @@ pub mod owners {
     pub const SECOND: usize = 2;
 }
 
+// How many numbers a table has for a window: those of a row.
+pub const NUMBERS: usize = 4;
+
 // One window of a table: its owner, its first address, how many places it has, and which place of the page its first address has.
 #[derive(Clone, Copy)]
 pub struct Row {
