@@ -299,11 +299,13 @@ fn take_record(
         return Taken::On(base, Tally { records, ..tally });
     }
     let rows = window::one_window(first, page.len());
-    let taken = judge_record(owners::FIRST, &rows, number, base, tally, given);
-    if let Taken::On(..) = taken {
-        write_record(pool, owners::FIRST, &rows, base, given, page, marks);
+    match judge_record(owners::FIRST, &rows, number, base, tally, given) {
+        Taken::On(next, t) => {
+            write_record(pool, owners::FIRST, &rows, base, given, page, marks);
+            Taken::On(next, t)
+        }
+        Taken::Stop(answer) => Taken::Stop(answer),
     }
-    taken
 }
 
 // Takes one line of a text into a page with marks: judged as the loader judges it, with the number that a refusal names, from the base and the tally that the lines before it left. If it lets the load go on, what it states is stored and marked. A window that is refused, and a tally that can count no more, are 16, with line 0.

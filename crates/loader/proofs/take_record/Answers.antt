@@ -20,15 +20,17 @@ returns-in-On c =
     let a = c.args in
     let l = c.put_whole.new in
     let one = c.one_window-rows in
-    let t = c.judge_record-taken in
-    took_by_table a.number a.base a.tally a.given a.pool.now a.first a.page.now a.marks.now l.page l.marks (c.put_whole.ensures.kept c.if-put_whole.false)
-    one.result one.ensures t.result (t.ensures a.pool.now c.requires.0) _ _ (rw c.in-On.is c.write_record.ensures)
+    let t = c.judge_record in
+    rw c.in-On.is at
+    (took_by_table a.number a.base a.tally a.given a.pool.now a.first a.page.now a.marks.now l.page l.marks (c.put_whole.ensures.kept c.if-put_whole.false)
+    one.result one.ensures t.result (t.ensures a.pool.now c.requires.0) c.write_record.new.page c.write_record.new.marks (rw c.in-On.is c.write_record.ensures))
 
-pub returns-in_default : goal.returns-in_default
-returns-in_default c =
+pub returns-in-Stop : goal.returns-in-Stop
+returns-in-Stop c =
     let a = c.args in
     let l = c.put_whole.new in
     let one = c.one_window-rows in
-    let t = c.judge_record-taken in
-    took_by_table a.number a.base a.tally a.given a.pool.now a.first a.page.now a.marks.now l.page l.marks (c.put_whole.ensures.kept c.if-put_whole.false)
-    one.result one.ensures t.result (t.ensures a.pool.now c.requires.0) _ _ (rw c.in_default.is (painted_nothing _ l.page l.marks))
+    let t = c.judge_record in
+    rw c.in-Stop.is at
+    (took_by_table a.number a.base a.tally a.given a.pool.now a.first a.page.now a.marks.now l.page l.marks (c.put_whole.ensures.kept c.if-put_whole.false)
+    one.result one.ensures t.result (t.ensures a.pool.now c.requires.0) l.page l.marks (rw c.in-Stop.is (painted_nothing _ l.page l.marks)))
