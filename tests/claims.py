@@ -2,7 +2,8 @@
 """Holds docs/CLAIMS.md, the claims of the crates and their proofs to each other.
 
 In a cell of a table of docs/CLAIMS.md each file in backquotes is there, and each name in backquotes after a file stands in
-that file, outside its comments. A claim is a name of a crate's specs/ that is a statement by itself: `abbrev pub X : Type n`,
+that file, outside its comments. What a cell under "Proved" names in a file of src/ is a function with an `ensures`, or one of a trait
+whose clauses an impl states by ghost items. A claim is a name of a crate's specs/ that is a statement by itself: `abbrev pub X : Type n`,
 or a record without parameters each of whose fields is a statement. A name that specs/Aliases.antt gives to an Option, a
 Result or a ControlFlow of numbers and of types of the code, or of such names, states nothing. It stands in docs/CLAIMS.md after its file, and has a proof of exactly its type: `pub x : X` in the
 crate's proofs/, in a file that has X from the file of specs/ that states it. That the proof holds is the check's to say.
@@ -37,6 +38,35 @@ def stands(file, name):
     if file.endswith(('.antt', '.rt')):
         text = re.sub(r'(?m)(^|\s)(--|//).*$', '', text)
     return re.search(r'(?<![\w-])' + re.escape(name) + r'(?![\w-])', text) is not None
+
+
+def proved_by_the_check(table):
+    """Each name that a cell under a head "Proved" has after a file of src/: (line, file, name)."""
+    column = None
+    for number, row in enumerate(table.split('\n'), 1):
+        cells = [cell.strip() for cell in row.split('|')[1:-1]] if row.startswith('|') else []
+        if not cells or 'Proved' in cells:
+            column = cells.index('Proved') if cells else None
+        elif column is not None:
+            for number_in, file, name in names('\n' * (number - 1) + '| | ' + cells[column] + ' |'):
+                if file and file.endswith('.rt') and name != file:
+                    yield number_in, file, name
+
+
+def has_contract(source, name):
+    """Whether each function of this name, and there is one, has an `ensures`, or stands in an impl of a trait that has ghost items. What stands
+    in a comment does not count."""
+    source = re.sub(r'//[^\n]*', '', source)
+    heads = list(re.finditer(r'(?m)^( *)(?:pub )?(?:extern "C" )?fn %s\b' % re.escape(name), source))
+    for head in heads:
+        rest = source[head.start():]
+        body = re.search(r'(?m)^(?![^\n]*\b(?:requires|ensures)\b)[^\n]*\{(?: *|[^\n]*\} *)$|;$', rest)
+        impls = list(re.finditer(r'(?m)^(?:impl|pub trait|trait)\b.*$', source[:head.start()]))
+        block = source[impls[-1].start():head.start()] if impls and head[1] else ''
+        by_trait = re.match(r'impl\b.* for ', block) and re.search(r'(?m)^ *ghost (?!use\b)', block)
+        if not (re.search(r'\bensures\b', rest[:body.start()] if body else rest) or by_trait):
+            return False
+    return bool(heads)
 
 
 def is_statement(field):
@@ -80,7 +110,12 @@ def finds_what_is_wrong():
             and not any(proves(text, 'a', 'B', 'Holds') for text in wrong)
             and counts('file: f\nold:   x = 1\nnew:   x = 2\n', 'x = 1\n  x = 1\n') == [1]
             and counts('file: f\nold: y\nnew: x\nold: x\nnew: z\n', 'x y') == [1, 2] and counts('file: f\nold: x\nold: y\nnew: z\nnew: x\n', 'x y') == []
-            and list(names('| `x` | `crates/a` `y` |\n`z`')) == [(1, 'crates/a', 'crates/a'), (1, 'crates/a', 'y')])
+            and list(names('| `x` | `crates/a` `y` |\n`z`')) == [(1, 'crates/a', 'crates/a'), (1, 'crates/a', 'y')]
+            and list(proved_by_the_check('| P | Stated | Proved |\n|---|---|---|\n| `x` | `crates/a.rt` `y` | `crates/b.rt` `z` |\n\n| `x` | | `crates/b.rt` `u` |')) == [(3, 'crates/b.rt', 'z')]
+            and [has_contract(text, 'f') for text in (
+                'fn f() -> u8\n    ensures { F result }\n{\n', 'fn f() -> u8 {\n}\nfn g()\n    ensures { G }\n{\n', 'fn g() {\n',
+                'impl Walks for W {\n    ghost left = { L };\n\n    fn f() {\n', 'impl W {\n    fn f() {\n',
+                'impl Walks for W {\n    ghost use A.{f};\n\n    fn f() {\n', 'fn f() {}\n\nfn g()\n    ensures { G }\n{\n', 'fn f() -> u8\n    // ensures { F result }\n{\n')] == [True, False, False, True, False, False, False, False])
 
 
 def unproved(listed):
@@ -122,6 +157,9 @@ def main():
     tables = {doc: list(names((repo / doc).read_text(encoding='utf-8'))) for doc in ('docs/CLAIMS.md', 'docs/GLOSSARY.md')}
     table = tables['docs/CLAIMS.md']
     missing = ['%s:%d: %s' % (doc, line, name) for doc in tables for line, file, name in tables[doc] if not stands(file, name)]
+    sources = {file: (repo / file).read_text(encoding='utf-8') for _, file, _ in table if file and file.endswith('.rt') and (repo / file).is_file()}
+    missing += ['docs/CLAIMS.md:%d: %s: %s has no contract' % (line, file, name)
+                for line, file, name in proved_by_the_check((repo / 'docs/CLAIMS.md').read_text(encoding='utf-8')) if file in sources and not has_contract(sources[file], name)]
     listed = {(file, name) for _, file, name in table}
     found, changes = list(unproved(listed)), list(edits(listed))
     missing += ['%s: %s %s' % (file, claim, why) for file, claim, lacking in found for why in lacking]
